@@ -1,0 +1,16 @@
+//! Plain data that every layer holds: names, lists, maps under names, and equal values of them.
+//!
+//! Contracts see a name as the list of its bytes, a list as a list, and a map as the list of its pairs in rising order of keys.
+#![tactic(auto)]
+
+mod copied;
+mod items;
+mod name;
+mod name_map;
+#[cfg(test)]
+mod tests;
+
+pub use copied::Copied;
+pub use items::Items;
+pub use name::Name;
+pub use name_map::NameMap;
