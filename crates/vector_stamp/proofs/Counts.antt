@@ -1,0 +1,44 @@
+-- The counts of two clocks, side by side.
+use Rattle.std.proofs.Common.{◌≡◌, ℕ, ◌≤◌, ◌&&◌, IsTrue, List, [], ◌∷◌, length, nat_le, refl, ap, arith}
+use Rattle.std.proofs.lemmas.Bool.{leb-true, le-leb}
+use Rattle.std.specs.Cmp.Lexicographic.{bytes_decides}
+use Rattle.std.specs.List.{list_all, zip}
+use Rattle.vector_stamp.specs.Order.{counts_at_most, same_counts}
+use Rattle.vector_stamp.proofs.Reading.{both_left, both_right, both}
+
+pub at_most-trans : (xs ys zs : List ℕ) → IsTrue (counts_at_most xs ys) → IsTrue (counts_at_most ys zs) → IsTrue (counts_at_most xs zs)
+at_most-trans [] [] zs g h = h
+at_most-trans [] (y ∷ ys) zs g h = absurd (cc)
+at_most-trans (x ∷ xs) [] zs g h = absurd (cc)
+at_most-trans (x ∷ xs) (y ∷ ys) [] g h = absurd (cc)
+at_most-trans (x ∷ xs) (y ∷ ys) (z ∷ zs) g h =
+    let le : x ≤ y = leb-true x y (both_left _ _ g) in
+    let le' : y ≤ z = leb-true y z (both_left _ _ h) in
+    both _ _ (le-leb x z (omega arith)) (at_most-trans xs ys zs (both_right _ _ g) (both_right _ _ h))
+
+pub at_most-same : (xs ys : List ℕ) → IsTrue (counts_at_most xs ys) → IsTrue (counts_at_most ys xs) → xs ≡ ys
+at_most-same [] [] g h = refl
+at_most-same [] (y ∷ ys) g h = absurd (cc)
+at_most-same (x ∷ xs) [] g h = absurd (cc)
+at_most-same (x ∷ xs) (y ∷ ys) g h =
+    let le : x ≤ y = leb-true x y (both_left _ _ g) in
+    let ge : y ≤ x = leb-true y x (both_left _ _ h) in
+    let e : x ≡ y = omega arith in
+    λ i. e i ∷ at_most-same xs ys (both_right _ _ g) (both_right _ _ h) i
+
+pub same_counts-refl : (xs ys : List ℕ) → xs ≡ ys → IsTrue (same_counts xs ys)
+same_counts-refl xs ys e = (bytes_decides xs ys).1 e
+
+pub same_counts-is : (xs ys : List ℕ) → IsTrue (same_counts xs ys) → xs ≡ ys
+same_counts-is xs ys h = (bytes_decides xs ys).0 h
+
+-- each at most the other: the counts are the same
+pub same_from_both : (xs ys : List ℕ) → IsTrue (counts_at_most xs ys) → IsTrue (counts_at_most ys xs) → IsTrue (same_counts xs ys)
+same_from_both xs ys g h = same_counts-refl xs ys (at_most-same xs ys g h)
+
+-- of lists of one length, each pair is tested
+pub list_all-zip : (xs ys : List ℕ) → length xs ≡ length ys → list_all (λ (p : ℕ × ℕ). nat_le p.0 p.1) (zip xs ys) ≡ counts_at_most xs ys
+list_all-zip [] [] e = refl
+list_all-zip [] (y ∷ ys) e = absurd (omega arith)
+list_all-zip (x ∷ xs) [] e = absurd (omega arith)
+list_all-zip (x ∷ xs) (y ∷ ys) e = ap (λ b. nat_le x y && b) (list_all-zip xs ys (omega arith))

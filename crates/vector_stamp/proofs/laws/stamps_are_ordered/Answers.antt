@@ -1,0 +1,10 @@
+use Rattle.vector_stamp.proofs.Orders.{before-strict, before-trans}
+use Rattle.vector_stamp.proofs.laws.stamps_are_ordered.Goals as goal
+
+pub returns : goal.returns
+returns c =
+    record {
+      irreflexive = before-strict;
+      asymmetric = λ a b g h. before-strict a (before-trans a b a g h);
+      transitive = before-trans;
+    }

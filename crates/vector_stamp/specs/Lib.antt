@@ -1,0 +1,3 @@
+pub mod Order
+pub mod Clocks
+pub mod Precedence

@@ -1,0 +1,38 @@
+-- Precedence: what the order of stamps and the oracle's pairs imply together (timeline oracle of Kronos, EuroSys 2014; Weaver, PVLDB 9(11) 2016).
+use Rattle.std.specs.Prelude.{Bool, ◌||◌, ◌&&◌, List, [], ◌∷◌, IsTrue, Contains}
+use Rattle.vector_stamp.specs.declared.clock.Stamp.{Stamp}
+use Rattle.vector_stamp.specs.Order.{stamp_before, same_stamp}
+
+-- an earlier stamp and a later one
+abbrev pub Given : Type 0
+Given = Stamp × Stamp
+
+-- The least transitive relation that has the order of stamps and the pairs.
+-- It is over all stamps and needs no set of events. Among the stamps of the begun requests, of which all pairs are, it is the least such relation over these alone: a stamp of no request stands on a way only between two steps by the order of stamps, since pairs join begun requests, and these two steps are one, since that order is transitive. So each such stamp can be left out. (`PrecedesAmong` and the law `other_stamps_change_nothing`.)
+pub data Precedes (pairs : List Given) : Stamp → Stamp → Type 0 where
+  ByStamps : (a b : Stamp) → IsTrue (stamp_before a b) → Precedes pairs a b
+  ByPair : (a b : Stamp) → Contains pairs (a, b) → Precedes pairs a b
+  Through : (a b c : Stamp) → Precedes pairs a b → Precedes pairs b c → Precedes pairs a c
+
+-- The same, as a test. With one more pair, a precedes b where it did, or where a is or precedes the pair's earlier stamp and its later stamp is or precedes b.
+abbrev pub precedes : List Given → Stamp → Stamp → Bool
+precedes [] a b = stamp_before a b
+precedes (pair ∷ pairs) a b =
+    precedes pairs a b
+    || ((same_stamp a pair.0 || precedes pairs a pair.0) && (same_stamp pair.1 b || precedes pairs pair.1 b))
+
+-- a relation, told by a test, that has the order of stamps, the pairs, and with two steps the whole way
+pub record IsClosed (pairs : List Given) (leads : Stamp → Stamp → Bool) : Type 0 where
+  pub has_stamps : (a b : Stamp) → IsTrue (stamp_before a b) → IsTrue (leads a b)
+  pub has_pairs : (a b : Stamp) → Contains pairs (a, b) → IsTrue (leads a b)
+  pub transitive : (a b c : Stamp) → IsTrue (leads a b) → IsTrue (leads b c) → IsTrue (leads a c)
+
+-- each pair joins two of the events
+abbrev pub JoinsEvents : List Stamp → List Given → Type 0
+JoinsEvents events pairs = (a b : Stamp) → Contains pairs (a, b) → Contains events a × Contains events b
+
+-- the least transitive relation over these events alone that has the order of their stamps and the pairs
+pub data PrecedesAmong (events : List Stamp) (pairs : List Given) : Stamp → Stamp → Type 0 where
+  AmongByStamps : (a b : Stamp) → Contains events a → Contains events b → IsTrue (stamp_before a b) → PrecedesAmong events pairs a b
+  AmongByPair : (a b : Stamp) → Contains events a → Contains events b → Contains pairs (a, b) → PrecedesAmong events pairs a b
+  AmongThrough : (a b c : Stamp) → PrecedesAmong events pairs a b → PrecedesAmong events pairs b c → PrecedesAmong events pairs a c
