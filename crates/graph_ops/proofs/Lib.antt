@@ -1,0 +1,4 @@
+pub mod Tags
+pub mod FirstMentions
+pub mod Runs
+pub mod States

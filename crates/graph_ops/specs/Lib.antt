@@ -1,0 +1,6 @@
+pub mod Codes
+pub mod Graphs
+pub mod Mentions
+pub mod Operations
+pub mod PlainGraph
+pub mod Slots

@@ -1,0 +1,74 @@
+-- The plain graph: no stamps, no shards, no versions. A transaction runs its operations in order, and is refused at the first that is refused.
+use Rattle.std.specs.Prelude.{ℕ, ◌+◌, List, [], ◌∷◌, ◌++◌, None, Result, Ok, Err, if◌then◌else◌}
+use Rattle.weave_data.specs.Names.{same_name}
+use Rattle.weave_data.specs.declared.name.Name.{Name}
+use Rattle.graph_ops.specs.Operations.{State, Outcome, applied, vertex_of}
+use Rattle.graph_ops.specs.declared.op.Op.{Op}
+use Rattle.graph_ops.specs.declared.op.Reason.{Reason}
+use Rattle.graph_ops.specs.declared.op.Answered.{Answered}
+use Rattle.graph_ops.specs.declared.op.Answered.TheVariants as answered
+use Rattle.graph_ops.specs.declared.tx.Got.{Got}
+
+-- a state for each name; where it is None, the vertex is absent
+abbrev pub PlainGraph : Type 0
+PlainGraph = Name → State
+
+-- no vertex is there
+abbrev pub empty_graph : PlainGraph
+empty_graph = λ v. None
+
+-- the graph with this state of the vertex
+abbrev pub with_state : Name → State → PlainGraph → PlainGraph
+with_state v state graph = λ w. if same_name v w then state else graph w
+
+-- what an outcome at a vertex comes to in the graph: the graph with the vertex's new state and the answer, or the reason
+abbrev pub in_graph : Name → Outcome → PlainGraph → Result (PlainGraph × Answered) Reason
+in_graph v (Ok (now, answer)) graph = Ok (with_state v now graph, answer)
+in_graph v (Err reason) graph = Err reason
+
+-- an operation on a graph changes its vertex's state and no other
+abbrev pub on_graph : Op → PlainGraph → Result (PlainGraph × Answered) Reason
+on_graph op graph = in_graph (vertex_of op) (applied op (graph (vertex_of op))) graph
+
+-- a transaction that passes: the graph after it, and the states that its `get`s read
+pub record Passed : Type 0 where
+  pub graph : PlainGraph
+  pub gots : List Got
+
+-- a transaction that is refused: its first refused operation, and the reason
+pub record Stopped : Type 0 where
+  pub op : ℕ
+  pub reason : Reason
+
+-- what a transaction comes to
+abbrev pub TxOutcome : Type 0
+TxOutcome = Result Passed Stopped
+
+-- what an answer adds to those of a transaction
+abbrev pub got : ℕ → Answered → List Got
+got number answered.Done = []
+got number (answered.Got state) = record { op = number; state = state } ∷ []
+
+-- an outcome with these answers before its own
+abbrev pub after : List Got → TxOutcome → TxOutcome
+after gots (Ok passed) = Ok (record passed { gots = gots ++ passed.gots })
+after gots (Err stopped) = Err stopped
+
+-- what operation `number` came to, and where it isn't refused the rest, on the graph that it leaves
+abbrev pub onward : ℕ → Result (PlainGraph × Answered) Reason → (PlainGraph → TxOutcome) → TxOutcome
+onward number (Ok (graph, answer)) rest = after (got number answer) (rest graph)
+onward number (Err reason) rest = Err (record { op = number; reason = reason })
+
+-- operations in order, numbered from `number`, each on the graph that the one before leaves
+abbrev pub run : ℕ → List Op → PlainGraph → TxOutcome
+run number [] graph = Ok (record { graph = graph; gots = [] })
+run number (op ∷ ops) graph = onward number (on_graph op graph) (λ next. run (number + 1) ops next)
+
+-- a transaction's operations are numbered from 1
+abbrev pub transaction : List Op → PlainGraph → TxOutcome
+transaction ops graph = run 1 ops graph
+
+-- the graph that a transaction leaves: a refused one changes nothing
+abbrev pub graph_left : PlainGraph → TxOutcome → PlainGraph
+graph_left graph (Ok passed) = passed.graph
+graph_left graph (Err stopped) = graph

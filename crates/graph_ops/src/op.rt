@@ -1,0 +1,170 @@
+//! Operations on one vertex.
+ghost use Rattle.std.specs.Prelude.{◌≡◌, Ok, Err, IfOk, OnErr};
+ghost use Rattle.graph_ops.specs.Operations.{applied, vertex_of, IfRefused, Performs};
+
+use crate::record::Record;
+use crate::rows;
+use std::alloc::{AllocError, Global};
+use weave_data::{Copied, Name};
+
+/// An operation of a transaction, on the vertex `v`.
+#[derive(Clone, Copy)]
+pub enum Op {
+    /// Makes an empty record.
+    Create {
+        v: Name,
+    },
+    /// Makes the vertex absent. Edges to it stay.
+    Delete {
+        v: Name,
+    },
+    /// Gives a property a value.
+    Set {
+        v: Name,
+        key: Name,
+        value: Name,
+    },
+    /// Takes a property away.
+    Unset {
+        v: Name,
+        key: Name,
+    },
+    /// Adds an edge without tags. The target need not exist.
+    Link {
+        v: Name,
+        edge: Name,
+        target: Name,
+    },
+    /// Takes an edge away.
+    Unlink {
+        v: Name,
+        edge: Name,
+    },
+    /// Gives a tag of an edge a value.
+    Tag {
+        v: Name,
+        edge: Name,
+        key: Name,
+        value: Name,
+    },
+    /// Takes a tag of an edge away.
+    Untag {
+        v: Name,
+        edge: Name,
+        key: Name,
+    },
+    /// Answers the state.
+    Get {
+        v: Name,
+    },
+}
+
+/// Why an operation was refused.
+#[derive(Clone, Copy, PartialEq, Eq, Debug)]
+pub enum Reason {
+    /// `create` of a vertex that is there.
+    Exists,
+    /// Any other change of a vertex that is absent.
+    Missing,
+    /// There is no such property or tag.
+    NoKey,
+    /// There is an edge of that name.
+    EdgeExists,
+    /// There is no edge of that name.
+    NoEdge,
+    /// One property, edge or tag too many.
+    Full,
+}
+
+/// Why an operation was not done.
+#[derive(Clone, Copy, PartialEq, Eq, Debug)]
+pub enum OpFault {
+    /// The operation was refused, for this reason.
+    Refused(Reason),
+    /// Memory was wanting.
+    Memory,
+}
+
+/// What an operation answers.
+#[derive(Drop)]
+pub enum Answered {
+    /// The change was made.
+    Done,
+    /// The state that `get` read.
+    Got(Option<Record>),
+}
+
+impl Copied for Op {
+    fn copy(&self, _alloc: Global) -> Result<Self, AllocError> {
+        Ok(*self)
+    }
+}
+
+impl Copied for Answered {
+    fn copy(&self, alloc: Global) -> Result<Self, AllocError> {
+        match self {
+            Answered::Done => Ok(Answered::Done),
+            Answered::Got(state) => Ok(Answered::Got(state.copy(alloc)?)),
+        }
+    }
+}
+
+impl From<AllocError> for OpFault {
+    ghost use Rattle.std.specs.Prelude.{◌≡◌};
+    ghost use Rattle.graph_ops.specs.declared.op.OpFault.TheVariants.{Memory};
+
+    ghost from_gives = { λ _ fault. fault ≡ Memory };
+
+    fn from(_error: AllocError) -> OpFault {
+        OpFault::Memory
+    }
+}
+
+impl Op {
+    /// The vertex that it is on.
+    pub fn vertex(&self) -> Name
+        ensures { result ≡ vertex_of self.now }
+    {
+        match *self {
+            Op::Create { v }
+            | Op::Delete { v }
+            | Op::Set { v, .. }
+            | Op::Unset { v, .. }
+            | Op::Link { v, .. }
+            | Op::Unlink { v, .. }
+            | Op::Tag { v, .. }
+            | Op::Untag { v, .. }
+            | Op::Get { v } => v,
+        }
+    }
+}
+
+/// Does an operation to a vertex's state, by the table of operations. After either fault the state is as before.
+pub fn apply_op(alloc: Global, state: &mut Option<Record>, op: &Op) -> Result<Answered, OpFault>
+    ensures done { IfOk result (λ answered. applied op.now state.old ≡ Ok (state.new, answered)) }
+    ensures refused { IfRefused result (λ reason. applied op.now state.old ≡ Err reason) }
+    ensures unchanged { OnErr result (state.new ≡ state.old) }
+{
+    perform(alloc, state, op)
+}
+
+fn perform(alloc: Global, state: &mut Option<Record>, op: &Op) -> Result<Answered, OpFault>
+    ensures { Performs (applied op.now state.old) state.old state.new result }
+{
+    match *op {
+        Op::Create { .. } => rows::create(alloc, state),
+        Op::Delete { .. } => rows::delete(state),
+        Op::Set { key, value, .. } => rows::set(state, key, value),
+        Op::Unset { key, .. } => rows::unset(state, key),
+        Op::Link { edge, target, .. } => rows::link(state, alloc, edge, target),
+        Op::Unlink { edge, .. } => rows::unlink(state, edge),
+        Op::Tag {
+            edge,
+            key,
+            value,
+            ..
+        } => rows::tag(state, edge, key, value),
+        Op::Untag { edge, key, .. } => rows::untag(state, edge, key),
+        Op::Get { .. } => rows::get(alloc, state),
+    }
+}
