@@ -1,0 +1,64 @@
+//! Node programs, which only read, and their answers.
+
+use graph_ops::Record;
+use std::alloc::{AllocError, Global};
+use weave_data::{Copied, Items, Name};
+
+/// Lets an edge pass where its tag at the key has the value.
+#[derive(Clone, Copy)]
+pub struct Filter {
+    pub key: Name,
+    pub value: Name,
+}
+
+/// A node program. Without a filter every edge passes.
+#[derive(Clone, Copy)]
+pub enum Program {
+    /// Asks for the state of a vertex.
+    Show {
+        v: Name,
+    },
+    /// Asks whether a walk leads from one vertex to another.
+    Reach {
+        from: Name,
+        to: Name,
+        pass: Option<Filter>,
+    },
+    /// Asks for the vertices within so many edges, 0 to 1,000.
+    Around {
+        from: Name,
+        bound: u32,
+        pass: Option<Filter>,
+    },
+    /// Asks for the least walk of at most so many edges, 0 to 1,000.
+    Path {
+        from: Name,
+        to: Name,
+        bound: u32,
+        pass: Option<Filter>,
+    },
+}
+
+/// What a program answers.
+#[derive(Drop)]
+pub enum Answer {
+    /// To `show`: the state.
+    Shown(Option<Record>),
+    /// To `reach`: whether there is a walk.
+    Reached(bool),
+    /// To `around`: the vertices in byte order.
+    Found(Items<Name>),
+    /// To `path`: the walk, or none.
+    Walk(Option<Items<Name>>),
+}
+
+impl Copied for Answer {
+    fn copy(&self, alloc: Global) -> Result<Self, AllocError> {
+        match self {
+            Answer::Shown(state) => Ok(Answer::Shown(state.copy(alloc)?)),
+            Answer::Reached(reached) => Ok(Answer::Reached(*reached)),
+            Answer::Found(vertices) => Ok(Answer::Found(vertices.copy(alloc)?)),
+            Answer::Walk(walk) => Ok(Answer::Walk(walk.copy(alloc)?)),
+        }
+    }
+}
