@@ -1,0 +1,7 @@
+use Rattle.std.proofs.Common.{◌≡◌, ◌++◌, map, take}
+use Rattle.weave_report.specs.Lines.{lines_text}
+use Rattle.weave_report.specs.ReportText.{pair_line}
+use Rattle.weave_report.proofs.print.lines.print_pairs.Given as goal
+
+abbrev pub invariant-loop-pair : goal.invariant-loop-pair
+invariant-loop-pair l = l.text ≡ l.initial.text ++ lines_text (map (pair_line l.script) (take l.pair-index l.pairs))

@@ -1,0 +1,9 @@
+use Rattle.std.proofs.Common.{◌≡◌, ◌++◌, drop}
+use Rattle.std.specs.List.{flat_map}
+use Rattle.weave_report.specs.Lines.{lines_text}
+use Rattle.weave_report.specs.ReportText.{reply_lines}
+use Rattle.weave_report.proofs.print.print_replies.Given as goal
+
+abbrev pub invariant-loop-reply : goal.invariant-loop-reply
+invariant-loop-reply l =
+    l.text ++ lines_text (flat_map (reply_lines l.script) (drop l.reply-index l.replies)) ≡ l.initial.text ++ lines_text (flat_map (reply_lines l.script) l.replies)

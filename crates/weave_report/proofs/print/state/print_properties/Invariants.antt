@@ -1,0 +1,8 @@
+use Rattle.std.proofs.Common.{◌≡◌, ◌++◌, map}
+use Rattle.weave_report.specs.Lines.{marked_texts}
+use Rattle.weave_report.specs.ReportText.{property_text}
+use Rattle.weave_report.proofs.print.state.print_properties.Given as goal
+
+abbrev pub invariant-loop-key : goal.invariant-loop-key
+invariant-loop-key l =
+    l.text ++ marked_texts l.mark (map property_text l.key-iterator) ≡ l.initial.text ++ marked_texts l.mark (map property_text l.properties)

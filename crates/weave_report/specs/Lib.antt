@@ -1,0 +1,10 @@
+pub mod Facts
+pub mod Words
+pub mod Replay
+pub mod RightReport
+pub mod PrintedOrder
+pub mod Meetings
+pub mod ReportOf
+pub mod PlainRun
+pub mod Lines
+pub mod ReportText

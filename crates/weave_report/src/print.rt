@@ -1,0 +1,41 @@
+//! The text of a report.
+ghost use Rattle.std.specs.Prelude.{◌≡◌, ◌++◌, OnOk, IfOk};
+ghost use Rattle.std.specs.List.{flat_map};
+ghost use Rattle.weave_report.specs.Lines.{lines_text};
+ghost use Rattle.weave_report.specs.ReportText.{reply_lines, report_text};
+
+mod lines;
+mod reply;
+mod state;
+mod text;
+mod words;
+
+use crate::print::lines::{print_answers, print_order, print_pairs};
+use crate::print::reply::print_reply;
+use crate::print::text::Text;
+use crate::report::{Reply, Report};
+use program_defs::Script;
+use std::alloc::{AllocError, Global};
+
+/// The text of a report of this script. The one error is want of memory.
+pub fn print_report(alloc: Global, script: &Script, report: &Report) -> Result<Vec<u8>, AllocError>
+    ensures text { IfOk result (λ text. text.items ≡ report_text script.now report.now) }
+{
+    let mut text = Text::new(alloc);
+    text.push(b"report 1\n")?;
+    print_replies(&mut text, script, report.replies.as_slice())?;
+    print_pairs(&mut text, script, report.pairs.as_slice())?;
+    print_order(&mut text, script, report.order.as_slice())?;
+    print_answers(&mut text, report.answers.as_slice())?;
+    text.push(b"end\n")?;
+    Ok(text.into_bytes())
+}
+
+fn print_replies(text: &mut Text, script: &Script, replies: &[Reply]) -> Result<(), AllocError>
+    ensures { OnOk result (text.new ≡ text.old ++ lines_text (flat_map (reply_lines script.now) replies.now)) }
+{
+    for reply in replies {
+        print_reply(text, script, reply)?;
+    }
+    Ok(())
+}
