@@ -1,0 +1,3 @@
+pub mod Running
+pub mod Deliveries
+pub mod Headline

@@ -1,0 +1,70 @@
+-- What `run` writes for an input, from bytes to bytes.
+use Rattle.std.specs.Prelude.{◌≡◌, ◌<◌, ◌≤◌, ◌⊎◌, ℕ, List, [], ◌∷◌, ◌++◌, length, codes, IfSome}
+use Rattle.weave_io.specs.Told.{Told, Tells, TakesCount, Appends, AppendsPrefix}
+use Rattle.weave_script.specs.FirstForm.{IsTextOf}
+use Rattle.program_defs.specs.declared.script.Script.{Script}
+use Rattle.weave_report.specs.declared.report.Report.{Report}
+use Rattle.weave_report.specs.Words.{EveryReplyIsFinal}
+use Rattle.weave_report.specs.RightReport.{IsRightReport}
+use Rattle.weave_report.specs.Meetings.{MeetingsAreOrdered, PhasesAreKept}
+use Rattle.weave_report.specs.PrintedOrder.{IsPrintedOrder}
+use Rattle.weave_report.specs.ReportOf.{IsReportOf}
+use Rattle.weave_report.specs.ReportText.{report_text}
+
+-- The headline. The text is the printed text of a report that is right for the script of which the whole input is a text. Its order is the printed order; of two requests that meet at a vertex one precedes the other, and the script's phases are kept; every request has its final reply, and no step was asked for.
+pub record TellsRightReport (input text : List ℕ) : Type 0 where
+  pub input_is_short : length input ≤ 4194304
+  pub script : Script
+  pub input_is_its_text : IsTextOf input script
+  pub report : Report
+  pub report_is_of_script : IsReportOf script report
+  pub report_is_right : IsRightReport script report
+  pub order_is_printed_order : IsPrintedOrder report report.order
+  pub meetings_are_ordered : MeetingsAreOrdered script report
+  pub phases_are_kept : PhasesAreKept script report
+  pub every_reply_is_final : EveryReplyIsFinal report
+  pub no_steps : report.answers ≡ []
+  pub text_is_printed : text ≡ report_text script report
+
+-- the input has more bytes than an input may have
+abbrev pub IsTooLong : List ℕ → Type 0
+IsTooLong input = 4194304 < length input
+
+-- the input isn't too long, and is no text of a script
+pub record IsOfOtherForm (input : List ℕ) : Type 0 where
+  pub short : length input ≤ 4194304
+  pub no_script : (script : Script) → ¬ IsTextOf input script
+
+-- the line for an input that is refused
+abbrev pub refusal_line : List ℕ → List ℕ
+refusal_line cause = codes "refused 0 " ++ cause ++ 10 ∷ []
+
+-- the text tells why the input is refused
+abbrev pub TellsRefusal : List ℕ → List ℕ → Type 0
+TellsRefusal input text =
+    (IsTooLong input × (text ≡ refusal_line (codes "too_long")))
+    ⊎ (IsOfOtherForm input × (text ≡ refusal_line (codes "unbuilt")))
+
+-- the text is what `run` has to write for the input
+abbrev pub TellsAnswer : List ℕ → List ℕ → Type 0
+TellsAnswer input text = TellsRightReport input text ⊎ TellsRefusal input text
+
+-- the input was read whole, or as far as shows that it is too long
+abbrev pub IsReadWhole : Told → Told → Type 0
+IsReadWhole before after = Tells after [] ⊎ TakesCount before after 4194305
+
+-- where the source tells what it had left, such a text for it was put at the end of what was written
+abbrev pub Writes : (List ℕ → List ℕ → Type 0) → Told → Told → Told → Type 0
+Writes Fits left before after = IfSome left (λ input. (text : List ℕ) × Fits input text × Appends before after text)
+
+-- or some of such a text, from its start
+abbrev pub WritesPrefix : (List ℕ → List ℕ → Type 0) → Told → Told → Told → Type 0
+WritesPrefix Fits left before after = IfSome left (λ input. (text : List ℕ) × Fits input text × AppendsPrefix before after text)
+
+-- the input isn't too long, and is a text of a script
+abbrev pub CanBeRun : List ℕ → Type 0
+CanBeRun input = (length input ≤ 4194304) × (script : Script) × IsTextOf input script
+
+-- what was written before still stands in front
+abbrev pub KeepsWritten : Told → Told → Type 0
+KeepsWritten before after = (more : List ℕ) × Appends before after more

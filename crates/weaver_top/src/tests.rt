@@ -1,0 +1,244 @@
+ghost use Rattle.std.specs.Prelude.{◌+◌, ◌<◌};
+
+use crate::{NoPace, Status, weave};
+use std::alloc::{AllocError, Global};
+use std::sync::Wait;
+use std::test::Fail;
+use std::thread::Threads;
+use weave_io::{MemorySink, MemorySource};
+
+const FIRST: &[u8] =
+    b"weaver 1 1 1\ntx t1 0 0\ncreate v\nset v color red\nend\ntx t2 0 0\nget v\nend\n";
+
+const FIRST_REPORT: &[u8] =
+    b"report 1\ntx t1 0:0:1 committed 1\ntx t2 0:0:2 committed 2\ngot 1 record color=red\norder t1 t2\nend\n";
+
+// The calls of a source and a sink that fail, and the most bytes that a call moves.
+#[derive(Clone, Copy)]
+struct Outside {
+    source_fails: u64,
+    source_piece: usize,
+    sink_fails: u64,
+    sink_piece: usize,
+}
+
+const HONEST: Outside = Outside {
+    source_fails: 0,
+    source_piece: 65_536,
+    sink_fails: 0,
+    sink_piece: 65_536,
+};
+
+// Calls `weave`, and gives the status and what was written.
+fn call<R: Threads + Wait + Sync>(
+    rt: &R,
+    alloc: Global,
+    words: &[&str],
+    input: &[u8],
+    outside: Outside,
+) -> Result<(Status, Vec<u8>), AllocError>
+    requires { 0 < outside.source_piece }
+{
+    let mut all = Vec::new(alloc);
+    for word in words {
+        all.push(String::from_str(alloc, word)?)?;
+    }
+    let source_fails = vec![in alloc; outside.source_fails; 1]?;
+    let mut source = MemorySource::new(
+        Vec::from_slice(alloc, input)?,
+        source_fails,
+        outside.source_piece,
+    );
+    let sink_fails = vec![in alloc; outside.sink_fails; 1]?;
+    let mut sink = MemorySink::new(alloc, sink_fails, outside.sink_piece);
+    let status = weave(rt, alloc, &all, &mut source, &mut sink, &NoPace);
+    Ok((status, Vec::from_slice(alloc, sink.bytes())?))
+}
+
+// Runs a script with an honest source and sink.
+fn run<R: Threads + Wait + Sync>(
+    rt: &R,
+    alloc: Global,
+    input: &[u8],
+) -> Result<(Status, Vec<u8>), AllocError> {
+    call(rt, alloc, &["run"], input, HONEST)
+}
+
+#[test]
+fn an_empty_script(rt: HostRuntime) -> Result<(), Fail> {
+    let (status, written) = run(&rt, rt.alloc(), b"weaver 1 1 1\n")?;
+    assert_eq!(rt; status, Status::Done);
+    assert_eq!(rt; written.as_slice(), b"report 1\norder\nend\n".as_slice());
+    Ok(())
+}
+
+#[test]
+fn the_first_path(rt: HostRuntime) -> Result<(), Fail> {
+    let (status, written) = run(&rt, rt.alloc(), FIRST)?;
+    assert_eq!(rt; status, Status::Done);
+    assert_eq!(rt; written.as_slice(), FIRST_REPORT);
+    Ok(())
+}
+
+#[test]
+fn refused_operations(rt: HostRuntime) -> Result<(), Fail> {
+    let input =
+        b"weaver 1 1 1\ntx a 0 0\ncreate v\nend\ntx b 0 0\nget v\ncreate v\nend\ntx c 0 0\nset w k x\nend\ntx d 0 0\nset v k x\nend\n";
+    let report =
+        b"report 1\ntx a 0:0:1 committed 1\ntx b 0:0:2 refused 2 exists at 1\ntx c 0:0:3 refused 1 missing at 1\ntx d 0:0:4 committed 2\norder a d\nend\n";
+    let (status, written) = run(&rt, rt.alloc(), input)?;
+    assert_eq!(rt; status, Status::Done);
+    assert_eq!(rt; written.as_slice(), report.as_slice());
+    Ok(())
+}
+
+// Lines that set so many properties of the vertex v, from this one on.
+fn set_lines(text: &mut Vec<u8>, first: u32, count: u32) -> Result<(), AllocError>
+    requires { first + count < 1000 }
+{
+    for number in first..first + count {
+        let line = format!(in *text.allocator(); "set v k{number} x\n")?;
+        text.extend_from_slice(line.as_str().as_bytes())?;
+    }
+    Ok(())
+}
+
+#[test]
+fn the_65th_property(rt: HostRuntime) -> Result<(), Fail> {
+    let alloc = rt.alloc();
+    let mut input = Vec::from_slice(alloc, b"weaver 1 1 1\ntx a 0 0\ncreate v\n")?;
+    set_lines(&mut input, 0, 63)?;
+    input.extend_from_slice(b"end\ntx b 0 0\n")?;
+    set_lines(&mut input, 63, 2)?;
+    input.extend_from_slice(b"end\ntx c 0 0\n")?;
+    set_lines(&mut input, 63, 1)?;
+    input.extend_from_slice(b"set v k0 y\nend\n")?;
+    let report =
+        b"report 1\ntx a 0:0:1 committed 1\ntx b 0:0:2 refused 2 full at 1\ntx c 0:0:3 committed 2\norder a c\nend\n";
+    let (status, written) = run(&rt, alloc, input.as_slice())?;
+    assert_eq!(rt; status, Status::Done);
+    assert_eq!(rt; written.as_slice(), report.as_slice());
+    Ok(())
+}
+
+#[test]
+fn inputs_that_are_refused(rt: HostRuntime) -> Result<(), Fail> {
+    let alloc = rt.alloc();
+    for input in [
+        b"".as_slice(),
+        b"weaver 1 1 1".as_slice(),
+        b"weaver 1 2 1\n".as_slice(),
+        b"weaver 1 1 1\n\n".as_slice(),
+        b"weaver 1 1 1\ntx t1 0 0\ndelete v\nend\n".as_slice(),
+    ] {
+        let (status, written) = run(&rt, alloc, input)?;
+        assert_eq!(rt; status, Status::Refused);
+        assert_eq!(rt; written.as_slice(), b"refused 0 unbuilt\n".as_slice());
+    }
+    let spaces = vec![in alloc; b' '; 4_194_305]?;
+    let (status, written) = run(&rt, alloc, spaces.as_slice())?;
+    assert_eq!(rt; status, Status::Refused);
+    assert_eq!(rt; written.as_slice(), b"refused 0 too_long\n".as_slice());
+    Ok(())
+}
+
+// Calls `weave` with these words on a script that could be run.
+fn refuses_words<R: Threads + Wait + Sync>(
+    rt: &R,
+    alloc: Global,
+    words: &[&str],
+) -> Result<bool, AllocError> {
+    let (status, written) = call(rt, alloc, words, FIRST, HONEST)?;
+    Ok(status == Status::Words && written.len() == 0)
+}
+
+#[test]
+fn words_that_are_no_command(rt: HostRuntime) -> Result<(), Fail> {
+    assert!(rt; refuses_words(&rt, rt.alloc(), &[])?);
+    assert!(rt; refuses_words(&rt, rt.alloc(), &["run", "now"])?);
+    assert!(rt; refuses_words(&rt, rt.alloc(), &["Run"])?);
+    assert!(rt; refuses_words(&rt, rt.alloc(), &["check"])?);
+    Ok(())
+}
+
+// Seventy-two bytes in pieces of seven are eleven calls, and one more meets the end.
+#[test]
+fn each_call_of_the_source_fails_in_turn(rt: HostRuntime) -> Result<(), Fail> {
+    for source_fails in 1..=12 {
+        let outside = Outside {
+            source_fails,
+            source_piece: 7,
+            ..HONEST
+        };
+        let (status, written) = call(&rt, rt.alloc(), &["run"], FIRST, outside)?;
+        assert_eq!(rt; status, Status::Read, "at call {source_fails}");
+        assert_eq!(rt; written.len(), 0);
+    }
+    let outside = Outside {
+        source_fails: 13,
+        source_piece: 7,
+        ..HONEST
+    };
+    let (status, written) = call(&rt, rt.alloc(), &["run"], FIRST, outside)?;
+    assert_eq!(rt; status, Status::Done);
+    assert_eq!(rt; written.as_slice(), FIRST_REPORT);
+    Ok(())
+}
+
+#[test]
+fn each_call_of_the_sink_fails_in_turn(rt: HostRuntime) -> Result<(), Fail> {
+    let mut taken = 0;
+    for sink_fails in 1..=21u64 {
+        let outside = Outside {
+            sink_fails,
+            sink_piece: 5,
+            ..HONEST
+        };
+        let (status, written) = call(&rt, rt.alloc(), &["run"], FIRST, outside)?;
+        if taken >= FIRST_REPORT.len() {
+            assert_eq!(rt; status, Status::Done);
+            assert_eq!(rt; written.as_slice(), FIRST_REPORT);
+            return Ok(());
+        }
+        assert_eq!(rt; status, Status::Write, "at call {sink_fails}");
+        assert_eq!(rt; written.as_slice(), &FIRST_REPORT[..taken]);
+        taken += 5;
+    }
+    Err(Fail::from("the sink never took all"))
+}
+
+#[test]
+fn a_sink_that_fails_or_takes_nothing(rt: HostRuntime) -> Result<(), Fail> {
+    let fails = Outside {
+        sink_fails: 2,
+        sink_piece: 5,
+        ..HONEST
+    };
+    let (status, written) = call(&rt, rt.alloc(), &["run"], b"weaver 1 1 1\n", fails)?;
+    assert_eq!(rt; status, Status::Write);
+    assert_eq!(rt; written.as_slice(), b"repor".as_slice());
+    let stalls = Outside {
+        sink_piece: 0,
+        ..HONEST
+    };
+    let (status, written) = call(&rt, rt.alloc(), &["run"], b"weaver 1 1 1\n", stalls)?;
+    assert_eq!(rt; status, Status::Write);
+    assert_eq!(rt; written.len(), 0);
+    Ok(())
+}
+
+#[test]
+fn statuses_have_their_numbers(rt: HostRuntime) {
+    let statuses = [
+        Status::Done,
+        Status::Read,
+        Status::Refused,
+        Status::Write,
+        Status::Memory,
+        Status::Words,
+        Status::NotRight,
+    ];
+    for (number, status) in statuses.iter().enumerate() {
+        assert_eq!(rt; usize::from(status.number()), number);
+    }
+}
