@@ -1,0 +1,34 @@
+//! The program: its words, standard input and standard output for `weave`.
+#![tactic(auto)]
+
+use std::process::ExitCode;
+use std::rt::Env;
+use std::{env, io};
+use weave_io::{StdSink, StdSource};
+use weaver_top::{NoPace, Status, weave};
+
+fn main(rt: HostRuntime) -> ExitCode {
+    let status = match words(&rt) {
+        Ok(words) => weave(
+            &rt,
+            rt.alloc(),
+            &words,
+            &mut StdSource::new(&rt),
+            &mut StdSink::new(&rt),
+            &NoPace,
+        ),
+        Err(error) if error.kind() == io::ErrorKind::OutOfMemory => Status::Memory,
+        // An argument that isn't text is no word of a command.
+        Err(_) => Status::Words,
+    };
+    ExitCode::from(status.number())
+}
+
+// The arguments behind the program's name.
+fn words(rt: &(impl Env + AllocGlobal)) -> io::Result<Vec<String>> {
+    let mut words = Vec::new(rt.alloc());
+    for word in env::args(rt)?.skip(1) {
+        words.push(word)?;
+    }
+    Ok(words)
+}
