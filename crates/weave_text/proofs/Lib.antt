@@ -1,0 +1,4 @@
+pub mod Clean
+pub mod FirstLine
+pub mod Joined
+pub mod Numerals

@@ -1,0 +1,40 @@
+-- Texts cut into lines, and lines into words, as they are read.
+use Rattle.std.specs.Prelude.{ℕ, Bool, true, false, not, ◌==◌, ◌&&◌, List, [], ◌∷◌, if◌then◌else◌}
+use Rattle.std.specs.List.{list_all, onto_first, slice_split}
+use Rattle.weave_text.specs.Lines.{Bytes, Word, Line}
+
+-- a text's lines: each ends with a line feed, which the last may lack, and a text of no bytes has none
+abbrev pub lines_of : Bytes → List Bytes
+lines_of [] = []
+lines_of (byte ∷ text) = if byte == 10 then [] ∷ lines_of text else onto_first byte (lines_of text)
+
+-- a text's pieces: what stands before, between and after the bytes that are this one
+abbrev pub pieces_of : ℕ → Bytes → List Bytes
+pieces_of byte text = slice_split (λ b. b == byte) text
+
+-- a line's words: what stands before, between and after its spaces
+abbrev pub words_of : Bytes → Line
+words_of line = pieces_of 32 line
+
+-- the line is passed over: it is empty, or begins with `#`
+abbrev pub is_skipped : Bytes → Bool
+is_skipped [] = true
+is_skipped (first ∷ rest) = first == 35
+
+-- the lines that aren't passed over, as their words
+abbrev pub kept_lines : List Bytes → List Line
+kept_lines [] = []
+kept_lines (line ∷ lines) = if is_skipped line then kept_lines lines else words_of line ∷ kept_lines lines
+
+-- the byte doesn't stand in the text
+abbrev pub lacks : ℕ → Bytes → Bool
+lacks byte text = list_all (λ b. not (b == byte)) text
+
+-- neither a space nor a line feed stands in the word
+abbrev pub is_clean : Word → Bool
+is_clean word = lacks 32 word && lacks 10 word
+
+-- a line has clean words, and its first word keeps it from being passed over
+abbrev pub is_clean_line : Line → Bool
+is_clean_line [] = false
+is_clean_line (word ∷ words) = not (is_skipped word) && list_all is_clean (word ∷ words)
