@@ -1,20 +1,21 @@
 -- The test of precedence is the least transitive relation that has the order of stamps and the pairs.
 use Rattle.std.proofs.Common.{◌≡◌, zero, suc, Bool, ◌||◌, List, [], ◌∷◌, Contains, IsTrue, ◌⊎◌, inl, inr, refl, sym, subst, arith}
+use Rattle.std.proofs.lemmas.Bool.{and_from, or_cases, or_left, or_right}
 use Rattle.vector_stamp.specs.declared.clock.Stamp.{Stamp}
 use Rattle.vector_stamp.specs.Order.{stamp_before, same_stamp}
 use Rattle.vector_stamp.specs.Precedence.{Given, Precedes, ByStamps, ByPair, Through, precedes, IsClosed}
-use Rattle.vector_stamp.proofs.Reading.{both_left, both_right, both, either, or_left, or_right}
+use Rattle.vector_stamp.proofs.Reading.{both_left, both_right}
 use Rattle.vector_stamp.proofs.Orders.{before-trans, same_stamp-is, same_stamp-refl}
 
 -- what is in a list is its head, or in the rest
-pub contained_read : (p : Given) (ps : List Given) (q : Given) → Contains (p ∷ ps) q → (p ≡ q) ⊎ Contains ps q
+pub contained_read : {X : Type 0} (p : X) (ps : List X) (q : X) → Contains (p ∷ ps) q → (p ≡ q) ⊎ Contains ps q
 contained_read p ps q (zero, below, here) = inl here
 contained_read p ps q (suc k, below, here) = inr (k, omega (arith, below), here)
 
-pub contained_head : (p : Given) (ps : List Given) → Contains (p ∷ ps) p
+pub contained_head : {X : Type 0} (p : X) (ps : List X) → Contains (p ∷ ps) p
 contained_head p ps = (zero, omega arith, refl)
 
-pub contained_tail : (p : Given) (ps : List Given) (q : Given) → Contains ps q → Contains (p ∷ ps) q
+pub contained_tail : {X : Type 0} (p : X) (ps : List X) (q : X) → Contains ps q → Contains (p ∷ ps) q
 contained_tail p ps q (k, below, here) = (suc k, omega (arith, below), here)
 
 -- a is b, or precedes it
@@ -24,7 +25,7 @@ leads pairs a b = same_stamp a b || precedes pairs a b
 -- what the test says with one more pair
 pub precedes_read : (p : Given) (ps : List Given) (a b : Stamp) → IsTrue (precedes (p ∷ ps) a b) → IsTrue (precedes ps a b) ⊎ (IsTrue (leads ps a p.0) × IsTrue (leads ps p.1 b))
 precedes_read p ps a b h =
-    elim (either (precedes ps a b) _ h) [
+    elim (or_cases (precedes ps a b) _ h) [
       | inl l ↦ inl l
       | inr r ↦ inr (both_left (leads ps a p.0) _ r, both_right (leads ps a p.0) _ r)
     ]
@@ -33,7 +34,7 @@ pub precedes_more : (p : Given) (ps : List Given) (a b : Stamp) → IsTrue (prec
 precedes_more p ps a b h = or_left _ _ h
 
 pub precedes_by : (p : Given) (ps : List Given) (a b : Stamp) → IsTrue (leads ps a p.0) → IsTrue (leads ps p.1 b) → IsTrue (precedes (p ∷ ps) a b)
-precedes_by p ps a b g h = or_right (precedes ps a b) _ (both _ _ g h)
+precedes_by p ps a b g h = or_right (precedes ps a b) _ (and_from _ _ g h)
 
 -- the relation on which an induction step rests
 abbrev pub IsTransitive : (Stamp → Stamp → Bool) → Type 0
@@ -41,14 +42,14 @@ IsTransitive r = (a b c : Stamp) → IsTrue (r a b) → IsTrue (r b c) → IsTru
 
 pub leads_after : (ps : List Given) → IsTransitive (precedes ps) → (a b c : Stamp) → IsTrue (leads ps a b) → IsTrue (precedes ps b c) → IsTrue (precedes ps a c)
 leads_after ps trans a b c g h =
-    elim (either (same_stamp a b) _ g) [
+    elim (or_cases (same_stamp a b) _ g) [
       | inl same ↦ subst (λ x. IsTrue (precedes ps x c)) (sym (same_stamp-is a b same)) h
       | inr before ↦ trans a b c before h
     ]
 
 pub leads_before : (ps : List Given) → IsTransitive (precedes ps) → (a b c : Stamp) → IsTrue (precedes ps a b) → IsTrue (leads ps b c) → IsTrue (precedes ps a c)
 leads_before ps trans a b c g h =
-    elim (either (same_stamp b c) _ h) [
+    elim (or_cases (same_stamp b c) _ h) [
       | inl same ↦ subst (λ x. IsTrue (precedes ps a x)) (same_stamp-is b c same) g
       | inr before ↦ trans a b c g before
     ]
@@ -116,7 +117,7 @@ test_precedes [] a b h = ByStamps a b h
 test_precedes (p ∷ ps) a b h =
     elim (precedes_read p ps a b h) [
       | inl before ↦ more_pairs p ps a b (test_precedes ps a b before)
-      | inr via ↦ through_pair p ps (λ x y k. test_precedes ps x y k) a b (either (same_stamp a p.0) _ via.0) (either (same_stamp p.1 b) _ via.1)
+      | inr via ↦ through_pair p ps (λ x y k. test_precedes ps x y k) a b (or_cases (same_stamp a p.0) _ via.0) (or_cases (same_stamp p.1 b) _ via.1)
     ]
 
 -- the test is closed

@@ -1,9 +1,9 @@
 -- Between events that the pairs join, no other stamp is needed on the way.
 use Rattle.std.proofs.Common.{List, [], ◌∷◌, Contains, IsTrue, ◌⊎◌, inl, inr, sym, subst}
+use Rattle.std.proofs.lemmas.Bool.{or_cases}
 use Rattle.vector_stamp.specs.declared.clock.Stamp.{Stamp}
 use Rattle.vector_stamp.specs.Order.{same_stamp}
 use Rattle.vector_stamp.specs.Precedence.{Given, Precedes, ByStamps, ByPair, Through, precedes, JoinsEvents, PrecedesAmong, AmongByStamps, AmongByPair, AmongThrough}
-use Rattle.vector_stamp.proofs.Reading.{either}
 use Rattle.vector_stamp.proofs.Orders.{same_stamp-is}
 use Rattle.vector_stamp.proofs.Closure.{leads, precedes_read, passes_test, contained_head, contained_tail}
 
@@ -25,7 +25,7 @@ Among es ps = (a b : Stamp) → Contains es a → Contains es b → IsTrue (prec
 
 -- by the pair, after a way to its earlier event and before one from its later event
 by_pair : (es : List Stamp) (p : Given) (ps : List Given) → Among es ps → Contains es p.0 → Contains es p.1 → (a b : Stamp) → Contains es a → Contains es b → IsTrue (leads ps a p.0) → IsTrue (leads ps p.1 b) → PrecedesAmong es (p ∷ ps) a b
-by_pair es p ps known from to a b in_a in_b first last = to_end (to_pair (either (same_stamp a p.0) _ first)) (either (same_stamp p.1 b) _ last)
+by_pair es p ps known from to a b in_a in_b first last = to_end (to_pair (or_cases (same_stamp a p.0) _ first)) (or_cases (same_stamp p.1 b) _ last)
   where
     pair : PrecedesAmong es (p ∷ ps) p.0 p.1
     pair = AmongByPair p.0 p.1 from to (contained_head p ps)

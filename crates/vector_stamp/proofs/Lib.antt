@@ -1,5 +1,12 @@
 pub mod Reading
 pub mod Counts
+pub mod Eight
 pub mod Orders
+pub mod Ticks
+pub mod Hearing
+pub mod Meeting
+pub mod Coherent
 pub mod Closure
 pub mod Events
+pub mod Pairs
+pub mod Settle

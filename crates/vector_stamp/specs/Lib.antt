@@ -1,3 +1,5 @@
 pub mod Order
 pub mod Clocks
+pub mod Coherence
 pub mod Precedence
+pub mod Settling

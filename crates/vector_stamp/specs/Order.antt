@@ -1,5 +1,5 @@
 -- The order of stamps: refinable timestamps of Weaver (PVLDB 9(11) 2016), which are vector clocks (Fidge and Mattern 1988) under an epoch.
-use Rattle.std.specs.Prelude.{ℕ, Bool, ◌&&◌, ◌||◌, not, nat_eq, nat_lt, nat_le, ◌==◌, List, slice_index}
+use Rattle.std.specs.Prelude.{◌≡◌, ℕ, Bool, ◌&&◌, ◌||◌, not, nat_eq, nat_lt, nat_le, ◌==◌, List, length, slice_index}
 use Rattle.std.specs.Cmp.Lexicographic.{pointwise}
 use Rattle.vector_stamp.specs.declared.clock.Clock.{Clock}
 use Rattle.vector_stamp.specs.declared.clock.Stamp.{Stamp}
@@ -21,6 +21,14 @@ is_before a b =
     nat_lt a.epoch b.epoch
     || ((a.epoch == b.epoch) && counts_at_most a.counts b.counts && not (same_counts a.counts b.counts))
 
+-- the clocks are equal
+abbrev pub same_clock : Clock → Clock → Bool
+same_clock a b = (a.epoch == b.epoch) && same_counts a.counts b.counts
+
+-- before, or equal
+abbrev pub is_at_most : Clock → Clock → Bool
+is_at_most a b = is_before a b || same_clock a b
+
 -- neither clock is before the other; so equal clocks are unordered
 abbrev pub clocks_unordered : Clock → Clock → Bool
 clocks_unordered a b = not (is_before a b) && not (is_before b a)
@@ -28,6 +36,10 @@ clocks_unordered a b = not (is_before a b) && not (is_before b a)
 -- the count of a gatekeeper, 0 past the eighth
 abbrev pub count_of : ℕ → Clock → ℕ
 count_of gate clock = slice_index clock.counts gate
+
+-- there is a count for each of eight gatekeepers, as in every clock of a program
+abbrev pub HasEightCounts : Clock → Type 0
+HasEightCounts clock = length clock.counts ≡ 8
 
 -- Stamps
 
@@ -41,7 +53,7 @@ unordered a b = clocks_unordered a.clock b.clock
 
 -- the stamps are equal
 abbrev pub same_stamp : Stamp → Stamp → Bool
-same_stamp a b = (a.home == b.home) && (a.clock.epoch == b.clock.epoch) && same_counts a.clock.counts b.clock.counts
+same_stamp a b = (a.home == b.home) && same_clock a.clock b.clock
 
 -- Events
 
@@ -58,12 +70,12 @@ abbrev pub same_id : Stamp → Stamp → Bool
 same_id a b = (a.home == b.home) && (a.clock.epoch == b.clock.epoch) && (own_count a == own_count b)
 
 -- a's epoch, then its own count, is below b's: so a home tells which of two of its events came first
-abbrev pub told_before : Stamp → Stamp → Bool
-told_before a b =
+abbrev pub id_before : Stamp → Stamp → Bool
+id_before a b =
     nat_lt a.clock.epoch b.clock.epoch
     || ((a.clock.epoch == b.clock.epoch) && nat_lt (own_count a) (own_count b))
 
 -- two events: their ids differ, and those of one home are ordered as their epochs, then their own counts
 abbrev pub are_apart : Stamp → Stamp → Bool
 are_apart a b =
-    not (a.home == b.home) || (told_before a b && stamp_before a b) || (told_before b a && stamp_before b a)
+    not (a.home == b.home) || (id_before a b && stamp_before a b) || (id_before b a && stamp_before b a)

@@ -8,7 +8,7 @@ abbrev pub Given : Type 0
 Given = Stamp × Stamp
 
 -- The least transitive relation that has the order of stamps and the pairs.
--- It is over all stamps and needs no set of events. Among the stamps of the begun requests, of which all pairs are, it is the least such relation over these alone: a stamp of no request stands on a way only between two steps by the order of stamps, since pairs join begun requests, and these two steps are one, since that order is transitive. So each such stamp can be left out. (`PrecedesAmong` and the law `other_stamps_change_nothing`.)
+-- It is over all stamps. Between events that the pairs join it is the same as over these events alone: another stamp on a way stands between two steps by the order of stamps, which are one step. (`PrecedesAmong` and the law `other_stamps_change_nothing`.)
 pub data Precedes (pairs : List Given) : Stamp → Stamp → Type 0 where
   ByStamps : (a b : Stamp) → IsTrue (stamp_before a b) → Precedes pairs a b
   ByPair : (a b : Stamp) → Contains pairs (a, b) → Precedes pairs a b
@@ -20,6 +20,14 @@ precedes [] a b = stamp_before a b
 precedes (pair ∷ pairs) a b =
     precedes pairs a b
     || ((same_stamp a pair.0 || precedes pairs a pair.0) && (same_stamp pair.1 b || precedes pairs pair.1 b))
+
+-- each pair of the first list is one of the second
+abbrev pub AreAmong : List Given → List Given → Type 0
+AreAmong pairs others = (a b : Stamp) → Contains pairs (a, b) → Contains others (a, b)
+
+-- no stamp precedes itself
+abbrev pub IsAcyclic : List Given → Type 0
+IsAcyclic pairs = (s : Stamp) → ¬ IsTrue (precedes pairs s s)
 
 -- a relation, told by a test, that has the order of stamps, the pairs, and with two steps the whole way
 pub record IsClosed (pairs : List Given) (leads : Stamp → Stamp → Bool) : Type 0 where

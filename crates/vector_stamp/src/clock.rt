@@ -1,6 +1,11 @@
 //! Clocks, stamps and their order (Weaver, PVLDB 9(11) 2016; vector clocks, Fidge and Mattern 1988).
 ghost use Rattle.std.specs.Prelude.{◌≡◌, ◌<◌, ◌↔◌, IsTrue};
 ghost use Rattle.vector_stamp.specs.Order.{counts_at_most};
+ghost use Rattle.vector_stamp.specs.Clocks.{greater_counts, lesser_counts};
+
+use std::alloc::{AllocError, Global};
+use std::cmp::Ordering;
+use weave_data::Copied;
 
 /// An epoch, and eight counts, one for each gatekeeper. Those past the number of gatekeepers stay 0.
 #[derive(Clone, Copy, Debug, PartialEq, Eq)]
@@ -33,9 +38,31 @@ pub enum Relation {
     Unordered,
 }
 
+impl Copied for Clock {
+    ghost use Rattle.std.specs.Prelude.{◌≡◌, IfOk};
+
+    fn copy(&self, _alloc: Global) -> Result<Self, AllocError>
+        ensures copied { IfOk result (λ copied. copied ≡ self.now) }
+        ensures ok { result ≡ Ok self.now }
+    {
+        Ok(*self)
+    }
+}
+
+impl Copied for Stamp {
+    ghost use Rattle.std.specs.Prelude.{◌≡◌, IfOk};
+
+    fn copy(&self, _alloc: Global) -> Result<Self, AllocError>
+        ensures copied { IfOk result (λ copied. copied ≡ self.now) }
+        ensures ok { result ≡ Ok self.now }
+    {
+        Ok(*self)
+    }
+}
+
 impl Clock {
-    ghost use Rattle.vector_stamp.specs.Order.{is_before, clocks_unordered, count_of};
-    ghost use Rattle.vector_stamp.specs.Clocks.{start_clock, clock_after_tick};
+    ghost use Rattle.vector_stamp.specs.Order.{is_before, is_at_most, clocks_unordered, count_of};
+    ghost use Rattle.vector_stamp.specs.Clocks.{start_clock, first_clock, clock_after_tick, clock_after_hearing, meet_of};
 
     /// The clock of a gatekeeper that has made no event: epoch 0, and all counts 0.
     pub fn start() -> Clock
@@ -47,7 +74,8 @@ impl Clock {
         }
     }
 
-    /// The order of stamps.
+    /// How it stands to the other clock. It is before each clock of a higher epoch.
+    /// It is before one of its epoch where each of its counts is at most the other's and the counts differ.
     #[tactic(auto, using(crate::proofs::Counts::same_from_both))]
     pub fn compare(&self, other: &Clock) -> Relation
         ensures before { (result ≡ Relation.Before) ↔ IsTrue (is_before self.now other.now) }
@@ -70,6 +98,56 @@ impl Clock {
         }
     }
 
+    /// Whether it is before the other clock, or equal to it.
+    pub fn at_most(&self, other: &Clock) -> bool
+        ensures { result ≡ is_at_most self.now other.now }
+    {
+        self.compare(other) == Relation::Before || self == other
+    }
+
+    /// The greatest clock that is at most both: the lower one of two epochs, the lesser counts of one.
+    pub fn meet(&self, other: &Clock) -> Clock
+        ensures { result ≡ meet_of self.now other.now }
+    {
+        match self.epoch.cmp(&other.epoch) {
+            Ordering::Less => *self,
+            Ordering::Greater => *other,
+            Ordering::Equal => Clock {
+                epoch: self.epoch,
+                counts: lesser_of(&self.counts, &other.counts),
+            },
+        }
+    }
+
+    /// Takes in a clock that the gatekeeper at home hears: nothing of a lower epoch, each greater count of its own one, the epoch and all counts of a higher one.
+    /// Its own count rises by its own events alone, so it stays within an epoch and is 0 in a higher one.
+    pub fn hear(&mut self, home: u32, other: &Clock)
+        requires { home < 8 }
+        ensures { self.new ≡ clock_after_hearing home self.old other.now }
+    {
+        match self.epoch.cmp(&other.epoch) {
+            Ordering::Greater => {}
+            Ordering::Less => {
+                *self = *other;
+                self.counts[home as usize] = 0;
+            }
+            Ordering::Equal => {
+                let own = self.counts[home as usize];
+                self.counts = greater_of(&self.counts, &other.counts);
+                self.counts[home as usize] = own;
+            }
+        }
+    }
+
+    /// Begins a later epoch, in which nothing is counted yet.
+    pub fn raise(&mut self, epoch: u64)
+        requires { self.old.epoch < epoch }
+        ensures { self.new ≡ first_clock epoch }
+    {
+        self.epoch = epoch;
+        self.counts = [0; 8];
+    }
+
     /// Counts one more event of the gatekeeper at home, and gives the stamp of that event.
     pub fn tick(&mut self, home: u32) -> Stamp
         requires home { home < 8 }
@@ -82,6 +160,22 @@ impl Clock {
     }
 }
 
+impl Stamp {
+    ghost use Rattle.vector_stamp.specs.Order.{id_of};
+
+    /// What identifies its event.
+    pub fn id(&self) -> EventId
+        requires { self.now.home < 8 }
+        ensures { result ≡ id_of self.now }
+    {
+        EventId {
+            home: self.home,
+            epoch: self.clock.epoch,
+            count: self.clock.counts[self.home as usize],
+        }
+    }
+}
+
 // Whether every count of the first is at most that of the second.
 fn at_most_each(counts: &[u64; 8], others: &[u64; 8]) -> bool
     ensures { result ≡ counts_at_most counts.now others.now }
@@ -90,4 +184,26 @@ fn at_most_each(counts: &[u64; 8], others: &[u64; 8]) -> bool
         .iter()
         .zip(others)
         .all(|(count, other)| count <= other)
+}
+
+// The greater of the two counts of each gatekeeper.
+fn greater_of(counts: &[u64; 8], others: &[u64; 8]) -> [u64; 8]
+    ensures { result ≡ greater_counts counts.now others.now }
+{
+    let mut greater = [0; 8];
+    for gate in 0..8 {
+        greater[gate] = counts[gate].max(others[gate]);
+    }
+    greater
+}
+
+// The lesser of the two counts of each gatekeeper.
+fn lesser_of(counts: &[u64; 8], others: &[u64; 8]) -> [u64; 8]
+    ensures { result ≡ lesser_counts counts.now others.now }
+{
+    let mut lesser = [0; 8];
+    for gate in 0..8 {
+        lesser[gate] = counts[gate].min(others[gate]);
+    }
+    lesser
 }

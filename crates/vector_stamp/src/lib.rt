@@ -1,11 +1,15 @@
-//! Clocks and stamps (Weaver's refinable timestamps), and precedence.
+//! Clocks and stamps (Weaver's refinable timestamps), precedence, and the interface of a judge of events.
 //!
-//! A gatekeeper's clock gives each event a stamp. Stamps are partially ordered. Precedence is what their order and the oracle's pairs imply together.
+//! A gatekeeper's clock gives each event a stamp. Stamps are partially ordered. Precedence is what their order and a judge's pairs imply together. No call on clocks and stamps takes memory.
 #![tactic(auto)]
 
 mod clock;
+mod judge;
 pub mod laws;
+mod stamped;
 #[cfg(test)]
 mod tests;
 
 pub use clock::{Clock, EventId, Relation, Stamp};
+pub use judge::{Judge, Refusal, Settled};
+pub use stamped::Stamped;

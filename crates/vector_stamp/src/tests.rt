@@ -1,6 +1,12 @@
-use crate::{Clock, Relation, Stamp};
+ghost use Rattle.std.specs.Prelude.{◌≡◌, [], ◌∷◌};
 
-fn clock(epoch: u64, first: u64, second: u64) -> Clock {
+use crate::{Clock, EventId, Relation, Settled, Stamp};
+use std::test::Fail;
+use weave_data::{Copied, Items};
+
+fn clock(epoch: u64, first: u64, second: u64) -> Clock
+    ensures { result ≡ record { epoch = epoch; counts = first ∷ second ∷ 0 ∷ 0 ∷ 0 ∷ 0 ∷ 0 ∷ 0 ∷ [] } }
+{
     Clock {
         epoch,
         counts: [first, second, 0, 0, 0, 0, 0, 0],
@@ -10,15 +16,16 @@ fn clock(epoch: u64, first: u64, second: u64) -> Clock {
 #[test]
 fn each_relation(rt: HostRuntime) {
     let cases = [
-        (clock(0, 1, 0), clock(0, 1, 1), Relation::Before),
-        (clock(0, 1, 1), clock(0, 0, 1), Relation::After),
-        (clock(0, 1, 0), clock(0, 0, 1), Relation::Unordered),
-        (clock(0, 1, 1), clock(0, 1, 1), Relation::Unordered),
-        (clock(0, 5, 7), clock(1, 0, 0), Relation::Before),
-        (clock(2, 0, 0), clock(1, 5, 7), Relation::After),
+        (clock(0, 1, 0), clock(0, 1, 1), Relation::Before, true),
+        (clock(0, 1, 1), clock(0, 0, 1), Relation::After, false),
+        (clock(0, 1, 0), clock(0, 0, 1), Relation::Unordered, false),
+        (clock(0, 1, 1), clock(0, 1, 1), Relation::Unordered, true),
+        (clock(0, 5, 7), clock(1, 0, 0), Relation::Before, true),
+        (clock(2, 0, 0), clock(1, 5, 7), Relation::After, false),
     ];
-    for (one, other, relation) in cases.iter() {
+    for (one, other, relation, at_most) in cases.iter() {
         assert!(rt; one.compare(other) == *relation, "{one:?} and {other:?}");
+        assert!(rt; one.at_most(other) == *at_most, "{one:?} and {other:?}");
     }
 }
 
@@ -51,6 +58,97 @@ fn ticks_of_two_gatekeepers(rt: HostRuntime) {
         }
     );
     assert_eq!(rt; clock_of_0, second.clock);
-    assert_eq!(rt; first.clock.compare(&second.clock), Relation::Before);
-    assert_eq!(rt; second.clock.compare(&other.clock), Relation::Unordered);
+    assert_eq!(rt;
+        second.id(),
+        EventId {
+            home: 0,
+            epoch: 0,
+            count: 2
+        }
+    );
+}
+
+// Each clock is that of the gatekeeper of home 0 before it hears, and after.
+#[test]
+fn hears(rt: HostRuntime) {
+    let cases = [
+        ("own epoch", clock(0, 2, 0), clock(0, 0, 5), clock(0, 2, 5)),
+        (
+            "less of its own count",
+            clock(0, 2, 5),
+            clock(0, 1, 3),
+            clock(0, 2, 5),
+        ),
+        (
+            "more of its own count",
+            clock(0, 2, 5),
+            clock(0, 9, 3),
+            clock(0, 2, 5),
+        ),
+        (
+            "lower epoch",
+            clock(2, 0, 0),
+            clock(1, 0, 9),
+            clock(2, 0, 0),
+        ),
+        (
+            "higher epoch",
+            clock(2, 7, 1),
+            clock(3, 0, 4),
+            clock(3, 0, 4),
+        ),
+        (
+            "own count in a higher epoch",
+            clock(2, 7, 1),
+            clock(3, 6, 4),
+            clock(3, 0, 4),
+        ),
+    ];
+    for (case, before, heard, after) in cases.iter() {
+        let mut own = *before;
+        own.hear(0, heard);
+        assert!(rt; own == *after, "{case}: {own:?}");
+    }
+}
+
+#[test]
+fn hears_and_ticks(rt: HostRuntime) {
+    let mut own = clock(0, 0, 0);
+    let heard = clock(0, 0, 5);
+    own.hear(0, &heard);
+    let stamp = own.tick(0);
+    assert_eq!(rt;
+        stamp,
+        Stamp {
+            home: 0,
+            clock: clock(0, 1, 5)
+        }
+    );
+    assert_eq!(rt; heard.compare(&stamp.clock), Relation::Before);
+}
+
+#[test]
+fn raises_and_meets(rt: HostRuntime) {
+    let mut raised = clock(0, 3, 5);
+    raised.raise(2);
+    assert_eq!(rt; raised, clock(2, 0, 0));
+    let cases = [
+        (clock(0, 3, 5), clock(0, 4, 1), clock(0, 3, 1)),
+        (clock(1, 3, 5), clock(2, 0, 0), clock(1, 3, 5)),
+        (clock(2, 0, 0), clock(1, 3, 5), clock(1, 3, 5)),
+    ];
+    for (one, other, meet) in cases.iter() {
+        assert!(rt; one.meet(other) == *meet, "{one:?} and {other:?}");
+    }
+}
+
+#[test]
+fn copies(rt: HostRuntime) -> Result<(), Fail> {
+    let alloc = rt.alloc();
+    let mut places = Items::new(alloc);
+    places.push(1)?;
+    places.push(4)?;
+    let copied = Settled { places }.copy(alloc)?;
+    assert_eq!(rt; copied.places.as_slice(), [1, 4].as_slice());
+    Ok(())
 }
