@@ -1,0 +1,5 @@
+pub mod GateReplay
+pub mod GateRules
+pub mod Logs
+pub mod Sending
+pub mod SessionReplay
