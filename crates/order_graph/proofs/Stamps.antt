@@ -1,0 +1,74 @@
+-- The stamps of pairs, and coherence of fewer stamps.
+use Rattle.std.proofs.Common.{◌≡◌, List, [], ◌∷◌, ◌++◌, Contains, ◌⊎◌, inl, inr, refl, ap, subst}
+use Rattle.std.proofs.lemmas.List.Elements.{Contains-append_cases}
+use Rattle.vector_stamp.specs.declared.clock.Stamp.{Stamp}
+use Rattle.vector_stamp.specs.Coherence.{AreCoherent}
+use Rattle.vector_stamp.specs.Precedence.{Given, JoinsEvents}
+use Rattle.order_graph.specs.Building.{ends_of}
+use Rattle.order_graph.proofs.Lists.{has_read, has_head, has_tail, has_none}
+
+pub fewer_coherent : (stamps others : List Stamp) → AreCoherent others → ((stamp : Stamp) → Contains stamps stamp → Contains others stamp) → AreCoherent stamps
+fewer_coherent stamps others all among =
+    record {
+      homes = λ a in_a. all.homes a (among a in_a);
+      one_of_id = λ a b in_a in_b. all.one_of_id a b (among a in_a) (among b in_b);
+      by_ids = λ a b in_a in_b. all.by_ids a b (among a in_a) (among b in_b);
+    }
+
+pub ends-append : (pairs others : List Given) → ends_of (pairs ++ others) ≡ ends_of pairs ++ ends_of others
+ends-append [] others = refl
+ends-append (pair ∷ pairs) others = ap (λ (stamps : List Stamp). pair.0 ∷ pair.1 ∷ stamps) (ends-append pairs others)
+
+pub ends_joined : (pairs : List Given) → JoinsEvents (ends_of pairs) pairs
+ends_joined [] a b h = absurd (has_none (a, b) h)
+ends_joined (pair ∷ pairs) a b h =
+    elim (has_read pair pairs (a, b) h) [
+      | inl here ↦ subst (λ (p : Given). Contains (pair.0 ∷ pair.1 ∷ ends_of pairs) p.0 × Contains (pair.0 ∷ pair.1 ∷ ends_of pairs) p.1) here (has_head pair.0 (pair.1 ∷ ends_of pairs), has_tail pair.0 (pair.1 ∷ ends_of pairs) pair.1 (has_head pair.1 (ends_of pairs)))
+      | inr there ↦
+          let rest = ends_joined pairs a b there in
+          (two_more pair a rest.0, two_more pair b rest.1)
+    ]
+  where
+    two_more : (pair : Given) (x : Stamp) → Contains (ends_of pairs) x → Contains (pair.0 ∷ pair.1 ∷ ends_of pairs) x
+    two_more pair x has = has_tail pair.0 (pair.1 ∷ ends_of pairs) x (has_tail pair.1 (ends_of pairs) x has)
+
+-- a stamp of a pair is one of its two
+pub ends_read : (pairs : List Given) (stamp : Stamp) → Contains (ends_of pairs) stamp → (pair : Given) × Contains pairs pair × ((pair.0 ≡ stamp) ⊎ (pair.1 ≡ stamp))
+ends_read [] stamp h = absurd (has_none stamp h)
+ends_read (pair ∷ pairs) stamp h =
+    elim (has_read pair.0 (pair.1 ∷ ends_of pairs) stamp h) [
+      | inl earlier ↦ (pair, has_head pair pairs, inl earlier)
+      | inr further ↦ elim (has_read pair.1 (ends_of pairs) stamp further) [
+        | inl later ↦ (pair, has_head pair pairs, inr later)
+        | inr there ↦ let rest = ends_read pairs stamp there in (rest.0, has_tail pair pairs rest.0 rest.1, rest.2)
+      ]
+    ]
+
+-- two stamps and those of the pairs, where all are among others
+pub two_and_ends : (a b : Stamp) (pairs : List Given) (others : List Stamp) → AreCoherent others → Contains others a → Contains others b → ((stamp : Stamp) → Contains (ends_of pairs) stamp → Contains others stamp) → AreCoherent (a ∷ b ∷ ends_of pairs)
+two_and_ends a b pairs others all in_a in_b among =
+    fewer_coherent (a ∷ b ∷ ends_of pairs) others all there
+  where
+    there : (stamp : Stamp) → Contains (a ∷ b ∷ ends_of pairs) stamp → Contains others stamp
+    there stamp h =
+        elim (has_read a (b ∷ ends_of pairs) stamp h) [
+          | inl first ↦ subst (Contains others) first in_a
+          | inr further ↦ elim (has_read b (ends_of pairs) stamp further) [
+            | inl second ↦ subst (Contains others) second in_b
+            | inr rest ↦ among stamp rest
+          ]
+        ]
+
+-- so it stays with a pair of such stamps
+pub ends_among-push : (a b : Stamp) (pairs : List Given) (others : List Stamp) → Contains others a → Contains others b → ((stamp : Stamp) → Contains (ends_of pairs) stamp → Contains others stamp) → (stamp : Stamp) → Contains (ends_of (pairs ++ (a, b) ∷ [])) stamp → Contains others stamp
+ends_among-push a b pairs others in_a in_b among stamp h =
+    elim (Contains-append_cases (ends_of pairs) (a ∷ b ∷ []) stamp (subst (λ (stamps : List Stamp). Contains stamps stamp) (ends-append pairs ((a, b) ∷ [])) h)) [
+      | inl before ↦ among stamp before
+      | inr new ↦ elim (has_read a (b ∷ []) stamp new) [
+        | inl first ↦ subst (Contains others) first in_a
+        | inr further ↦ elim (has_read b [] stamp further) [
+          | inl second ↦ subst (Contains others) second in_b
+          | inr none ↦ absurd (has_none stamp none)
+        ]
+      ]
+    ]

@@ -1,0 +1,95 @@
+ghost use Rattle.std.specs.Prelude.{Contains};
+ghost use Rattle.vector_stamp.specs.declared.clock.Stamp.{Stamp};
+ghost use Rattle.vector_stamp.specs.Coherence.{AreCoherent};
+ghost use Rattle.order_graph.specs.Building.{ends_of};
+
+use crate::{OrderGraph, are_coherent};
+use std::alloc::Global;
+use std::process::Abort;
+use std::test::Fail;
+use vector_stamp::{Clock, Relation, Stamp};
+
+fn stamp(home: u32, counts: [u64; 8]) -> Stamp {
+    Stamp {
+        home,
+        clock: Clock { epoch: 0, counts },
+    }
+}
+
+// The events of eight gatekeepers in turn, none of which hears another.
+fn events_in_turn(alloc: Global, number: usize) -> Result<Vec<Stamp>, Fail> {
+    let mut events = Vec::new(alloc);
+    for place in 0..number {
+        let home = place % 8;
+        let mut counts = [0; 8];
+        counts[home] = place as u64 / 8 + 1;
+        events.push(stamp(home as u32, counts))?;
+    }
+    Ok(events)
+}
+
+// Adds a pair of two of the events, under the condition of `add`.
+fn add(
+    rt: &impl Abort,
+    alloc: Global,
+    graph: &mut OrderGraph,
+    events: &[Stamp],
+    earlier: &Stamp,
+    later: &Stamp,
+)
+    requires earlier { Contains events.now earlier.now }
+    requires later { Contains events.now later.now }
+    requires coherent { AreCoherent events.now }
+    requires known { (stamp : Stamp) → Contains (ends_of graph.old.pairs) stamp → Contains events.now stamp }
+    ensures { (stamp : Stamp) → Contains (ends_of graph.new.pairs) stamp → Contains events.now stamp }
+{
+    assert!(rt; earlier.id() != later.id());
+    assert!(rt; earlier.clock.compare(&later.clock) == Relation::Unordered);
+    let back = graph.precedes(alloc, later, earlier).expect(rt, "memory");
+    if back {
+        panic!(rt; "the later event precedes the earlier one");
+    }
+    graph.add(*earlier, *later).expect(rt, "memory");
+}
+
+// Whether one of the events precedes another.
+fn precedes(
+    rt: &impl Abort,
+    alloc: Global,
+    graph: &OrderGraph,
+    events: &[Stamp],
+    a: &Stamp,
+    b: &Stamp,
+) -> bool
+    requires a { Contains events.now a.now }
+    requires b { Contains events.now b.now }
+    requires coherent { AreCoherent events.now }
+    requires known { (stamp : Stamp) → Contains (ends_of graph.now.pairs) stamp → Contains events.now stamp }
+{
+    graph.precedes(alloc, a, b).expect(rt, "memory")
+}
+
+#[test]
+fn chain_of_200_pairs(rt: HostRuntime) -> Result<(), Fail> {
+    let alloc = rt.alloc();
+    let events = events_in_turn(alloc, 201)?;
+    let events = events.as_slice();
+    assert_eq!(rt; events.len(), 201);
+    assert!(rt; are_coherent(events));
+    let mut graph = OrderGraph::new(alloc);
+    graph.reserve(200)?;
+    for place in 0..200 {
+        add(
+            &rt,
+            alloc,
+            &mut graph,
+            events,
+            &events[place],
+            &events[place + 1],
+        );
+    }
+    let graph = graph.duplicate(alloc)?;
+    assert!(rt; precedes(&rt, alloc, &graph, events, &events[0], &events[200]));
+    assert!(rt; !precedes(&rt, alloc, &graph, events, &events[200], &events[0]));
+    Ok(())
+}
