@@ -1,0 +1,4 @@
+pub mod Places
+pub mod Additions
+pub mod Known
+pub mod Logs

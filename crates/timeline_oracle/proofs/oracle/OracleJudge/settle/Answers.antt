@@ -1,0 +1,62 @@
+use Rattle.std.proofs.Common.{◌≡◌, ◌≢◌, ◌==◌, ℕ, List, [], ◌∷◌, ◌++◌, length, true, false, None, Contains, ◌⊎◌, sym, ◌∙◌, ap, subst, rules}
+use Rattle.vector_stamp.specs.Precedence.{Given}
+use Rattle.vector_stamp.specs.Settling.{refused_place, additions_from, additions, places_of, pairs_of}
+use Rattle.weave_entries.specs.declared.oracle_log.OracleEntry.{OracleEntry}
+use Rattle.order_graph.specs.Building.{ends_of}
+use Rattle.timeline_oracle.specs.Log.{settled_entry, pairs_of_log, IsOracleLog}
+use Rattle.timeline_oracle.proofs.Known.{ends_after, ends_stay}
+use Rattle.timeline_oracle.proofs.Logs.{right_after, pairs_after}
+use Rattle.timeline_oracle.proofs.oracle.OracleJudge.settle.Goals as goal
+use Rattle.timeline_oracle.proofs.oracle.OracleJudge.settle.Goals.{After-drop-self-inside}
+
+-- the pairs of the copy are those that the log tells
+kept : (c : After-drop-self-inside) → c.in_ok-graph.graph.pairs ≡ pairs_of_log c.self.inside.log.items
+kept c = c.in_ok-graph.ensures ∙ c.self.invariant.0
+
+log_after : (c : After-drop-self-inside) → c.push_reserved.new.self.items ≡ c.self.inside.log.items ++ c.in_ok-entry.entry ∷ []
+log_after c = c.push_reserved.ensures.items ∙ ap (λ (log : List OracleEntry). log ++ c.in_ok-entry.entry ∷ []) c.reserve.ensures.items
+
+added : (c : After-drop-self-inside) → c.in_ok-places.places ≡ places_of (additions_from 0 (pairs_of_log c.self.inside.log.items) c.args.earlier.now c.args.later)
+added c = c.in_ok-places.ensures.places ∙ ap (λ (pairs : List Given). places_of (additions_from 0 pairs c.args.earlier.now c.args.later)) (kept c)
+
+told : (c : After-drop-self-inside) → settled_entry c.in_ok-entry.entry ≡ record { author = c.args.author; earlier = c.args.earlier.now; later = c.args.later; places = c.in_ok-places.places }
+told c = c.in_ok-entry.ensures
+
+pairs_of_after : (c : After-drop-self-inside) → pairs_of_log c.push_reserved.new.self.items ≡ pairs_of_log c.self.inside.log.items ++ pairs_of (additions_from 0 (pairs_of_log c.self.inside.log.items) c.args.earlier.now c.args.later) c.args.later
+pairs_of_after c =
+    ap pairs_of_log (log_after c)
+    ∙ pairs_after c.settling_puts_all_before.ensures.in_place c.self.inside.log.items c.in_ok-entry.entry c.args.author c.args.earlier.now c.args.later c.in_ok-places.places (told c) (added c)
+
+pub invariant_of-self-2 : goal.invariant_of-self-2
+invariant_of-self-2 c =
+    let log = c.self.inside.log.items in
+    let none : c.in_ok-place.field-0 ≡ None = search rules in
+    let permitted : refused_place (pairs_of_log log) c.args.earlier.now c.args.later ≡ None =
+    ap (λ (pairs : List Given). refused_place pairs c.args.earlier.now c.args.later) (sym c.self.invariant.0) ∙ sym c.in_ok-place.ensures ∙ none in
+    let not_empty : (length c.as_slice.result.now == 0) ≡ false = sym c.is_empty.ensures ∙ c.if-is_empty.false in
+    let some : c.in_ok-places.places ≢ [] = λ e. let both : true ≡ false = sym (ap (λ (xs : List ℕ). length xs == 0) (c.as_slice.ensures ∙ e)) ∙ not_empty in cc in
+    let right = right_after c.settling_puts_all_before.ensures.in_place log c.in_ok-entry.entry c.args.author c.args.earlier.now c.args.later c.in_ok-places.places c.self.invariant.1 (told c) c.requires.other_ids permitted (added c) some in (
+      c.in_ok-places.ensures.pairs ∙ ap (λ (pairs : List Given). pairs ++ pairs_of (additions_from 0 pairs c.args.earlier.now c.args.later) c.args.later) (kept c) ∙ sym (pairs_of_after c),
+      subst IsOracleLog (sym (log_after c)) right,
+    )
+
+pub returns-clause-pairs : goal.returns-clause-pairs
+returns-clause-pairs c =
+    let keep : c.args.keep ≡ true = c.if-not-keep.false in
+    pairs_of_after c
+    ∙ ap (λ (log : List OracleEntry). pairs_of_log log ++ pairs_of (additions_from 0 (pairs_of_log log) c.args.earlier.now c.args.later) c.args.later) c.self.view_is
+    ∙ ap (λ keep. pairs_of_log c.args.self.now ++ pairs_of (additions keep (pairs_of_log c.args.self.now) c.args.earlier.now c.args.later) c.args.later) (sym keep)
+
+pub returns-clause-known : goal.returns-clause-known
+returns-clause-known c =
+    let laws = c.ends_are_of_pairs.ensures in
+    λ stamp h.
+    let after = ends_after laws.appended laws.no_others c.settling_puts_all_before.ensures.of_earlier (pairs_of_log c.self.inside.log.items) c.args.earlier.now c.args.later stamp (subst (λ (pairs : List Given). Contains (ends_of pairs) stamp) (pairs_of_after c) h) in
+    subst (λ (log : List OracleEntry). Contains (ends_of (pairs_of_log log)) stamp ⊎ Contains (c.args.later ∷ c.args.earlier.now) stamp) c.self.view_is after
+
+pub returns-clause-stay_known : goal.returns-clause-stay_known
+returns-clause-stay_known c =
+    λ stamp h.
+    let before = subst (λ (log : List OracleEntry). Contains (ends_of (pairs_of_log log)) stamp) (sym c.self.view_is) h in
+    subst (λ (pairs : List Given). Contains (ends_of pairs) stamp) (sym (pairs_of_after c))
+    (ends_stay c.ends_are_of_pairs.ensures.appended (pairs_of_log c.self.inside.log.items) (pairs_of (additions_from 0 (pairs_of_log c.self.inside.log.items) c.args.earlier.now c.args.later) c.args.later) stamp before)

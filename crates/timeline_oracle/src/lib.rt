@@ -1,0 +1,11 @@
+//! The timeline oracle: decides which of two events comes first, where their stamps leave it open, and logs what it decided (Kronos, EuroSys 2014).
+//!
+//! It is a judge of events, exactly, all or none. Contracts see it as its log, which tells its pairs. No pair is dropped or reversed, and no event precedes itself.
+#![tactic(auto)]
+
+mod oracle;
+mod settling;
+#[cfg(test)]
+mod tests;
+
+pub use oracle::Oracle;

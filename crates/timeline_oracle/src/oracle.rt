@@ -1,0 +1,105 @@
+//! The oracle with its log.
+ghost use Rattle.std.specs.Prelude.{◌≡◌, []};
+ghost use Rattle.vector_stamp.specs.Precedence.{IsAcyclic};
+ghost use Rattle.timeline_oracle.specs.Log.{pairs_of_log, IsOracleLog};
+
+use crate::settling::{entry_of, first_refused, put_before};
+use order_graph::OrderGraph;
+use order_graph::laws::ends_are_of_pairs;
+use std::alloc::Global;
+use std::marker::Model;
+use vector_stamp::laws::{no_cycle_arises, settling_puts_all_before};
+use vector_stamp::{Judge, Refusal, Settled, Stamp};
+use weave_data::Items;
+use weave_entries::OracleEntry;
+
+/// The pairs that were put, and the entries of the calls that put them. Contracts see the entries.
+#[derive(Drop)]
+pub struct Oracle {
+    graph: OrderGraph,
+    log: Vec<OracleEntry>,
+}
+
+impl Model for Oracle {
+    ghost use Rattle.std.specs.Prelude.{◌≡◌, List};
+    ghost use Rattle.weave_entries.specs.declared.oracle_log.OracleEntry.{OracleEntry};
+    ghost use Rattle.timeline_oracle.specs.Log.{pairs_of_log, IsOracleLog};
+
+    ghost Value = { List OracleEntry };
+
+    ghost view = { λ o. o.log.items };
+
+    ghost invariant = { λ o. (o.graph.pairs ≡ pairs_of_log o.log.items) × IsOracleLog o.log.items };
+}
+
+impl Oracle {
+    /// An oracle that has put nothing and knows no stamp. It takes no memory.
+    pub fn new(alloc: Global) -> Oracle
+        ensures { result ≡ [] }
+    {
+        Oracle {
+            graph: OrderGraph::new(alloc),
+            log: Vec::new(alloc),
+        }
+    }
+
+    /// The entries of the calls that put pairs, in their order.
+    pub fn log(&self) -> &[OracleEntry]
+        ensures entries { result.now ≡ self.now }
+        ensures right { IsOracleLog self.now }
+        ensures no_cycle { IsAcyclic (pairs_of_log self.now) }
+    {
+        no_cycle_arises();
+        settling_puts_all_before();
+        self.log.as_slice()
+    }
+}
+
+/// A call makes at most two searches for each earlier event, each in time by the square of the number of pairs and in memory by that number.
+impl Judge for Oracle {
+    ghost use Rattle.std.specs.Prelude.{map, true};
+    ghost use Rattle.order_graph.specs.Building.{ends_of};
+    ghost use Rattle.order_graph.proofs.Stamps.{ends_joined};
+    ghost use Rattle.timeline_oracle.specs.Log.{pairs_of_log, settled_entry};
+
+    ghost pairs = { λ oracle. pairs_of_log oracle };
+
+    ghost known = { λ oracle. ends_of (pairs_of_log oracle) };
+
+    ghost keeps_log = { true };
+
+    ghost log_of = { λ oracle. map settled_entry oracle };
+
+    ghost pairs_known = { λ oracle. ends_joined (pairs_of_log oracle) };
+
+    fn settle(
+        &mut self,
+        alloc: Global,
+        author: u32,
+        earlier: &[Stamp],
+        later: Stamp,
+        keep: bool,
+    ) -> Result<Settled, Refusal> {
+        settling_puts_all_before();
+        ends_are_of_pairs();
+        if let Some(place) = first_refused(alloc, &self.graph, earlier, &later)? {
+            return Err(Refusal::Precedes { place });
+        }
+        if !keep {
+            return Ok(Settled {
+                places: Items::new(alloc),
+            });
+        }
+        // The pairs are tried out on a copy: so nothing has changed where memory is wanted in the middle.
+        let mut graph = self.graph.duplicate(alloc)?;
+        let places = put_before(alloc, &mut graph, earlier, later)?;
+        if places.as_slice().is_empty() {
+            return Ok(Settled { places });
+        }
+        let entry = entry_of(alloc, author, earlier, later, &places)?;
+        self.log.reserve(1)?;
+        self.log.push_reserved(entry);
+        self.graph = graph;
+        Ok(Settled { places })
+    }
+}
