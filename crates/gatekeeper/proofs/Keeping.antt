@@ -1,0 +1,38 @@
+-- Fields that are what the replay of the log gives, after one more entry.
+use Rattle.std.proofs.Common.{◌≡◌, ℕ, List, [], ◌∷◌, ◌++◌, length, map, slice_get, Option, Some, sym, ap, subst, ◌∙◌}
+use Rattle.std.specs.Option.{option_map}
+use Rattle.std.proofs.lemmas.List.{append-nil}
+use Rattle.vector_stamp.specs.declared.clock.Clock.{Clock}
+use Rattle.shard_queue.specs.Sent.{Channel}
+use Rattle.weave_entries.specs.declared.message.Message.{Message}
+use Rattle.weave_entries.specs.declared.message.Addressed.{Addressed}
+use Rattle.weave_entries.specs.declared.gate_log.GateEntry.{GateEntry}
+use Rattle.weave_entries.specs.declared.gate_log.GateDeed.{GateDeed}
+use Rattle.weave_entries.specs.GateReplay.{Begun, clock_after, flight_after, running_after, messages_by, to_shard, channel_of}
+use Rattle.weave_entries.specs.GateRules.{FitsAs}
+use Rattle.gatekeeper.specs.declared.begun.Open.{Open}
+use Rattle.gatekeeper.specs.Opened.{as_begun}
+use Rattle.gatekeeper.specs.Gates.{IsReplayOf}
+use Rattle.weave_entries.proofs.Logs.{each-push}
+use Rattle.gatekeeper.proofs.Replay.{clock-push, flight-push, running-push, channel-push}
+
+-- each field goes on as the entry says
+pub keeps_on : (home shards : ℕ) (clock : Clock) (flight : Option Open) (running : List Open) (channels : List (Channel Message)) (log : List GateEntry) (author : ℕ) (deed : GateDeed) (next : Clock) (flying : Option Open) (run : List Open) (sent : List (Channel Message)) (longer : List GateEntry) → IsReplayOf home shards clock flight running channels log → FitsAs home shards log author deed → longer ≡ log ++ record { author = author; deed = deed } ∷ [] → next ≡ clock_after home clock deed → option_map as_begun flying ≡ flight_after (option_map as_begun flight) author deed → map as_begun run ≡ running_after (map as_begun running) author deed → length sent ≡ shards → ((shard : ℕ) (channel : Channel Message) → slice_get sent shard ≡ Some channel → channel.sent ≡ channel_of shard log ++ map (λ (addressed : Addressed). addressed.message) (to_shard shard (messages_by deed))) → IsReplayOf home shards next flying run sent longer
+keeps_on home shards clock flight running channels log author deed next flying run sent longer kept fits longer_is next_is flying_is run_is all_sent sent_is =
+    let entry : GateEntry = record { author = author; deed = deed } in
+    subst (λ (l : List GateEntry). IsReplayOf home shards next flying run sent l) (sym longer_is) (record {
+      clock_is = next_is ∙ ap (λ (c : Clock). clock_after home c deed) kept.clock_is ∙ sym (clock-push log entry home);
+      flight_is = flying_is ∙ ap (λ (f : Option Begun). flight_after f author deed) kept.flight_is ∙ sym (flight-push log entry);
+      running_is = run_is ∙ ap (λ (r : List Begun). running_after r author deed) kept.running_is ∙ sym (running-push log entry);
+      all_channels = all_sent;
+      channels_are = λ shard channel at. sent_is shard channel at ∙ sym (channel-push log entry shard);
+      home_is = kept.home_is;
+      some_shard = kept.some_shard;
+      rules = each-push (λ before (one : GateEntry). FitsAs home shards before one.author one.deed) log entry kept.rules fits;
+    })
+
+-- and where it sends nothing, the channels stay
+pub keeps_still : (home shards : ℕ) (clock : Clock) (flight : Option Open) (running : List Open) (channels : List (Channel Message)) (log : List GateEntry) (author : ℕ) (deed : GateDeed) (next : Clock) (flying : Option Open) (run : List Open) (longer : List GateEntry) → IsReplayOf home shards clock flight running channels log → FitsAs home shards log author deed → messages_by deed ≡ [] → longer ≡ log ++ record { author = author; deed = deed } ∷ [] → next ≡ clock_after home clock deed → option_map as_begun flying ≡ flight_after (option_map as_begun flight) author deed → map as_begun run ≡ running_after (map as_begun running) author deed → IsReplayOf home shards next flying run channels longer
+keeps_still home shards clock flight running channels log author deed next flying run longer kept fits nothing longer_is next_is flying_is run_is =
+    keeps_on home shards clock flight running channels log author deed next flying run channels longer kept fits longer_is next_is flying_is run_is kept.all_channels
+    (λ shard channel at. kept.channels_are shard channel at ∙ sym (append-nil (channel_of shard log)) ∙ ap (λ (ms : List Addressed). channel_of shard log ++ map (λ (addressed : Addressed). addressed.message) (to_shard shard ms)) (sym nothing))

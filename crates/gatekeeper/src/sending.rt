@@ -1,0 +1,153 @@
+//! The channels of a gatekeeper, and what is sent on them.
+ghost use Rattle.std.specs.Prelude.{◌≡◌, ℕ, ◌≤◌, ◌<◌, ◌+◌, ◌^◌, [], All, length, slice_get, map, IfOk, OnOk, vec_len};
+ghost use Rattle.weave_entries.specs.Sending.{shards_named};
+ghost use Rattle.gatekeeper.specs.Messages.{made_for, with_parted, messages_made, CanGo, CanAllGo, HasRoomAt, KeepsSent, IsSentOn, AreSent, sent_at};
+
+use crate::begun::Open;
+use crate::parts::parts_for;
+use graph_ops::Op;
+use shard_queue::Outbox;
+use std::alloc::{AllocError, Global};
+use vector_stamp::Clock;
+use weave_data::Items;
+use weave_entries::{Addressed, Counted, Message, Verdict};
+
+/// A channel to each shard, on which nothing was sent yet.
+pub fn empty_channels(alloc: Global, shards: u32) -> Result<Vec<Outbox<Message>>, AllocError>
+    ensures count { IfOk result (λ channels. vec_len channels ≡ shards) }
+    ensures empty { IfOk result (λ channels. All (λ channel. channel.sent ≡ []) channels.items) }
+{
+    let mut channels = Vec::new(alloc);
+    for _shard in 0..shards {
+        channels.push(Outbox::new(alloc))?;
+    }
+    Ok(channels)
+}
+
+/// The messages of a transaction by its verdict: of a commit one to each shard that keeps a named vertex, and else none. The one error is want of memory.
+pub fn messages_of(
+    alloc: Global,
+    channels: &[Outbox<Message>],
+    shards: u32,
+    flight: &Open,
+    low: Clock,
+    ops: &[Op],
+    verdict: &Verdict,
+) -> Result<Vec<Addressed>, AllocError>
+    requires shards { length channels.now ≡ shards }
+    requires one_shard { 1 ≤ shards }
+    ensures { IfOk result (λ messages. messages.items ≡ messages_made channels.now shards flight.now low ops.now verdict.now) }
+{
+    match verdict {
+        Verdict::Committed { counts, .. } => commit_messages(
+            alloc,
+            channels,
+            shards,
+            flight,
+            low,
+            ops,
+            counts.as_slice(),
+        ),
+        Verdict::Conflict { .. } | Verdict::Refused { .. } => Ok(Vec::new(alloc)),
+    }
+}
+
+fn commit_messages(
+    alloc: Global,
+    channels: &[Outbox<Message>],
+    shards: u32,
+    flight: &Open,
+    low: Clock,
+    ops: &[Op],
+    counts: &[Counted],
+) -> Result<Vec<Addressed>, AllocError>
+    requires shards { length channels.now ≡ shards }
+    requires one_shard { 1 ≤ shards }
+    ensures { IfOk result (λ messages. messages.items ≡ map (made_for channels.now shards flight.now low ops.now counts.now) (shards_named shards counts.now)) }
+{
+    let mut messages = Vec::new(alloc);
+    for shard in 0..shards {
+        let channel = &channels[shard as usize];
+        let number = channel.count() + 1;
+        let parts = parts_for(alloc, shards, shard, ops, counts)?;
+        let message = Message {
+            request: Some(flight.request),
+            stamp: flight.stamp,
+            low,
+            parts: Items::from_vec(parts),
+        };
+        let addressed = Addressed {
+            shard,
+            number,
+            message,
+        };
+        add_message(&mut messages, addressed)?;
+    }
+    Ok(messages)
+}
+
+// Adds the message, unless it has no part.
+fn add_message(messages: &mut Vec<Addressed>, addressed: Addressed) -> Result<(), AllocError>
+    ensures { OnOk result (messages.new.items ≡ with_parted addressed addressed.message.parts messages.old.items) }
+{
+    if !addressed.message.parts.as_slice().is_empty() {
+        messages.push(addressed)?;
+    }
+    Ok(())
+}
+
+/// Takes the room for one more message to a shard. What was sent stays. The one error is want of memory.
+pub fn make_room(
+    channels: &mut Vec<Outbox<Message>>,
+    alloc: Global,
+    shard: u32,
+) -> Result<(), AllocError>
+    requires { shard < vec_len channels.old }
+    ensures kept { KeepsSent channels.old.items channels.new.items }
+    ensures room { OnOk result (HasRoomAt channels.new.items shard) }
+{
+    let channel = &mut channels[shard as usize];
+    channel.reserve(alloc)?;
+    Ok(())
+}
+
+/// Takes the room for one more message to each shard. What was sent stays. The one error is want of memory.
+pub fn make_all_room(channels: &mut Vec<Outbox<Message>>, alloc: Global) -> Result<(), AllocError>
+    requires { vec_len channels.old < 2 ^ 32 }
+    ensures kept { KeepsSent channels.old.items channels.new.items }
+    ensures room { OnOk result ((shard : ℕ) → shard < vec_len channels.old → HasRoomAt channels.new.items shard) }
+{
+    for shard in 0..channels.len() as u32 {
+        make_room(channels, alloc, shard)?;
+    }
+    Ok(())
+}
+
+/// Sends a message to a shard whose channel has room for it, and answers its number.
+pub fn send_one(
+    channels: &mut Vec<Outbox<Message>>,
+    alloc: Global,
+    shard: u32,
+    message: Message,
+) -> u64
+    requires { CanGo channels.old.items shard message.stamp }
+    ensures number { result ≡ length (sent_at shard channels.old.items) + 1 }
+    ensures sent { IsSentOn channels.old.items channels.new.items shard message }
+{
+    let channel = &mut channels[shard as usize];
+    match channel.push(alloc, message) {
+        Ok(number) => number,
+        Err(_) => unreachable!(),
+    }
+}
+
+/// Sends messages to shards of their own, whose channels have room for them.
+pub fn send_all(channels: &mut Vec<Outbox<Message>>, alloc: Global, messages: Vec<Addressed>)
+    requires { CanAllGo channels.old.items messages.items }
+    ensures { AreSent channels.old.items channels.new.items messages.items }
+{
+    for one in messages {
+        let Addressed { shard, message, .. } = one;
+        send_one(channels, alloc, shard, message);
+    }
+}
