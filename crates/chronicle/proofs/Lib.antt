@@ -1,0 +1,9 @@
+pub mod Logs
+pub mod Tables
+pub mod Entering
+pub mod Leaving
+pub mod Opening
+pub mod Joining
+pub mod Taking
+pub mod Closing
+pub mod Shares

@@ -1,0 +1,62 @@
+//! What was seen, put down and compared.
+ghost use Rattle.std.specs.Prelude.{◌≡◌};
+ghost use mathlib.Core.List.{IsPrefix};
+ghost use Rattle.chronicle.specs.Logs.{longer};
+ghost use Rattle.chronicle.specs.Locks.{lock_of};
+ghost use Rattle.chronicle.specs.Passes.{IsReady, IsNote, number_of, seen, own, noted};
+
+use crate::chronicle::Chronicle;
+use crate::machine::Machine;
+use crate::pass::Pass;
+use crate::rule::WORD;
+use crate::steps::{Compares, Copies, Gathers};
+use crate::view::View;
+use atomic_table::Badge;
+use std::mem;
+
+/// What somebody has seen of a log. It has no author's number, and may lie behind another lock.
+#[derive(Drop)]
+pub struct Note<E> {
+    pub(crate) badge: Badge<View<E>>,
+}
+
+impl<M: Machine> Chronicle<M> {
+    /// A note that has seen what the pass has.
+    pub fn note(&self, pass: &mut Pass<M::Entry>) -> Note<M::Entry>
+        requires { IsReady (lock_of self.now) pass.old }
+        ensures ready { IsReady (lock_of self.now) pass.new }
+        ensures number { number_of pass.new ≡ number_of pass.old }
+        ensures seen { seen pass.new ≡ seen pass.old }
+        ensures note { IsNote (lock_of self.now) result }
+        ensures noted { noted result ≡ seen pass.old }
+    {
+        let mut seat = mem::replace(&mut pass.badge, Badge::blank()).into_seat::<Option<M>>();
+        let copy = self.table.shared.split_seat::<Copies>(&mut seat);
+        pass.badge = seat.into_badge();
+        Note {
+            badge: copy.into_badge(),
+        }
+    }
+
+    /// Afterwards both have seen the longer of the two lists.
+    pub fn meet(&self, pass: &mut Pass<M::Entry>, note: &mut Note<M::Entry>)
+        requires pass { IsReady (lock_of self.now) pass.old }
+        requires note { IsNote (lock_of self.now) note.old }
+        ensures ready { IsReady (lock_of self.now) pass.new }
+        ensures number { number_of pass.new ≡ number_of pass.old }
+        ensures own { own pass.new ≡ own pass.old }
+        ensures note { IsNote (lock_of self.now) note.new }
+        ensures longer { seen pass.new ≡ longer (seen pass.old) (noted note.old) }
+        ensures pass_before { IsPrefix (seen pass.old) (seen pass.new) }
+        ensures note_before { IsPrefix (noted note.old) (seen pass.new) }
+        ensures one { noted note.new ≡ seen pass.new }
+    {
+        let shared = &self.table.shared;
+        let mut seat = mem::replace(&mut pass.badge, Badge::blank()).into_seat::<Option<M>>();
+        let other = mem::replace(&mut note.badge, Badge::blank()).into_seat();
+        shared.join_seat::<Gathers>(&mut seat, other);
+        shared.load::<Compares>(&mut seat, WORD);
+        note.badge = shared.split_seat::<Copies>(&mut seat).into_badge();
+        pass.badge = seat.into_badge();
+    }
+}

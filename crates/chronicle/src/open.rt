@@ -1,0 +1,91 @@
+//! How a lock is made, and how its machine comes in.
+ghost use Rattle.std.specs.Prelude.{◌≡◌, ◌<◌, [], ◌∷◌, None, All, IfOk, map, vec_len};
+ghost use Rattle.std.specs.List.{range_with_len};
+ghost use Rattle.chronicle.specs.Locks.{lock_of, BeginsAs, IsFilled, IsVacant};
+ghost use Rattle.chronicle.specs.Passes.{IsReady, number_of, seen};
+ghost use Rattle.chronicle.specs.Seats.{unopened, opened};
+
+use crate::chronicle::Chronicle;
+use crate::machine::Machine;
+use crate::pass::Pass;
+use crate::rule::{FREE, Law, SLOT, TAKEN, UNOPENED, WORD};
+use crate::steps::{Deals, Leaves, Opening, Opens};
+use crate::view::View;
+use atomic_table::{Badge, Seat, Shared, Table};
+use std::alloc::{AllocError, Global};
+use std::marker::Brand;
+use std::snapshot::Snapshot;
+
+/// The empty place of a machine, for `fill`. Nobody gets into a lock whose place was dropped.
+#[derive(Drop)]
+pub struct Vacant<M: Machine> {
+    pub(crate) seat: Seat<Option<M>, View<M::Entry>>,
+}
+
+// The first seat takes the slot. The caller's proof picks the opening out of `_like`.
+fn open<M: Machine, N: Machine<Entry = M::Entry>, J: Opening<M::Entry>>(
+    shared: &Shared<Option<M>, View<M::Entry>, u32, Law<M>>,
+    seat: &mut Seat<Option<M>, View<M::Entry>>,
+    _like: &N,
+)
+    requires table { (seat.old.table_id ≡ shared.now.table_id) × (shared.now.table_id.words ≡ 1) }
+    requires first { seat.old.me ≡ (unopened shared.now.key, []) }
+    ensures table { seat.new.table_id ≡ seat.old.table_id }
+    ensures opened { seat.new.me ≡ (opened J.frame J.log shared.now.key, (0, None) ∷ []) }
+{
+    shared.compare_exchange::<Opens<J>>(seat, WORD, UNOPENED, TAKEN);
+}
+
+impl<M: Machine> Chronicle<M> {
+    /// A lock with so many passes, for a machine with the frame and the log of `like`. Nobody gets in before `fill`.
+    /// The passes have the numbers 0, 1, 2 and so on, and have seen the whole log.
+    pub fn new<N: Machine<Entry = M::Entry>>(
+        alloc: Global,
+        like: &N,
+        passes: u32,
+    ) -> Result<(Chronicle<M>, Vec<Pass<M::Entry>>, Vacant<M>), AllocError>
+        requires { 0 < passes }
+        ensures lock { IfOk result (λ r. BeginsAs (lock_of r.0) passes (N.frame like.now) (N.log like.now)) }
+        ensures count { IfOk result (λ r. vec_len r.1 ≡ passes) }
+        ensures numbers { IfOk result (λ r. map number_of r.1.items ≡ range_with_len 0 passes) }
+        ensures ready { IfOk result (λ r. All (IsReady (lock_of r.0)) r.1.items) }
+        ensures seen { IfOk result (λ r. All (λ p. seen p ≡ (lock_of r.0).start) r.1.items) }
+        ensures vacant { IfOk result (λ r. IsVacant (lock_of r.0) r.2) }
+    {
+        let mut made = Vec::with_capacity(alloc, passes as usize)?;
+        let (table, mut seat) = Table::vacant(alloc, &[UNOPENED], 1, &passes)?;
+        open::<M, N, Brand>(&table.shared, &mut seat, like);
+        let opened = Snapshot::of(&seat);
+        for number in 0..passes {
+            let badge = table.shared.split_seat::<Deals>(&mut seat).into_badge();
+            let before = Snapshot::of(&badge);
+            made.push_reserved(Pass {
+                number,
+                badge,
+                before,
+            });
+        }
+        let chronicle = Chronicle {
+            table,
+            opened,
+            filled: Badge::blank(),
+        };
+        Ok((chronicle, made, Vacant { seat }))
+    }
+
+    /// Puts the machine in, and opens the lock to its passes.
+    pub fn fill(&mut self, vacant: Vacant<M>, machine: M)
+        requires vacant { IsVacant (lock_of self.old) vacant }
+        requires frame { M.frame machine ≡ (lock_of self.old).frame }
+        requires log { M.log machine ≡ (lock_of self.old).start }
+        ensures lock { lock_of self.new ≡ lock_of self.old }
+        ensures filled { IsFilled self.new }
+    {
+        let Vacant { mut seat } = vacant;
+        let shared = &self.table.shared;
+        let empty = shared.exchange(&mut seat, SLOT, Some(machine));
+        let None = empty else { unreachable!() };
+        shared.store::<Leaves>(&mut seat, WORD, FREE);
+        self.filled = seat.into_badge();
+    }
+}

@@ -1,0 +1,70 @@
+use crate::{Noted, Owner, Tally, add, add_to_both, five_noted, tallied, total, with_note};
+use chronicle::Chronicle;
+use std::test::Fail;
+
+#[test]
+fn each_entry_stands_once(rt: HostRuntime) -> Result<(), Fail> {
+    let tally = tallied(&rt, rt.alloc(), 2, 100)?;
+    let mut next = [0u64; 2];
+    for (author, value) in tally.entries() {
+        let author = *author as usize;
+        assert!(rt; author < 2 && next[author] == *value);
+        next[author] = value.saturating_add(1);
+    }
+    assert!(rt; next == [100, 100] && tally.entries().len() == 200);
+    assert_eq!(rt; tally.total(), 9900);
+    Ok(())
+}
+
+#[test]
+fn a_note_meets_its_pass(rt: HostRuntime) -> Result<(), Fail> {
+    let like = Tally::new(rt.alloc());
+    let (mut shared, mut passes, vacant) = Chronicle::<Tally>::new(rt.alloc(), &like, 1)?;
+    shared.fill(vacant, like);
+    let noted = five_noted(&rt, &shared, &mut passes[0]);
+    assert!(rt; noted.is_ok());
+    assert_eq!(rt; total(&rt, &shared, &mut passes[0]), 10);
+    Ok(())
+}
+
+#[test]
+fn a_hold_lies_in_a_hold(rt: HostRuntime) -> Result<(), Fail> {
+    let like = Tally::new(rt.alloc());
+    let (mut outer, mut outer_passes, vacant) = Chronicle::<Tally>::new(rt.alloc(), &like, 1)?;
+    outer.fill(vacant, Tally::new(rt.alloc()));
+    let (mut inner, mut inner_passes, vacant) = Chronicle::<Tally>::new(rt.alloc(), &like, 1)?;
+    inner.fill(vacant, Tally::new(rt.alloc()));
+    let (Some(outer_pass), Some(inner_pass)) = (outer_passes.pop(), inner_passes.pop()) else {
+        unreachable!()
+    };
+    let mut owner = Owner {
+        outer: outer_pass,
+        inner: inner_pass,
+    };
+    assert!(rt; add_to_both(&rt, &outer, &inner, &mut owner, 3).is_ok());
+    assert!(rt; add_to_both(&rt, &outer, &inner, &mut owner, 4).is_ok());
+    assert_eq!(rt; total(&rt, &outer, &mut owner.outer), 7);
+    assert_eq!(rt; total(&rt, &inner, &mut owner.inner), 7);
+    Ok(())
+}
+
+#[test]
+fn a_note_lies_behind_another_lock(rt: HostRuntime) -> Result<(), Fail> {
+    let like = Tally::new(rt.alloc());
+    let (mut first, mut passes, vacant) = Chronicle::<Tally>::new(rt.alloc(), &like, 1)?;
+    first.fill(vacant, Tally::new(rt.alloc()));
+    assert!(rt; add(&rt, &first, &mut passes[0], 5).is_ok());
+    let noted = Noted {
+        tally: Tally::new(rt.alloc()),
+        note: first.note(&mut passes[0]),
+    };
+    let (second, mut seconds) = with_note(rt.alloc(), &like, noted)?;
+    let Some(mut pass) = seconds.pop() else {
+        unreachable!()
+    };
+    let mut held = second.enter(&rt, &mut pass);
+    let total = held.state().tally.total();
+    held.leave(&mut pass);
+    assert_eq!(rt; total, 0);
+    Ok(())
+}
