@@ -1,4 +1,4 @@
--- The plain run keeps meetings and phases.
+-- In the plain run, of two requests that meet one precedes the other.
 use Rattle.std.proofs.Common.{◌≡◌, ◌≢◌, ℕ, zero, suc, ◌+◌, ◌<◌, ◌⊎◌, inl, inr, List, [], ◌∷◌, Option, Some, None, Ok, Err, IsSomeAnd, slice_get, count_by, nat_le, refl, ap, ◌∙◌, arith}
 use Rattle.std.specs.List.{AllByRecursion}
 use Rattle.std.specs.Option.{option_and_then}
@@ -62,36 +62,3 @@ module _ (script : Script) where
         | inl below ↦ inl (in_turn report a b at_a at_b below)
         | inr below ↦ inr (in_turn report b a at_b at_a below)
       ]
-
--- all requests of a script without `phase` lines are of one phase
-one_phase : (script : Script) → script.phases ≡ [] → (r : ℕ) → phase_of script r ≡ 0
-one_phase script none r = ap (count_by (λ before. nat_le before r)) none
-
-module _ (script : Script) (none : script.phases ≡ []) where
-  not_below : (a b : ℕ) → phase_of script a < phase_of script b → ⊥
-  not_below a b below = omega (arith, below, one_phase script none a, one_phase script none b)
-
-  no_conflicts : (requests : List Request) (k count : ℕ) (graph : PlainGraph) → AllByRecursion (λ (reply : Reply). IsConflictInOnePhase script reply.request reply.state) (plain_replies k count graph requests)
-  no_conflicts [] k count graph = tt
-  no_conflicts (request ∷ requests) k count graph = (here (outcome_of request graph), no_conflicts requests _ _ _)
-    where
-      here : (outcome : TxOutcome) → IsConflictInOnePhase script k (plain_state count outcome)
-      here (Ok passed) = tt
-      here (Err stopped) = tt
-
-  refusals : (all : Report) (requests : List Request) (k count : ℕ) (graph : PlainGraph) → AllByRecursion (λ (reply : Reply). IsRefusalInPhase script all reply.request reply.state) (plain_replies k count graph requests)
-  refusals all [] k count graph = tt
-  refusals all (request ∷ requests) k count graph = (here (outcome_of request graph), refusals all requests _ _ _)
-    where
-      here : (outcome : TxOutcome) → IsRefusalInPhase script all k (plain_state count outcome)
-      here (Ok passed) = tt
-      here (Err stopped) = λ other number is. (λ below. absurd (not_below other k below), λ below. absurd (not_below k other below))
-
-  pub phases-kept : PhasesAreKept script (plain_report script.requests)
-  phases-kept =
-      record {
-        later_never_precedes = λ a b below. absurd (not_below a b below);
-        conflicts = no_conflicts script.requests 0 0 empty_graph;
-        numbers = λ a b m n below e f. absurd (not_below a b below);
-        refusals = refusals (plain_report script.requests) script.requests 0 0 empty_graph;
-      }

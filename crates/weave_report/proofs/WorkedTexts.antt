@@ -15,7 +15,7 @@ use Rattle.weave_report.specs.declared.report.Reply.{Reply}
 use Rattle.weave_report.specs.declared.report.ReplyState.{ReplyState}
 use Rattle.weave_report.specs.declared.report.ReplyState.TheVariants.{Unbegun, Begun, Committed, Conflict, Refused, Finished}
 use Rattle.weave_report.specs.declared.report.StepAnswer.TheVariants as step
-use Rattle.weave_report.specs.Lines.{Bytes}
+use Rattle.weave_text.specs.Lines.{Bytes}
 use Rattle.weave_report.specs.ReportText.{report_text}
 
 abbrev request : Bytes → Work → Request

@@ -6,5 +6,11 @@ pub mod PrintedOrder
 pub mod Meetings
 pub mod ReportOf
 pub mod PlainRun
-pub mod Lines
 pub mod ReportText
+pub mod ReadingFields
+pub mod ReadingStates
+pub mod ReadingReplies
+pub mod Reading
+pub mod TextOf
+pub mod ReadAnswers
+pub mod Named

@@ -24,7 +24,7 @@ use Rattle.weave_report.specs.declared.report.ReplyState.{ReplyState}
 use Rattle.weave_report.specs.declared.report.ReplyState.TheVariants.{Unbegun, Begun, Committed, Conflict, Refused, Finished}
 use Rattle.weave_report.specs.declared.report.StepAnswer.{StepAnswer}
 use Rattle.weave_report.specs.declared.report.StepAnswer.TheVariants as step
-use Rattle.weave_report.specs.Lines.{Bytes, Line, joined_texts, lines_text, marked_texts}
+use Rattle.weave_text.specs.Lines.{Bytes, Line, joined_texts, lines_text, marked_texts}
 use Rattle.weave_report.specs.Words.{request_at}
 
 -- the name of a request; one that the script doesn't have has an empty name

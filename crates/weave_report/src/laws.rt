@@ -22,11 +22,10 @@ pub fn plain_run_is_right()
     ensures of_the_script { (script : Script) → 1 ≤ script.gates → length script.requests < 2 ^ 64 → AllByRecursion IsPlainTransaction script.requests → IsReportOf script (plain_report script.requests) }
 {}
 
-/// In that report, of two requests that meet one precedes the other; and where the script is of one phase, its phases
-/// are kept.
+/// In that report, of two requests that meet one precedes the other, and the phases are kept.
 pub fn plain_run_keeps_meetings_and_phases()
     ensures meetings { (script : Script) → MeetingsAreOrdered script (plain_report script.requests) }
-    ensures phases { (script : Script) → script.phases ≡ [] → PhasesAreKept script (plain_report script.requests) }
+    ensures phases { (script : Script) → PhasesAreKept script (plain_report script.requests) }
 {}
 
 /// A right report breaks no clause at any place.

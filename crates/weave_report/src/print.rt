@@ -1,21 +1,20 @@
 //! The text of a report.
 ghost use Rattle.std.specs.Prelude.{◌≡◌, ◌++◌, OnOk, IfOk};
 ghost use Rattle.std.specs.List.{flat_map};
-ghost use Rattle.weave_report.specs.Lines.{lines_text};
+ghost use Rattle.weave_text.specs.Lines.{lines_text};
 ghost use Rattle.weave_report.specs.ReportText.{reply_lines, report_text};
 
 mod lines;
 mod reply;
 mod state;
-mod text;
 mod words;
 
 use crate::print::lines::{print_answers, print_order, print_pairs};
 use crate::print::reply::print_reply;
-use crate::print::text::Text;
 use crate::report::{Reply, Report};
 use program_defs::Script;
 use std::alloc::{AllocError, Global};
+use weave_text::Text;
 
 /// The text of a report of this script. The one error is want of memory.
 pub fn print_report(alloc: Global, script: &Script, report: &Report) -> Result<Vec<u8>, AllocError>

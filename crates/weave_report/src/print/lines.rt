@@ -1,14 +1,14 @@
 //! The lines after the replies.
 ghost use Rattle.std.specs.Prelude.{◌≡◌, ◌++◌, map, OnOk};
 ghost use Rattle.std.specs.List.{enumerate_from};
-ghost use Rattle.weave_report.specs.Lines.{line_text, lines_text, spaced_words};
+ghost use Rattle.weave_text.specs.Lines.{line_text, lines_text, spaced_words};
 ghost use Rattle.weave_report.specs.ReportText.{did_line, name_at, order_line, pair_line, step_answer_words};
 
-use crate::print::text::Text;
 use crate::print::words::name_at;
 use crate::report::{Pair, StepAnswer};
 use program_defs::Script;
 use std::alloc::AllocError;
+use weave_text::Text;
 
 /// A line for each pair.
 pub fn print_pairs(text: &mut Text, script: &Script, pairs: &[Pair]) -> Result<(), AllocError>

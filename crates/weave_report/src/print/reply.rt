@@ -1,17 +1,17 @@
 //! The lines of a reply.
 ghost use Rattle.std.specs.Prelude.{◌≡◌, ◌++◌, map, take, OnOk, codes};
 ghost use Rattle.std.specs.Fmt.{decimal};
-ghost use Rattle.weave_report.specs.Lines.{joined_texts, line_text, lines_text, marked_texts, spaced_words};
+ghost use Rattle.weave_text.specs.Lines.{joined_texts, line_text, lines_text, marked_texts, spaced_words};
 ghost use Rattle.weave_report.specs.ReportText.{got_line, got_lines, reply_line, reply_lines, stamp_text, stamp_word, verdict_words};
 
 use crate::print::state::print_state;
-use crate::print::text::Text;
 use crate::print::words::{begun_text, is_program, kind_text, name_at, print_answer, reason_text};
 use crate::report::{Reply, ReplyState};
 use graph_ops::Got;
 use program_defs::Script;
 use std::alloc::AllocError;
 use vector_stamp::Stamp;
+use weave_text::Text;
 
 /// A reply's line, and those of its `get`s.
 pub fn print_reply(text: &mut Text, script: &Script, reply: &Reply) -> Result<(), AllocError>

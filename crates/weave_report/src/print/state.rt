@@ -1,12 +1,12 @@
 //! The words of a vertex's state.
 ghost use Rattle.std.specs.Prelude.{◌≡◌, ◌++◌, map, OnOk, codes};
-ghost use Rattle.weave_report.specs.Lines.{marked_texts, spaced_words};
+ghost use Rattle.weave_text.specs.Lines.{marked_texts, spaced_words};
 ghost use Rattle.weave_report.specs.ReportText.{content_words, edge_text, property_text, state_words};
 
-use crate::print::text::Text;
 use graph_ops::{Edge, Record};
 use std::alloc::AllocError;
 use weave_data::{Name, NameMap};
+use weave_text::Text;
 
 /// The words of a state, with a space before each.
 pub fn print_state(text: &mut Text, state: &Option<Record>) -> Result<(), AllocError>

@@ -1,13 +1,13 @@
 //! Words of a report.
 ghost use Rattle.std.specs.Prelude.{◌≡◌, ◌++◌, OnOk};
-ghost use Rattle.weave_report.specs.Lines.{spaced_words};
+ghost use Rattle.weave_text.specs.Lines.{spaced_words};
 ghost use Rattle.weave_report.specs.ReportText.{answer_words, begun_text, is_program, kind_text, name_at, reason_text};
 
 use crate::print::state::print_state;
-use crate::print::text::Text;
 use graph_ops::{Name, Reason};
 use program_defs::{Answer, Script, Work};
 use std::alloc::AllocError;
+use weave_text::Text;
 
 /// The name of a request, or no bytes where the script doesn't have it.
 pub fn name_at(script: &Script, request: u32) -> &[u8]

@@ -1,4 +1,5 @@
-use Rattle.weave_report.proofs.PlainMeetings.{meetings-ordered, phases-kept}
+use Rattle.weave_report.proofs.PlainMeetings.{meetings-ordered}
+use Rattle.weave_report.proofs.PlainPhases.{phases-kept}
 use Rattle.weave_report.proofs.laws.plain_run_keeps_meetings_and_phases.Goals as goal
 
 pub returns-clause-meetings : goal.returns-clause-meetings

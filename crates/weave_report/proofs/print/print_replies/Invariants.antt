@@ -1,6 +1,6 @@
 use Rattle.std.proofs.Common.{◌≡◌, ◌++◌, drop}
 use Rattle.std.specs.List.{flat_map}
-use Rattle.weave_report.specs.Lines.{lines_text}
+use Rattle.weave_text.specs.Lines.{lines_text}
 use Rattle.weave_report.specs.ReportText.{reply_lines}
 use Rattle.weave_report.proofs.print.print_replies.Given as goal
 

@@ -1,6 +1,6 @@
 use Rattle.std.proofs.Common.{◌≡◌, ◌+◌, ◌++◌, drop, map}
 use Rattle.std.specs.List.{enumerate_from}
-use Rattle.weave_report.specs.Lines.{lines_text}
+use Rattle.weave_text.specs.Lines.{lines_text}
 use Rattle.weave_report.specs.ReportText.{did_line}
 use Rattle.weave_report.proofs.print.lines.print_answers.Given as goal
 

@@ -1,5 +1,5 @@
 use Rattle.std.proofs.Common.{◌≡◌, ◌++◌, map, take}
-use Rattle.weave_report.specs.Lines.{spaced_words}
+use Rattle.weave_text.specs.Lines.{spaced_words}
 use Rattle.weave_report.specs.ReportText.{name_at}
 use Rattle.weave_report.proofs.print.lines.print_requests.Given as goal
 

@@ -1,5 +1,5 @@
 use Rattle.std.proofs.Common.{◌≡◌, ◌++◌, map, take}
-use Rattle.weave_report.specs.Lines.{lines_text}
+use Rattle.weave_text.specs.Lines.{lines_text}
 use Rattle.weave_report.specs.ReportText.{got_line}
 use Rattle.weave_report.proofs.print.reply.print_got_lines.Given as goal
 

@@ -1,6 +1,6 @@
 use Rattle.std.proofs.Common.{◌≡◌, ◌++◌, codes, map, take}
 use Rattle.std.specs.Fmt.{decimal}
-use Rattle.weave_report.specs.Lines.{marked_texts}
+use Rattle.weave_text.specs.Lines.{marked_texts}
 use Rattle.weave_report.proofs.print.reply.print_more_counts.Given as goal
 
 abbrev pub invariant-loop-count : goal.invariant-loop-count

@@ -1,5 +1,5 @@
 use Rattle.std.proofs.Common.{◌≡◌, ◌++◌, map}
-use Rattle.weave_report.specs.Lines.{spaced_words}
+use Rattle.weave_text.specs.Lines.{spaced_words}
 use Rattle.weave_report.specs.ReportText.{edge_text}
 use Rattle.weave_report.proofs.print.state.print_edges.Given as goal
 

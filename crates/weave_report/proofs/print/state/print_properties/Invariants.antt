@@ -1,5 +1,5 @@
 use Rattle.std.proofs.Common.{◌≡◌, ◌++◌, map}
-use Rattle.weave_report.specs.Lines.{marked_texts}
+use Rattle.weave_text.specs.Lines.{marked_texts}
 use Rattle.weave_report.specs.ReportText.{property_text}
 use Rattle.weave_report.proofs.print.state.print_properties.Given as goal
 

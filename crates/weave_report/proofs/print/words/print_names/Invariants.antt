@@ -1,5 +1,5 @@
 use Rattle.std.proofs.Common.{◌≡◌, ◌++◌, take}
-use Rattle.weave_report.specs.Lines.{spaced_words}
+use Rattle.weave_text.specs.Lines.{spaced_words}
 use Rattle.weave_report.proofs.print.words.print_names.Given as goal
 
 abbrev pub invariant-loop-name : goal.invariant-loop-name

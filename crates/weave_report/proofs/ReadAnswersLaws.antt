@@ -1,0 +1,38 @@
+-- What a reader's answer tells of a text.
+use Rattle.std.proofs.Common.{◌≡◌, ℕ, sym, ◌∙◌, refl}
+use Rattle.std.specs.Prelude.{Result, Ok, Err, IfOk}
+use Rattle.weave_text.specs.Lines.{Bytes}
+use Rattle.program_defs.specs.declared.script.Script.{Script}
+use Rattle.weave_report.specs.declared.fault.ReportCause.{ReportCause}
+use Rattle.weave_report.specs.declared.fault.ReportFault.{ReportFault}
+use Rattle.weave_report.specs.declared.fault.ReportFault.TheVariants.{Refused, Memory}
+use Rattle.weave_report.specs.declared.report.Report.{Report}
+use Rattle.weave_report.specs.ReadAnswers.{Answers, IfRefused, IsReadAs}
+use Rattle.weave_report.specs.TextOf.{IsReportTextOf}
+
+-- what reading a text gives
+abbrev Given : Type 0
+Given = Result Report (ℕ × ReportCause)
+
+same_report : (a b : Report) → ◌≡◌ {A = Given} (Ok a) (Ok b) → a ≡ b
+same_report a b e = cc
+
+no_report : (why : ℕ × ReportCause) (report : Report) → ◌≡◌ {A = Given} (Err why) (Ok report) → ⊥
+no_report why report e = cc
+
+module _ (script : Script) (bytes : Bytes) (given : Given) where
+  pub text_of_read : (result : Result Report ReportFault) → ((report : Report) → given ≡ Ok report → IsReportTextOf script bytes report) → Answers result given → IfOk result (λ report. IsReportTextOf script bytes report)
+  text_of_read (Ok report) law h = law report h
+  text_of_read (Err fault) law h = tt
+
+  pub read_of_text : (result : Result Report ReportFault) → ((report : Report) → IsReportTextOf script bytes report → given ≡ Ok report) → Answers result given
+      → (report : Report) → IsReportTextOf script bytes report → IsReadAs report result
+  read_of_text (Ok other) law h report text = same_report other report (sym h ∙ law report text)
+  read_of_text (Err (Refused line cause)) law h report text = no_report (line, cause) report (sym h ∙ law report text)
+  read_of_text (Err Memory) law h report text = tt
+
+  pub no_text_of_refused : (result : Result Report ReportFault) → ((report : Report) → IsReportTextOf script bytes report → given ≡ Ok report) → Answers result given
+      → IfRefused result ((report : Report) → ¬ IsReportTextOf script bytes report)
+  no_text_of_refused (Ok other) law h = tt
+  no_text_of_refused (Err (Refused line cause)) law h = λ report text. no_report (line, cause) report (sym h ∙ law report text)
+  no_text_of_refused (Err Memory) law h = tt

@@ -1,0 +1,34 @@
+-- Steps of loops that read words one after another.
+use Rattle.std.proofs.Common.{◌≡◌, ℕ, suc, ◌+◌, ◌<◌, List, [], ◌∷◌, ◌++◌, length, map, drop, get_or, Bor, refl, sym, ap, ◌∙◌, add-one}
+use Rattle.std.specs.Prelude.{Result, Ok, Err}
+use Rattle.std.proofs.Math.Seq.{drop-cons}
+use Rattle.std.proofs.lemmas.List.{drop-map}
+use Rattle.weave_text.specs.Lines.{Word}
+use Rattle.weave_report.specs.declared.fault.LineFault.{LineFault}
+use Rattle.weave_report.specs.declared.fault.LineFault.TheVariants.{Refused, Memory}
+use Rattle.weave_report.specs.declared.fault.ReportCause.{ReportCause}
+use Rattle.weave_report.specs.ReadAnswers.{Gives, Changes}
+use Rattle.weave_report.specs.ReadingFields.{Read, ◌>>=◌}
+
+-- the words that are left begin with the one at this place
+pub word_at : (words : List (Bor (List ℕ))) (i : ℕ) (d : Bor (List ℕ)) → i < length words
+    → drop i (map (λ word. word.now) words) ≡ (get_or words i d).now ∷ drop (i + 1) (map (λ word. word.now) words)
+word_at words i d h =
+    let now : Bor (List ℕ) → List ℕ = λ word. word.now in
+    drop-map now i words ∙ ap (map now) (drop-cons words i d h)
+    ∙ ap (λ rest. (get_or words i d).now ∷ rest) (sym (drop-map now (suc i) words) ∙ ap (λ k. drop k (map now words)) (sym (add-one i)))
+
+module _ {A B : Type 0} where
+  -- a step that fails fails the whole
+  pub fails : (fault : LineFault) (one : Read A) (next : A → Read B) (whole : Read B) → (one >>= next) ≡ whole → Gives {A = A} (Err fault) one → Gives {A = B} (Err fault) whole
+  fails (Refused why) one next whole all h = sym all ∙ ap (λ one. one >>= next) h
+  fails Memory one next whole all h = tt
+
+  -- a step that is done leaves the rest
+  pub done : (value : A) (one : Read A) (next : A → Read B) (whole : Read B) → (one >>= next) ≡ whole → one ≡ Ok value → next value ≡ whole
+  done value one next whole all h = sym (ap (λ one. one >>= next) h) ∙ all
+
+  -- the same of a step that changes a value in its place
+  pub changing_fails : (fault : LineFault) (new : A) (one : Read A) (next : A → Read B) (whole : Read B) → (one >>= next) ≡ whole → Changes {A = A} (Err fault) new one → Gives {A = B} (Err fault) whole
+  changing_fails (Refused why) new one next whole all h = sym all ∙ ap (λ one. one >>= next) h
+  changing_fails Memory new one next whole all h = tt

@@ -1,0 +1,25 @@
+use Rattle.std.proofs.Common.{sym, subst}
+use Rattle.program_defs.specs.declared.script.Script.{Script}
+use Rattle.weave_report.specs.ReadAnswers.{Answers}
+use Rattle.weave_report.specs.Reading.{report_in}
+use Rattle.weave_report.proofs.ReadAnswersLaws.{text_of_read, read_of_text, no_text_of_refused}
+use Rattle.weave_report.proofs.read.read_report.Goals as goal
+
+pub returns-clause-exact : goal.returns-clause-exact
+returns-clause-exact c =
+    subst (λ (script : Script). Answers c.read_named.result (report_in script c.args.first_line c.args.bytes.now)) c.in-Ok.ensures.script c.read_named.ensures
+
+pub returns-clause-read : goal.returns-clause-read
+returns-clause-read c =
+    text_of_read c.args.script.now c.args.bytes.now (report_in c.args.script.now c.args.first_line c.args.bytes.now) c.read_named.result
+    (λ report e. c.read_texts_are_texts.ensures.read c.args.script.now c.args.first_line c.args.bytes.now report c.requires.told_by_name c.in-Ok.ensures.typed e) (returns-clause-exact c)
+
+pub returns-clause-complete : goal.returns-clause-complete
+returns-clause-complete c =
+    read_of_text c.args.script.now c.args.bytes.now (report_in c.args.script.now c.args.first_line c.args.bytes.now) c.read_named.result
+    (λ report text. c.read_texts_are_texts.ensures.complete c.args.script.now c.args.first_line c.args.bytes.now report c.requires.told_by_name c.in-Ok.ensures.typed text) (returns-clause-exact c)
+
+pub returns-clause-refused : goal.returns-clause-refused
+returns-clause-refused c =
+    no_text_of_refused c.args.script.now c.args.bytes.now (report_in c.args.script.now c.args.first_line c.args.bytes.now) c.read_named.result
+    (λ report text. c.read_texts_are_texts.ensures.complete c.args.script.now c.args.first_line c.args.bytes.now report c.requires.told_by_name c.in-Ok.ensures.typed text) (returns-clause-exact c)

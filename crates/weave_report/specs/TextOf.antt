@@ -1,0 +1,100 @@
+-- What it is to be a text of a report for a script.
+use Rattle.std.specs.Prelude.{◌≡◌, ◌<◌, ◌^◌, ℕ, IsTrue, List, length, map, Option, Some, None, ⊤}
+use Rattle.std.specs.List.{AllByRecursion, IsDistinct}
+use Rattle.weave_data.specs.Names.{is_name, same_name}
+use Rattle.weave_data.specs.Pairs.{IsRising}
+use Rattle.weave_data.specs.declared.name.Name.{Name}
+use Rattle.weave_text.specs.Cutting.{kept_lines, lines_of}
+use Rattle.weave_text.specs.Lines.{Bytes}
+use Rattle.graph_ops.specs.Operations.{State}
+use Rattle.graph_ops.specs.declared.record.Edge.{Edge}
+use Rattle.graph_ops.specs.declared.record.Record.{Record}
+use Rattle.graph_ops.specs.declared.tx.Got.{Got}
+use Rattle.program_defs.specs.declared.program.Answer.{Answer}
+use Rattle.program_defs.specs.declared.program.Answer.TheVariants.{Shown, Reached, Found, Walk}
+use Rattle.program_defs.specs.declared.script.Script.{Script}
+use Rattle.program_defs.specs.declared.script.Request.{Request}
+use Rattle.weave_report.specs.declared.report.Pair.{Pair}
+use Rattle.weave_report.specs.declared.report.Reply.{Reply}
+use Rattle.weave_report.specs.declared.report.ReplyState.{ReplyState}
+use Rattle.weave_report.specs.declared.report.ReplyState.TheVariants.{Unbegun, Begun, Committed, Conflict, Refused, Finished}
+use Rattle.weave_report.specs.declared.report.Report.{Report}
+use Rattle.weave_report.specs.declared.report.StepAnswer.{StepAnswer}
+use Rattle.weave_report.specs.declared.report.StepAnswer.TheVariants as step
+use Rattle.weave_report.specs.PlainRun.{ops_of}
+use Rattle.weave_report.specs.ReportOf.{IsReportOf}
+use Rattle.weave_report.specs.ReportText.{report_lines}
+
+-- What the types of the program say of its values, beside what their definitions know: names are names, keys rise, and numbers are within their ranges
+
+-- the bytes are a name
+abbrev pub IsName : Name → Type 0
+IsName bytes = IsTrue (is_name bytes)
+
+-- keys rise and are names, and this is true of each value
+pub record IsTypedMap {X : Type 0} (IsTyped : X → Type 0) (pairs : List (Name × X)) : Type 0 where
+  pub rising : IsRising pairs
+  pub each : AllByRecursion (λ (pair : Name × X). IsName pair.0 × IsTyped pair.1) pairs
+
+pub record IsTypedEdge (edge : Edge) : Type 0 where
+  pub target : IsName edge.target
+  pub tags : IsTypedMap IsName edge.tags
+
+pub record IsTypedRecord (held : Record) : Type 0 where
+  pub props : IsTypedMap IsName held.props
+  pub edges : IsTypedMap IsTypedEdge held.edges
+
+abbrev pub IsTypedState : State → Type 0
+IsTypedState None = ⊤
+IsTypedState (Some held) = IsTypedRecord held
+
+abbrev pub IsTypedAnswer : Answer → Type 0
+IsTypedAnswer (Shown state) = IsTypedState state
+IsTypedAnswer (Reached reached) = ⊤
+IsTypedAnswer (Found vertices) = AllByRecursion IsName vertices
+IsTypedAnswer (Walk None) = ⊤
+IsTypedAnswer (Walk (Some vertices)) = AllByRecursion IsName vertices
+
+pub record IsTypedGot (got : Got) : Type 0 where
+  pub op : got.op < 2 ^ 32
+  pub state : IsTypedState got.state
+
+abbrev pub IsTypedReplyState : ReplyState → Type 0
+IsTypedReplyState Unbegun = ⊤
+IsTypedReplyState Begun = ⊤
+IsTypedReplyState (Committed number answers) = (number < 2 ^ 64) × AllByRecursion IsTypedGot answers
+IsTypedReplyState (Conflict vertex newer) = IsName vertex
+IsTypedReplyState (Refused op reason at) = (op < 2 ^ 32) × (at < 2 ^ 64)
+IsTypedReplyState (Finished answer) = IsTypedAnswer answer
+
+abbrev pub IsTypedStepAnswer : StepAnswer → Type 0
+IsTypedStepAnswer (step.Waits vertex) = IsName vertex
+IsTypedStepAnswer (step.Again shard gate) = (shard < 2 ^ 32) × (gate < 2 ^ 32)
+IsTypedStepAnswer _ = ⊤
+
+pub record IsTypedReport (report : Report) : Type 0 where
+  pub replies : AllByRecursion (λ (reply : Reply). IsTypedReplyState reply.state) report.replies
+  pub pairs : AllByRecursion (λ (pair : Pair). IsName pair.vertex) report.pairs
+  pub answers : AllByRecursion IsTypedStepAnswer report.answers
+  pub few_answers : length report.answers < 2 ^ 64
+
+-- the requests' names
+abbrev pub names_of : List Request → List Name
+names_of requests = map (λ (request : Request). request.name) requests
+
+-- a script whose requests are told by their names: no two have one name, and there are fewer than 2^32 of them and of the operations of each
+pub record TellsByName (script : Script) : Type 0 where
+  pub distinct : IsDistinct same_name (names_of script.requests)
+  pub few_requests : length script.requests < 2 ^ 32
+  pub few_ops : AllByRecursion (λ (request : Request). length (ops_of request.work) < 2 ^ 32) script.requests
+
+-- what the types say of a script
+pub record IsTypedScript (script : Script) : Type 0 where
+  pub gates : script.gates < 2 ^ 32
+  pub names : AllByRecursion IsName (names_of script.requests)
+
+-- the lines of the text that aren't passed over are those of the report, which is one that some text can give
+pub record IsReportTextOf (script : Script) (bytes : Bytes) (report : Report) : Type 0 where
+  pub lines : kept_lines (lines_of bytes) ≡ report_lines script report
+  pub of_script : IsReportOf script report
+  pub typed : IsTypedReport report

@@ -1,0 +1,137 @@
+//! Reports read from their texts.
+ghost use Rattle.std.specs.Prelude.{◌≡◌, ◌≤◌, ◌<◌, ◌+◌, ◌^◌, length, IfOk, OnOk};
+ghost use Rattle.program_defs.specs.declared.script.Script.{Script};
+ghost use Rattle.weave_report.specs.declared.report.Report.{Report};
+ghost use Rattle.weave_report.specs.ReadAnswers.{Answers, GivesAt, IfRefused, IsReadAs};
+ghost use Rattle.weave_report.specs.Reading.{after_any_line, after_lines, report_in, start, whole_report};
+ghost use Rattle.weave_report.specs.TextOf.{IsReportTextOf, TellsByName};
+ghost use Rattle.weave_text.specs.Cutting.{lines_of};
+
+mod fields;
+mod lines;
+mod named;
+mod parts;
+mod record;
+mod reply;
+mod stamp;
+mod state;
+
+use crate::fault::{LineFault, ReportCause, ReportFault};
+use crate::read::lines::after_line;
+use crate::read::named::Named;
+use crate::read::parts::{Place, Reading};
+use crate::reading_laws::read_texts_are_texts;
+use crate::report::Report;
+use program_defs::Script;
+use std::alloc::Global;
+use weave_data::Items;
+use weave_text::is_skipped;
+
+/// The report for the script of which the bytes are a text, whose first line has this number.
+///
+/// `Refused` names the first line that can't be accepted, and the first cause that holds in it.
+pub fn read_report(
+    alloc: Global,
+    script: &Script,
+    bytes: &[u8],
+    first_line: u32,
+) -> Result<Report, ReportFault>
+    requires told_by_name { TellsByName script.now }
+    requires from_one { 1 ≤ first_line }
+    requires room { first_line + length bytes.now < 2 ^ 32 }
+
+    // The report, or the first line that can't be accepted, unless memory is wanting.
+    ensures exact { Answers result (report_in script.now first_line bytes.now) }
+
+    // What is read is a text of that report, every text of a report is read as it, and what is refused is a text of none.
+    ensures read { IfOk result (λ report. IsReportTextOf script.now bytes.now report) }
+    ensures complete { (report : Report) → IsReportTextOf script.now bytes.now report → IsReadAs report result }
+    ensures refused { IfRefused result ((report : Report) → ¬ IsReportTextOf script.now bytes.now report) }
+{
+    let Ok(named) = Named::new(alloc, script) else {
+        return Err(ReportFault::Memory);
+    };
+    read_texts_are_texts();
+    read_named(alloc, &named, bytes, first_line)
+}
+
+fn read_named(
+    alloc: Global,
+    script: &Named,
+    bytes: &[u8],
+    first_line: u32,
+) -> Result<Report, ReportFault>
+    requires { first_line + length bytes.now < 2 ^ 32 }
+    ensures { Answers result (report_in script.now first_line bytes.now) }
+{
+    after_lines(alloc, script, bytes, first_line)
+}
+
+fn after_lines(
+    alloc: Global,
+    script: &Named,
+    bytes: &[u8],
+    first_line: u32,
+) -> Result<Report, ReportFault>
+    requires { first_line + length bytes.now < 2 ^ 32 }
+    ensures { Answers result (after_lines script.now first_line start (lines_of bytes.now)) }
+{
+    let mut reading = start(alloc);
+    let mut number = first_line;
+    let mut left = bytes;
+    while let Some((line, rest)) = weave_text::first_line(left) {
+        reading = after_any_line(alloc, script, reading, number, line)?;
+        number += 1;
+        left = rest;
+    }
+    whole_report(number, reading)
+}
+
+// What is read behind one more line of this number, which may be one that is passed over.
+fn after_any_line(
+    alloc: Global,
+    script: &Named,
+    reading: Reading,
+    number: u32,
+    line: &[u8],
+) -> Result<Reading, ReportFault>
+    ensures { GivesAt number result (after_any_line script.now reading line.now) }
+{
+    if is_skipped(line) {
+        return Ok(reading);
+    }
+    match after_line(alloc, script, reading, line) {
+        Ok(next) => Ok(next),
+        Err(LineFault::Memory) => Err(ReportFault::Memory),
+        Err(LineFault::Refused(cause)) => Err(ReportFault::Refused {
+            line: number,
+            cause,
+        }),
+    }
+}
+
+fn start(alloc: Global) -> Reading
+    ensures { result ≡ start }
+{
+    Reading {
+        report: Report {
+            replies: Items::new(alloc),
+            pairs: Items::new(alloc),
+            order: Items::new(alloc),
+            answers: Items::new(alloc),
+        },
+        place: Place::Start,
+    }
+}
+
+fn whole_report(number: u32, reading: Reading) -> Result<Report, ReportFault>
+    ensures { Answers result (whole_report number reading.place reading.report) }
+{
+    match reading.place {
+        Place::Ended => Ok(reading.report),
+        _ => Err(ReportFault::Refused {
+            line: number,
+            cause: ReportCause::End,
+        }),
+    }
+}

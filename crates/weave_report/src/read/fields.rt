@@ -1,0 +1,84 @@
+//! Fields of lines.
+ghost use Rattle.std.specs.Prelude.{◌≡◌, [], map};
+ghost use Rattle.weave_report.specs.ReadAnswers.{Gives};
+ghost use Rattle.weave_report.specs.ReadingFields.{name_in, names_in, names_from, number_in, reason_in, small_number_in, this_number_in};
+
+use crate::fault::{LineFault, ReportCause};
+use graph_ops::{Name, Reason};
+use std::alloc::Global;
+use weave_data::Items;
+use weave_text::{is, number};
+
+/// A name.
+pub(crate) fn name_in(word: &[u8]) -> Result<Name, LineFault>
+    ensures { Gives result (name_in word.now) }
+{
+    match Name::parse(word) {
+        Some(name) => Ok(name),
+        None => Err(LineFault::Refused(ReportCause::Name)),
+    }
+}
+
+/// Names.
+pub(crate) fn names_in(alloc: Global, words: &[&[u8]]) -> Result<Items<Name>, LineFault>
+    ensures { Gives result (names_in (map (λ word. word.now) words.now)) }
+{
+    let mut names = Items::new(alloc);
+    for word in words {
+        names.push(name_in(word)?)?;
+    }
+    Ok(names)
+}
+
+/// A number of 64 bits.
+pub(crate) fn number_in(word: &[u8]) -> Result<u64, LineFault>
+    ensures { Gives result (number_in word.now) }
+{
+    match number(word) {
+        Some(number) => Ok(number),
+        None => Err(LineFault::Refused(ReportCause::Number)),
+    }
+}
+
+/// A number of 32 bits.
+pub(crate) fn small_number_in(word: &[u8]) -> Result<u32, LineFault>
+    ensures { Gives result (small_number_in word.now) }
+{
+    let number = number_in(word)?;
+    if number > u64::from(u32::MAX) {
+        return Err(LineFault::Refused(ReportCause::Number));
+    }
+    Ok(number as u32)
+}
+
+/// The word that is to be this number.
+pub(crate) fn this_number_in(wanted: u64, word: &[u8]) -> Result<u64, LineFault>
+    ensures { Gives result (this_number_in wanted word.now) }
+{
+    if number(word) == Some(wanted) {
+        Ok(wanted)
+    } else {
+        Err(LineFault::Refused(ReportCause::Number))
+    }
+}
+
+/// A reason.
+pub(crate) fn reason_in(word: &[u8]) -> Result<Reason, LineFault>
+    ensures { Gives result (reason_in word.now) }
+{
+    if is(word, b"exists") {
+        Ok(Reason::Exists)
+    } else if is(word, b"missing") {
+        Ok(Reason::Missing)
+    } else if is(word, b"no_key") {
+        Ok(Reason::NoKey)
+    } else if is(word, b"edge_exists") {
+        Ok(Reason::EdgeExists)
+    } else if is(word, b"no_edge") {
+        Ok(Reason::NoEdge)
+    } else if is(word, b"full") {
+        Ok(Reason::Full)
+    } else {
+        Err(LineFault::Refused(ReportCause::Line))
+    }
+}

@@ -1,0 +1,295 @@
+//! The lines of replies.
+ghost use Rattle.std.specs.Prelude.{◌≡◌, ◌&&◌, [], ◌∷◌, map, Some, codes};
+ghost use Rattle.std.specs.Str.{bytes_eq};
+ghost use Rattle.weave_report.specs.ReadAnswers.{Gives};
+ghost use Rattle.weave_report.specs.ReadingReplies.{begun_in, committed_in, conflict_in, finished_by, finished_in, got_in, program_in, refusal_in, refused_in, transaction_in, unbegun_in, verdict_in};
+
+use crate::fault::{LineFault, ReportCause};
+use crate::read::fields::{name_in, number_in, reason_in, small_number_in, this_number_in};
+use crate::read::named::{Named, any_named, gets_of, kind_named};
+use crate::read::parts::{Commit, ReplyLine};
+use crate::read::stamp::stamp_in;
+use crate::read::state::{answer_in, is_answer_form, is_state_form, state_in};
+use crate::report::{Reply, ReplyState};
+use graph_ops::Got;
+use program_defs::Program;
+use std::alloc::Global;
+use weave_text::is;
+
+/// A transaction's reply, by the words behind `tx`.
+pub(crate) fn transaction_in(
+    alloc: Global,
+    script: &Named,
+    words: &[&[u8]],
+) -> Result<ReplyLine, LineFault>
+    ensures { Gives result (transaction_in script.now (map (λ word. word.now) words.now)) }
+{
+    match words {
+        [name, state] => {
+            if !is(state, b"unbegun") {
+                return Err(LineFault::Refused(ReportCause::Line));
+            }
+            unbegun_in(false, script, name)
+        }
+        [name, stamp, state, more @ ..] => verdict_in(alloc, script, name, stamp, state, more),
+        _ => Err(LineFault::Refused(ReportCause::Line)),
+    }
+}
+
+// A begun transaction's reply, by the word that tells how it stands and those behind it.
+fn verdict_in(
+    alloc: Global,
+    script: &Named,
+    name: &[u8],
+    stamp: &[u8],
+    state: &[u8],
+    more: &[&[u8]],
+) -> Result<ReplyLine, LineFault>
+    ensures { Gives result (verdict_in script.now name.now stamp.now state.now (map (λ word. word.now) more.now)) }
+{
+    match more {
+        [] => {
+            if !is(state, b"begun") {
+                return Err(LineFault::Refused(ReportCause::Line));
+            }
+            begun_in(alloc, false, script, name, stamp)
+        }
+        [number] => {
+            if !is(state, b"committed") {
+                return Err(LineFault::Refused(ReportCause::Line));
+            }
+            committed_in(alloc, script, name, stamp, number)
+        }
+        [vertex, newer] => conflict_told(alloc, script, name, stamp, state, vertex, newer),
+        _ => refusal_in(alloc, script, name, stamp, state, more),
+    }
+}
+
+fn conflict_told(
+    alloc: Global,
+    script: &Named,
+    name: &[u8],
+    stamp: &[u8],
+    state: &[u8],
+    vertex: &[u8],
+    newer: &[u8],
+) -> Result<ReplyLine, LineFault>
+    ensures { Gives result (verdict_in script.now name.now stamp.now state.now (vertex.now ∷ newer.now ∷ [])) }
+{
+    if !is(state, b"conflict") {
+        return Err(LineFault::Refused(ReportCause::Line));
+    }
+    conflict_in(alloc, script, name, stamp, vertex, newer)
+}
+
+// A refusal, by the word that tells of it and those behind it.
+fn refusal_in(
+    alloc: Global,
+    script: &Named,
+    name: &[u8],
+    stamp: &[u8],
+    state: &[u8],
+    more: &[&[u8]],
+) -> Result<ReplyLine, LineFault>
+    ensures { Gives result (refusal_in script.now name.now stamp.now state.now (map (λ word. word.now) more.now)) }
+{
+    match more {
+        [op, reason, word, at] => {
+            if !is_refusal(state, word) {
+                return Err(LineFault::Refused(ReportCause::Line));
+            }
+            refused_in(alloc, script, name, stamp, op, reason, at)
+        }
+        _ => Err(LineFault::Refused(ReportCause::Line)),
+    }
+}
+
+// Whether these are the words of a refusal.
+fn is_refusal(state: &[u8], word: &[u8]) -> bool
+    ensures { result ≡ (bytes_eq state.now (codes "refused") && bytes_eq word.now (codes "at")) }
+{
+    is(state, b"refused") && is(word, b"at")
+}
+
+/// A program's reply, by the words behind `prog`.
+pub(crate) fn program_in(
+    alloc: Global,
+    script: &Named,
+    words: &[&[u8]],
+) -> Result<ReplyLine, LineFault>
+    ensures { Gives result (program_in script.now (map (λ word. word.now) words.now)) }
+{
+    match words {
+        [name, state] => {
+            if !is(state, b"unbegun") {
+                return Err(LineFault::Refused(ReportCause::Line));
+            }
+            unbegun_in(true, script, name)
+        }
+        [name, stamp, state, answer @ ..] => {
+            if is(state, b"done") {
+                return finished_in(alloc, script, name, stamp, answer);
+            }
+            if !(is(state, b"running") && answer.is_empty()) {
+                return Err(LineFault::Refused(ReportCause::Line));
+            }
+            begun_in(alloc, true, script, name, stamp)
+        }
+        _ => Err(LineFault::Refused(ReportCause::Line)),
+    }
+}
+
+fn unbegun_in(program: bool, script: &Named, name: &[u8]) -> Result<ReplyLine, LineFault>
+    ensures { Gives result (unbegun_in program script.now name.now) }
+{
+    let name = name_in(name)?;
+    let request = kind_named(program, script, name)?;
+    Ok(ReplyLine::Whole(Reply {
+        request,
+        stamp: None,
+        state: ReplyState::Unbegun,
+    }))
+}
+
+fn begun_in(
+    alloc: Global,
+    program: bool,
+    script: &Named,
+    name: &[u8],
+    stamp: &[u8],
+) -> Result<ReplyLine, LineFault>
+    ensures { Gives result (begun_in program script.now name.now stamp.now) }
+{
+    let name = name_in(name)?;
+    let stamp = stamp_in(alloc, script.gates(), stamp)?;
+    let request = kind_named(program, script, name)?;
+    Ok(ReplyLine::Whole(Reply {
+        request,
+        stamp: Some(stamp),
+        state: ReplyState::Begun,
+    }))
+}
+
+fn committed_in(
+    alloc: Global,
+    script: &Named,
+    name: &[u8],
+    stamp: &[u8],
+    number: &[u8],
+) -> Result<ReplyLine, LineFault>
+    ensures { Gives result (committed_in script.now name.now stamp.now number.now) }
+{
+    let name = name_in(name)?;
+    let stamp = stamp_in(alloc, script.gates(), stamp)?;
+    let number = number_in(number)?;
+    let request = kind_named(false, script, name)?;
+    let gets = gets_of(alloc, script, request)?;
+    Ok(ReplyLine::Committed(Commit {
+        request,
+        stamp,
+        number,
+        gets,
+    }))
+}
+
+fn conflict_in(
+    alloc: Global,
+    script: &Named,
+    name: &[u8],
+    stamp: &[u8],
+    vertex: &[u8],
+    newer: &[u8],
+) -> Result<ReplyLine, LineFault>
+    ensures { Gives result (conflict_in script.now name.now stamp.now vertex.now newer.now) }
+{
+    let name = name_in(name)?;
+    let stamp = stamp_in(alloc, script.gates(), stamp)?;
+    let vertex = name_in(vertex)?;
+    let newer = name_in(newer)?;
+    let request = kind_named(false, script, name)?;
+    let newer = any_named(script, newer)?;
+    Ok(ReplyLine::Whole(Reply {
+        request,
+        stamp: Some(stamp),
+        state: ReplyState::Conflict { vertex, newer },
+    }))
+}
+
+fn refused_in(
+    alloc: Global,
+    script: &Named,
+    name: &[u8],
+    stamp: &[u8],
+    op: &[u8],
+    reason: &[u8],
+    at: &[u8],
+) -> Result<ReplyLine, LineFault>
+    ensures { Gives result (refused_in script.now name.now stamp.now op.now reason.now at.now) }
+{
+    let name = name_in(name)?;
+    let stamp = stamp_in(alloc, script.gates(), stamp)?;
+    let op = small_number_in(op)?;
+    let reason = reason_in(reason)?;
+    let at = number_in(at)?;
+    let request = kind_named(false, script, name)?;
+    Ok(ReplyLine::Whole(Reply {
+        request,
+        stamp: Some(stamp),
+        state: ReplyState::Refused { op, reason, at },
+    }))
+}
+
+fn finished_in(
+    alloc: Global,
+    script: &Named,
+    name: &[u8],
+    stamp: &[u8],
+    answer: &[&[u8]],
+) -> Result<ReplyLine, LineFault>
+    ensures { Gives result (finished_in script.now name.now stamp.now (map (λ word. word.now) answer.now)) }
+{
+    let name = name_in(name)?;
+    match script.program(name) {
+        Some((request, program)) => finished(alloc, script, request, &program, stamp, answer),
+        None => {
+            let _stamp = stamp_in(alloc, script.gates(), stamp)?;
+            Err(LineFault::Refused(ReportCause::Request))
+        }
+    }
+}
+
+fn finished(
+    alloc: Global,
+    script: &Named,
+    request: u32,
+    program: &Program,
+    stamp: &[u8],
+    answer: &[&[u8]],
+) -> Result<ReplyLine, LineFault>
+    ensures { Gives result (finished_by (Some (request, program.now)) script.now stamp.now (map (λ word. word.now) answer.now)) }
+{
+    if !is_answer_form(program, answer) {
+        return Err(LineFault::Refused(ReportCause::Line));
+    }
+    let stamp = stamp_in(alloc, script.gates(), stamp)?;
+    let answer = answer_in(alloc, program, answer)?;
+    Ok(ReplyLine::Whole(Reply {
+        request,
+        stamp: Some(stamp),
+        state: ReplyState::Finished(answer),
+    }))
+}
+
+/// What a `get` read, by its line, where it is to be this operation.
+pub(crate) fn got_in(alloc: Global, op: u32, words: &[&[u8]]) -> Result<Got, LineFault>
+    ensures { Gives result (got_in op (map (λ word. word.now) words.now)) }
+{
+    match words {
+        [word, number, state @ ..] if is(word, b"got") && is_state_form(state) => {
+            this_number_in(u64::from(op), number)?;
+            let state = state_in(alloc, state)?;
+            Ok(Got { op, state })
+        }
+        _ => Err(LineFault::Refused(ReportCause::Line)),
+    }
+}
