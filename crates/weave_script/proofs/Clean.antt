@@ -1,90 +1,154 @@
--- The lines of a script of the first form have no spaces and line feeds inside their words.
-use Rattle.std.proofs.Common.{◌≡◌, ℕ, true, false, ◌==◌, List, [], ◌∷◌, ◌++◌, map, refl, sym, ap, ◌∙◌, subst, lit<}
-use Rattle.std.specs.Prelude.{IsTrue, ◌&&◌, nat_le, length, codes}
+-- The lines of a script have clean words.
+use Rattle.std.proofs.Common.{◌≡◌, ℕ, ◌+◌, ◌≤◌, ◌<◌, ◌^◌, Bool, true, false, ◌&&◌, List, [], ◌∷◌, ◌++◌, map, Option, Some, None, refl, arith}
+use Rattle.std.specs.Prelude.{IsTrue, length, codes}
 use Rattle.std.specs.Fmt.{decimal}
-use Rattle.std.specs.List.{flat_map, list_any, list_all, AllByRecursion}
-use Rattle.std.proofs.lemmas.Bool.{and_parts, or_from, eqb-true, false_from_ne_true, both_ways}
-use Rattle.std.proofs.lemmas.Fmt.{decimal_digit}
-use Rattle.weave_data.specs.Names.{is_name, is_name_byte}
+use Rattle.std.specs.List.{AllByRecursion, list_all}
+use Rattle.weave_data.specs.Names.{is_name}
 use Rattle.graph_ops.specs.declared.op.Op.{Op}
 use Rattle.graph_ops.specs.declared.op.Op.TheVariants.{Create, Delete, Set, Unset, Link, Unlink, Tag, Untag, Get}
+use Rattle.program_defs.specs.declared.program.Filter.{Filter}
+use Rattle.program_defs.specs.declared.program.Program.{Program}
+use Rattle.program_defs.specs.declared.program.Program.TheVariants.{Show, Reach, Around, Path}
 use Rattle.program_defs.specs.declared.script.Request.{Request}
 use Rattle.program_defs.specs.declared.script.Script.{Script}
-use Rattle.weave_report.specs.PlainRun.{ops_of}
-use Rattle.weave_script.specs.Lines.{Line}
-use Rattle.weave_script.specs.ScriptLines.{op_line, opening_line, end_line, transaction_lines, header_line, script_lines}
-use Rattle.weave_script.specs.FirstForm.{IsFirstOperation, IsFirstTransaction, IsFirstForm}
-use Rattle.weave_script.proofs.Joined.{IsClean, IsCleanLine}
+use Rattle.program_defs.specs.declared.script.Step.{Step}
+use Rattle.program_defs.specs.declared.script.Step.TheVariants.{Begin, Judge, Send, Say, Hear, Nop, Deliver, Apply, Visit, Reply, Collect, Epoch}
+use Rattle.program_defs.specs.declared.script.Work.{Work}
+use Rattle.program_defs.specs.declared.script.Work.TheVariants.{Change, Look}
+use Rattle.weave_text.specs.Cutting.{is_clean, is_clean_line}
+use Rattle.weave_text.specs.Lines.{Word, Line}
+use Rattle.weave_script.specs.ScriptLines.{op_line, end_line, filter_words, program_words, work_lines, request_lines, phase_lines, due_phases, later_phases, item_lines, step_line, steps_lines, script_lines, name_of_request}
+use Rattle.weave_script.specs.Scripts.{IsName, IsOperation, IsFilter, IsProgram, IsWork, IsRequest, IsStep, IsScript, steps_of}
+use Rattle.weave_script.proofs.Places.{request_is_named}
 
--- a byte that stands in no name
-letters_lack : (byte : ℕ) → is_name_byte byte ≡ false → (bytes : List ℕ) → list_all is_name_byte bytes ≡ true → list_any (λ b. b == byte) bytes ≡ false
-letters_lack byte none [] h = refl
-letters_lack byte none (b ∷ bytes) h =
-    let both = and_parts (is_name_byte b) (list_all is_name_byte bytes) h in
-    let other : (b == byte) ≡ false = false_from_ne_true (b == byte) (λ e. both_ways (is_name_byte byte) none (sym (ap is_name_byte (eqb-true b byte e)) ∙ both.0)) in
-    or_from _ _ other (letters_lack byte none bytes both.1)
+-- names and numbers of 64 bits are clean words
+pub record CleanLaws : Type 0 where
+  pub name : (word : Word) → IsTrue (is_name word) → IsTrue (is_clean word)
+  pub number : (n : ℕ) → n < 2 ^ 64 → IsTrue (is_clean (decimal n))
 
-pub name_is_clean : (word : List ℕ) → IsTrue (is_name word) → IsClean word
-name_is_clean word h =
-    let letters = (and_parts (nat_le 1 (length word) && nat_le (length word) 32) (list_all is_name_byte word) h).1 in
-    record { space = record { none = letters_lack 32 refl word letters }; feed = record { none = letters_lack 10 refl word letters } }
+abbrev IsClean : Word → Type 0
+IsClean word = is_clean word ≡ true
 
--- the one digit of 0 and of 1
-pub decimal-zero : decimal 0 ≡ codes "0"
-decimal-zero = decimal_digit 0 (lit< tt)
+abbrev pub IsCleanLine : Line → Type 0
+IsCleanLine line = is_clean_line line ≡ true
 
-pub decimal-one : decimal 1 ≡ codes "1"
-decimal-one = decimal_digit 1 (lit< tt)
+both : (a b : Bool) → a ≡ true → b ≡ true → (a && b) ≡ true
+both true b h k = k
+both false b h k = absurd cc
 
-fixed : (word : List ℕ) → list_any (λ b. b == 32) word ≡ false → list_any (λ b. b == 10) word ≡ false → IsClean word
-fixed word space feed = record { space = record { none = space }; feed = record { none = feed } }
+all_true : {A : Type 0} (test : A → Bool) (xs : List A) → AllByRecursion (λ x. test x ≡ true) xs → list_all test xs ≡ true
+all_true test [] h = refl
+all_true test (x ∷ xs) h = both (test x) (list_all test xs) h.0 (all_true test xs h.1)
 
-op_is_clean : (op : Op) → IsFirstOperation op → IsCleanLine (op_line op)
-op_is_clean (Create v) h = (fixed (codes "create") refl refl, (name_is_clean v h, tt))
-op_is_clean (Set v key value) h = (fixed (codes "set") refl refl, (name_is_clean v h.0, (name_is_clean key h.1, (name_is_clean value h.2, tt))))
-op_is_clean (Get v) h = (fixed (codes "get") refl refl, (name_is_clean v h, tt))
-op_is_clean (Delete v) h = absurd h
-op_is_clean (Unset v key) h = absurd h
-op_is_clean (Link v edge target) h = absurd h
-op_is_clean (Unlink v edge) h = absurd h
-op_is_clean (Tag v edge key value) h = absurd h
-op_is_clean (Untag v edge key) h = absurd h
+words_clean : (words : List Word) → AllByRecursion IsClean words → list_all is_clean words ≡ true
+words_clean words h = all_true is_clean words h
 
--- the line that begins a transaction of the first form
-pub opening_line-first : (request : Request) → IsFirstTransaction request → opening_line request ≡ codes "tx" ∷ request.name ∷ codes "0" ∷ codes "0" ∷ []
-opening_line-first request h =
-    ap (λ n. codes "tx" ∷ request.name ∷ decimal n ∷ decimal request.gate ∷ []) h.session
-    ∙ ap (λ n. codes "tx" ∷ request.name ∷ decimal 0 ∷ decimal n ∷ []) h.plain.0
-    ∙ ap (λ word. codes "tx" ∷ request.name ∷ word ∷ word ∷ []) decimal-zero
+All-append : {A : Type 0} (P : A → Type 0) (xs ys : List A) → AllByRecursion P xs → AllByRecursion P ys → AllByRecursion P (xs ++ ys)
+All-append P [] ys h k = k
+All-append P (x ∷ xs) ys h k = (h.0, All-append P xs ys h.1 k)
 
-pub header_line-first : (script : Script) → IsFirstForm script → header_line script ≡ codes "weaver" ∷ codes "1" ∷ codes "1" ∷ codes "1" ∷ []
-header_line-first script h =
-    ap (λ n. codes "weaver" ∷ codes "1" ∷ decimal n ∷ decimal script.shards ∷ []) h.gates
-    ∙ ap (λ n. codes "weaver" ∷ codes "1" ∷ decimal 1 ∷ decimal n ∷ []) h.shards
-    ∙ ap (λ word. codes "weaver" ∷ codes "1" ∷ word ∷ word ∷ []) decimal-one
+module _ (laws : CleanLaws) where
+  name : (word : Word) → IsName word → IsClean word
+  name word h = laws.name word h
 
-ops_are_clean : (ops : List Op) → AllByRecursion IsFirstOperation ops → (rest : List Line) → AllByRecursion IsCleanLine rest → AllByRecursion IsCleanLine (map op_line ops ++ rest)
-ops_are_clean [] h rest k = k
-ops_are_clean (op ∷ ops) h rest k = (op_is_clean op h.0, ops_are_clean ops h.1 rest k)
+  small : (n most : ℕ) → n ≤ most → most ≤ 1000000 → IsClean (decimal n)
+  small n most h k = laws.number n (omega arith)
 
-append_clean : (lines rest : List Line) → AllByRecursion IsCleanLine lines → AllByRecursion IsCleanLine rest → AllByRecursion IsCleanLine (lines ++ rest)
-append_clean [] rest h k = k
-append_clean (line ∷ lines) rest h k = (h.0, append_clean lines rest h.1 k)
+  op_clean : (op : Op) → IsOperation op → IsCleanLine (op_line op)
+  op_clean (Create v) h = words_clean (v ∷ []) (name v h, tt)
+  op_clean (Delete v) h = words_clean (v ∷ []) (name v h, tt)
+  op_clean (Get v) h = words_clean (v ∷ []) (name v h, tt)
+  op_clean (Unset v key) h = words_clean (v ∷ key ∷ []) (name v h.0, (name key h.1, tt))
+  op_clean (Unlink v edge) h = words_clean (v ∷ edge ∷ []) (name v h.0, (name edge h.1, tt))
+  op_clean (Set v key value) h = words_clean (v ∷ key ∷ value ∷ []) (name v h.0, (name key h.1, (name value h.2, tt)))
+  op_clean (Link v edge target) h = words_clean (v ∷ edge ∷ target ∷ []) (name v h.0, (name edge h.1, (name target h.2, tt)))
+  op_clean (Untag v edge key) h = words_clean (v ∷ edge ∷ key ∷ []) (name v h.0, (name edge h.1, (name key h.2, tt)))
+  op_clean (Tag v edge key value) h = words_clean (v ∷ edge ∷ key ∷ value ∷ []) (name v h.0, (name edge h.1, (name key h.2, (name value h.3, tt))))
 
-transaction_is_clean : (request : Request) → IsFirstTransaction request → AllByRecursion IsCleanLine (transaction_lines request)
-transaction_is_clean request h =
-    let zero = fixed (codes "0") refl refl in
-    let opening : IsCleanLine (codes "tx" ∷ request.name ∷ codes "0" ∷ codes "0" ∷ []) = (fixed (codes "tx") refl refl, (name_is_clean request.name h.name, (zero, (zero, tt)))) in
-    (subst IsCleanLine (sym (opening_line-first request h)) opening, ops_are_clean (ops_of request.work) h.each (end_line ∷ []) ((fixed (codes "end") refl refl, tt), tt))
+  ops_clean : (ops : List Op) → AllByRecursion IsOperation ops → AllByRecursion IsCleanLine (map op_line ops)
+  ops_clean [] h = tt
+  ops_clean (op ∷ ops) h = (op_clean op h.0, ops_clean ops h.1)
 
-transactions_are_clean : (requests : List Request) → AllByRecursion IsFirstTransaction requests → AllByRecursion IsCleanLine (flat_map transaction_lines requests)
-transactions_are_clean [] h = tt
-transactions_are_clean (request ∷ requests) h =
-    append_clean (transaction_lines request) (flat_map transaction_lines requests) (transaction_is_clean request h.0) (transactions_are_clean requests h.1)
+  filter_clean : (pass : Option Filter) → IsFilter pass → AllByRecursion IsClean (filter_words pass)
+  filter_clean None h = tt
+  filter_clean (Some filter) h = (refl, (name filter.key h.0, (name filter.value h.1, tt)))
 
--- each line of a script of the first form
-pub script_is_clean : (script : Script) → IsFirstForm script → AllByRecursion IsCleanLine (script_lines script)
-script_is_clean script h =
-    let one = fixed (codes "1") refl refl in
-    let header : IsCleanLine (codes "weaver" ∷ codes "1" ∷ codes "1" ∷ codes "1" ∷ []) = (fixed (codes "weaver") refl refl, (one, (one, (one, tt)))) in
-    (subst IsCleanLine (sym (header_line-first script h)) header, transactions_are_clean script.requests h.each)
+  program_clean : (program : Program) → IsProgram program → AllByRecursion IsClean (program_words program)
+  program_clean (Show v) h = (refl, (name v h, tt))
+  program_clean (Reach from to pass) h = (refl, (name from h.0, (name to h.1, filter_clean pass h.2)))
+  program_clean (Around from bound pass) h = (refl, (name from h.0, (small bound 1000 h.1 (omega arith), filter_clean pass h.2)))
+  program_clean (Path from to bound pass) h = (refl, (name from h.0, (name to h.1, (small bound 1000 h.2 (omega arith), filter_clean pass h.3))))
+
+  work_clean : (gates : ℕ) → gates ≤ 8 → (request : Request) (work : Work) → IsRequest gates request → IsWork work → AllByRecursion IsCleanLine (work_lines request.name request.session request.gate work)
+  work_clean gates few request work is h = go work h
+    where
+      session : is_clean (decimal request.session) ≡ true
+      session = small request.session 63 is.session (omega arith)
+
+      gate : is_clean (decimal request.gate) ≡ true
+      gate = laws.number request.gate (omega (arith, is.gate))
+
+      go : (work : Work) → IsWork work → AllByRecursion IsCleanLine (work_lines request.name request.session request.gate work)
+      go (Change ops) h = (
+        words_clean (request.name ∷ decimal request.session ∷ decimal request.gate ∷ []) (name request.name is.name, (session, (gate, tt))),
+        All-append IsCleanLine (map op_line ops) (end_line ∷ []) (ops_clean ops h.0) (refl, tt),
+      )
+      go (Look program) h =
+          (words_clean (request.name ∷ decimal request.session ∷ decimal request.gate ∷ program_words program) (name request.name is.name, (session, (gate, program_clean program h))), tt)
+
+  phases_clean : (phases : List ℕ) → AllByRecursion IsCleanLine (phase_lines phases)
+  phases_clean [] = tt
+  phases_clean (phase ∷ phases) = (refl, phases_clean phases)
+
+  items_clean : (gates : ℕ) → gates ≤ 8 → (n : ℕ) (requests : List Request) (phases : List ℕ) → AllByRecursion (IsRequest gates) requests → AllByRecursion IsCleanLine (item_lines n requests phases)
+  items_clean gates few n [] phases h = phases_clean phases
+  items_clean gates few n (request ∷ requests) phases h =
+      All-append IsCleanLine (phase_lines (due_phases n phases) ++ request_lines request) (item_lines (n + 1) requests (later_phases n phases))
+      (All-append IsCleanLine (phase_lines (due_phases n phases)) (request_lines request) (phases_clean (due_phases n phases)) (work_clean gates few request request.work h.0 h.0.work))
+      (items_clean gates few (n + 1) requests (later_phases n phases) h.1)
+
+  step_clean : (gates shards : ℕ) (requests : List Request) → gates ≤ 8 → shards ≤ 16 → AllByRecursion (IsRequest gates) requests → (step : Step) → IsStep gates shards (length requests) step → IsCleanLine (step_line requests step)
+  step_clean gates shards requests few few_shards all step h = go step h
+    where
+      gate : (n : ℕ) → n < gates → is_clean (decimal n) ≡ true
+      gate n k = laws.number n (omega arith)
+
+      shard : (n : ℕ) → n < shards → is_clean (decimal n) ≡ true
+      shard n k = laws.number n (omega arith)
+
+      named : (n : ℕ) → n < length requests → is_clean (name_of_request requests n) ≡ true
+      named n k = name (name_of_request requests n) (request_is_named gates requests n all k)
+
+      go : (step : Step) → IsStep gates shards (length requests) step → IsCleanLine (step_line requests step)
+      go (Begin request) h = words_clean (name_of_request requests request ∷ []) (named request h, tt)
+      go (Judge n) h = words_clean (decimal n ∷ []) (gate n h, tt)
+      go (Send n) h = words_clean (decimal n ∷ []) (gate n h, tt)
+      go (Say n) h = words_clean (decimal n ∷ []) (gate n h, tt)
+      go (Hear n notice) h = words_clean (decimal n ∷ decimal notice ∷ []) (gate n h.0, (small notice 100000 h.1.1 (omega arith), tt))
+      go (Nop n m) h = words_clean (decimal n ∷ decimal m ∷ []) (gate n h.0, (shard m h.1, tt))
+      go (Deliver n m number) h = words_clean (decimal n ∷ decimal m ∷ decimal number ∷ []) (gate n h.0, (shard m h.1, (small number 100000 h.2.1 (omega arith), tt)))
+      go (Apply m n) h = words_clean (decimal m ∷ decimal n ∷ []) (shard m h.0, (gate n h.1, tt))
+      go (Visit request) h = words_clean (name_of_request requests request ∷ []) (named request h, tt)
+      go (Reply request) h = words_clean (name_of_request requests request ∷ []) (named request h, tt)
+      go (Collect m) h = words_clean (decimal m ∷ []) (shard m h, tt)
+      go (Epoch n epoch) h = words_clean (decimal n ∷ decimal epoch ∷ []) (gate n h.0, (small epoch 1000000 h.2 (omega arith), tt))
+
+  each_step_clean : (gates shards : ℕ) (requests : List Request) → gates ≤ 8 → shards ≤ 16 → AllByRecursion (IsRequest gates) requests → (steps : List Step)
+      → AllByRecursion (IsStep gates shards (length requests)) steps → AllByRecursion IsCleanLine (map (step_line requests) steps)
+  each_step_clean gates shards requests few few_shards all [] h = tt
+  each_step_clean gates shards requests few few_shards all (step ∷ steps) h =
+      (step_clean gates shards requests few few_shards all step h.0, each_step_clean gates shards requests few few_shards all steps h.1)
+
+  steps_clean : (gates shards : ℕ) (requests : List Request) → gates ≤ 8 → shards ≤ 16 → AllByRecursion (IsRequest gates) requests → (steps : Option (List Step))
+      → AllByRecursion (IsStep gates shards (length requests)) (steps_of steps) → AllByRecursion IsCleanLine (steps_lines requests steps)
+  steps_clean gates shards requests few few_shards all None h = tt
+  steps_clean gates shards requests few few_shards all (Some steps) h = (refl, each_step_clean gates shards requests few few_shards all steps h)
+
+  -- every line of a script is clean
+  pub script_is_clean : (script : Script) → IsScript script → IsTrue (list_all is_clean_line (script_lines script))
+  script_is_clean script h =
+      all_true is_clean_line (script_lines script) (
+        words_clean (codes "1" ∷ decimal script.gates ∷ decimal script.shards ∷ []) (refl, (small script.gates 8 h.gates.1 (omega arith), (small script.shards 16 h.shards.1 (omega arith), tt))),
+        All-append IsCleanLine (item_lines 0 script.requests script.phases) (steps_lines script.requests script.steps) (items_clean script.gates h.gates.1 0 script.requests script.phases h.requests)
+            (steps_clean script.gates script.shards script.requests h.gates.1 h.shards.1 h.requests script.steps h.steps),
+      )

@@ -1,158 +1,291 @@
--- Whatever lines are read are those of the requests that are made of them, and these are of the first form.
-use Rattle.std.proofs.Common.{◌≡◌, ◌<◌, ◌≤◌, true, false, ◌||◌, cond, inl, inr, List, [], ◌∷◌, ◌++◌, length, map, Some, None, refl, sym, ap, ◌∙◌, subst, append_assoc, arith}
-use Rattle.std.specs.Prelude.{IsTrue, nat_le}
-use Rattle.std.specs.List.{flat_map, AllByRecursion, IsDistinct}
-use Rattle.std.proofs.lemmas.Bool.{or_parts, leb-false}
+-- What the lines of a text that are read lead to: a script of which these are the lines.
+use Rattle.std.proofs.Common.{◌≡◌, ℕ, ◌≤◌, true, cond, List, [], ◌∷◌, ◌++◌, map, length, Option, Some, None, Ok, Err, refl, sym, ap, ◌∙◌, subst, append_assoc, arith}
+use Rattle.std.specs.Prelude.{codes, is_some}
+use Rattle.std.specs.List.{AllByRecursion, IsDistinct}
+use Rattle.std.specs.Str.{bytes_eq}
 use Rattle.std.proofs.lemmas.List.{append-nil, length_push, map-append}
-use Rattle.std.proofs.lemmas.List.Concat.{flat_map-append}
-use Rattle.std.proofs.lemmas.Option.{cond_some}
-use Rattle.weave_data.specs.Names.{is_name, same_name}
+use Rattle.weave_data.specs.Names.{same_name}
 use Rattle.weave_data.specs.declared.name.Name.{Name}
 use Rattle.graph_ops.specs.declared.op.Op.{Op}
 use Rattle.program_defs.specs.declared.script.Request.{Request}
-use Rattle.program_defs.specs.declared.script.Work.TheVariants.{Change}
-use Rattle.weave_script.specs.declared.limits.TheConstants.{MOST_REQUESTS, MOST_OPS}
+use Rattle.program_defs.specs.declared.script.Script.{Script}
+use Rattle.program_defs.specs.declared.script.Step.{Step}
+use Rattle.program_defs.specs.declared.script.Work.TheVariants.{Change, Look}
+use Rattle.weave_text.specs.Lines.{Word, Line}
+use Rattle.weave_script.specs.declared.fault.Cause.{Cause}
+use Rattle.weave_script.specs.declared.fault.Cause.TheVariants as causes
+use Rattle.weave_script.specs.declared.reading.Opening.{Opening}
 use Rattle.weave_script.specs.declared.reading.Place.{Place}
-use Rattle.weave_script.specs.declared.reading.Place.TheVariants.{Start, Between, Inside}
+use Rattle.weave_script.specs.declared.reading.Place.TheVariants.{Start, Between, Inside, Behind}
 use Rattle.weave_script.specs.declared.reading.Reading.{Reading}
-use Rattle.weave_script.specs.Lines.{Line}
-use Rattle.weave_script.specs.ScriptLines.{op_line, end_line, transaction_lines}
-use Rattle.weave_script.specs.FirstForm.{IsFirstOperation, IsFirstTransaction, names_of}
-use Rattle.weave_script.specs.Reading.{◌>>=◌, is_header, name_of_opening, is_end, op_of, is_taken, after_header, after_opening, after_line_at, after_lines}
-use Rattle.weave_script.proofs.Clean.{opening_line-first}
-use Rattle.weave_script.proofs.FirstRead.{some_is, bind_some, chosen, unless, first_header, first_opening, header_read, opening_read, end_read, op_read}
+use Rattle.weave_script.specs.Fields.{Read, ◌>>=◌}
+use Rattle.weave_script.specs.HeaderLine.{header_of}
+use Rattle.weave_script.specs.Limits.{over_limit}
+use Rattle.weave_script.specs.OpLines.{op_of}
+use Rattle.weave_script.specs.ReadText.{script_at, script_with}
+use Rattle.weave_script.specs.Reading.{counts_so_far, unless_taken, after_tx, after_prog, after_phase, after_steps, after_item, after_header, after_line_inside, after_step, after_line_at, unless_met, within_limits, after_line}
+use Rattle.weave_script.specs.RequestLines.{request_of, tx_of, prog_of}
+use Rattle.weave_script.specs.ScriptLines.{header_line, op_line, opening_line, end_line, request_lines, phase_line, item_lines, step_line, steps_line, script_lines}
+use Rattle.weave_script.specs.Scripts.{IsOperation, IsRequest, IsStep, RiseTo, IsScript, names_of}
+use Rattle.weave_script.specs.StepLines.{place_of, step_of}
+use Rattle.weave_script.proofs.Binds.{bind_ok, pick, ok_is, is_word}
+use Rattle.weave_script.proofs.FieldLaws.{NumberLaws}
+use Rattle.weave_script.proofs.HeaderLaws.{AreSizes, header_of-ok}
+use Rattle.weave_script.proofs.Items.{item_lines-push_request, item_lines-push_phase}
+use Rattle.weave_script.proofs.LimitLaws.{within-few}
+use Rattle.weave_script.proofs.OpLaws.{op_of-ok, is_end-ok}
+use Rattle.weave_script.proofs.Phases.{rising-at_most, rise_further, rise-push}
+use Rattle.weave_script.proofs.Places.{IsFree, free-from_place_of, distinct-push}
+use Rattle.weave_script.proofs.RequestLaws.{IsOpening, tx_of-ok, prog_of-ok}
+use Rattle.weave_script.proofs.StepLaws.{step_of-ok}
 
--- the lines that were read so far
-abbrev pub lines_so_far : Place → List Request → List Line
-lines_so_far Start requests = []
-lines_so_far Between requests = first_header ∷ flat_map transaction_lines requests
-lines_so_far (Inside name ops) requests = first_header ∷ flat_map transaction_lines requests ++ first_opening name ∷ map op_line ops
+-- a script so far
+abbrev pub at : ℕ → ℕ → List Request → List ℕ → Place → Reading
+at gates shards requests phases place = record { gates = gates; shards = shards; requests = requests; phases = phases; place = place }
 
--- the requests of a script of the first form
-pub record AreFirst (requests : List Request) : Type 0 where
-  pub few : length requests ≤ MOST_REQUESTS
-  pub each : AllByRecursion IsFirstTransaction requests
+-- its header, requests and phases are those of a script
+pub record AreGood (n m : ℕ) (requests : List Request) (phases : List ℕ) : Type 0 where
+  pub sizes : AreSizes n m
+  pub each : AllByRecursion (IsRequest n) requests
   pub distinct : IsDistinct same_name (names_of requests)
+  pub rising : RiseTo 0 (length requests) phases
 
--- and a transaction that may still grow
-pub record AreFirstInside (requests : List Request) (name : Name) (ops : List Op) : Type 0 where
-  pub before : AreFirst requests
-  pub room : length requests < MOST_REQUESTS
-  pub named : IsTrue (is_name name)
-  pub free : is_taken name requests ≡ false
-  pub few : length ops ≤ MOST_OPS
-  pub each : AllByRecursion IsFirstOperation ops
+-- a transaction has begun, with these operations so far
+pub record IsOpen (n : ℕ) (requests : List Request) (opening : Opening) (ops : List Op) : Type 0 where
+  pub opened : IsOpening n opening
+  pub free : IsFree opening.name requests
+  pub each : AllByRecursion IsOperation ops
 
-abbrev pub IsReached : Place → List Request → Type 0
-IsReached Start requests = requests ≡ []
-IsReached Between requests = AreFirst requests
-IsReached (Inside name ops) requests = AreFirstInside requests name ops
+-- the script so far can become one
+abbrev pub IsGood : ℕ → ℕ → List Request → List ℕ → Place → Type 0
+IsGood n m requests phases Start = (n ≡ 0) × (m ≡ 0) × (requests ≡ []) × (phases ≡ [])
+IsGood n m requests phases Between = AreGood n m requests phases
+IsGood n m requests phases (Inside opening ops) = AreGood n m requests phases × IsOpen n requests opening ops
+IsGood n m requests phases (Behind steps) = AreGood n m requests phases × AllByRecursion (IsStep n m (length requests)) steps
 
--- from old, these lines led to new
-pub record Leads (place : Place) (requests : List Request) (lines : List Line) (new : Reading) : Type 0 where
-  pub reached : IsReached new.place new.requests
-  pub told : lines_so_far new.place new.requests ≡ lines_so_far place requests ++ lines
+-- the lines of what stands before the place
+abbrev pub front_lines : ℕ → ℕ → List Request → List ℕ → List Line
+front_lines n m requests phases = header_line n m ∷ item_lines 0 requests phases
+
+-- the lines of the script so far
+abbrev pub lines_so_far : ℕ → ℕ → List Request → List ℕ → Place → List Line
+lines_so_far n m requests phases Start = []
+lines_so_far n m requests phases Between = front_lines n m requests phases
+lines_so_far n m requests phases (Inside opening ops) = front_lines n m requests phases ++ opening_line opening.name opening.session opening.gate ∷ map op_line ops
+lines_so_far n m requests phases (Behind steps) = front_lines n m requests phases ++ steps_line ∷ map (step_line requests) steps
+
+abbrev pub IsGoodReading : Reading → Type 0
+IsGoodReading reading = IsGood reading.gates reading.shards reading.requests reading.phases reading.place
+
+abbrev pub lines_of_reading : Reading → List Line
+lines_of_reading reading = lines_so_far reading.gates reading.shards reading.requests reading.phases reading.place
+
+-- these lines and one more led to the next reading
+pub record Leads (lines : List Line) (line : Line) (next : Reading) : Type 0 where
+  pub good : IsGoodReading next
+  pub told : lines_of_reading next ≡ lines ++ line ∷ []
 
 All-push : {A : Type 0} (P : A → Type 0) (xs : List A) (x : A) → AllByRecursion P xs → P x → AllByRecursion P (xs ++ x ∷ [])
 All-push P [] x h k = (k, tt)
 All-push P (y ∷ xs) x h k = (h.0, All-push P xs x h.1 k)
 
-distinct-push : (requests : List Request) (request : Request) → IsDistinct same_name (names_of requests) → is_taken request.name requests ≡ false
-    → IsDistinct same_name (names_of (requests ++ request ∷ []))
-unfolding IsDistinct
-distinct-push [] request h free = (tt, tt)
-distinct-push (other ∷ requests) request h free =
-    let parts = or_parts (same_name other.name request.name) (is_taken request.name requests) free in
-    (differs requests h.0 parts.0, distinct-push requests request h.1 parts.1)
+free_name : {A : Type 0} (name : Name) (requests : List Request) (value next : A) → unless_taken name requests value ≡ Ok next → IsFree name requests × (value ≡ next)
+free_name name requests value next e = go (place_of name requests) refl e
   where
-    differs : (others : List Request) → AllByRecursion (λ name. same_name other.name name ≡ false) (names_of others) → same_name other.name request.name ≡ false
-        → AllByRecursion (λ name. same_name other.name name ≡ false) (names_of (others ++ request ∷ []))
-    differs [] k e = (e, tt)
-    differs (next ∷ others) k e = (k.0, differs others k.1 e)
+    go : (found : Option ℕ) → place_of name requests ≡ found → cond (is_some found) (Err causes.Taken) (Ok value) ≡ Ok next → IsFree name requests × (value ≡ next)
+    go None h e = (free-from_place_of name requests h, ok_is {E = Cause} value next e)
+    go (Some n) h e = absurd cc
 
-none_is_first : AreFirst []
+-- one more request
+request_good : (n m : ℕ) (requests : List Request) (phases : List ℕ) (request : Request) → AreGood n m requests phases → IsRequest n request → IsFree request.name requests
+    → AreGood n m (requests ++ request ∷ []) phases × (front_lines n m (requests ++ request ∷ []) phases ≡ front_lines n m requests phases ++ request_lines request)
+request_good n m requests phases request good is free = (
+  record {
+    sizes = good.sizes;
+    each = All-push (IsRequest n) requests request good.each is;
+    distinct = distinct-push requests request good.distinct free;
+    rising = rise_further 0 (length requests) (length (requests ++ request ∷ [])) phases (omega (arith, length_push requests request)) good.rising;
+  },
+  ap (λ lines. header_line n m ∷ lines) (item_lines-push_request 0 (length requests) requests request phases (omega arith) (rising-at_most 0 (length requests) phases good.rising)),
+)
+
+-- after the header
+none_good : (n m : ℕ) → AreSizes n m → AreGood n m [] []
 unfolding IsDistinct
-none_is_first = record { few = omega arith; each = tt; distinct = tt }
+none_good n m sizes = record { sizes = sizes; each = tt; distinct = tt; rising = tt }
 
-header_leads : (requests : List Request) (line : Line) (new : Reading) → requests ≡ [] → after_header requests line ≡ Some new → Leads Start requests (line ∷ []) new
-header_leads requests line new none e =
-    let parts = cond_some (is_header line) (record { requests = requests; place = Between }) new e in
-    let lines : first_header ∷ flat_map transaction_lines requests ≡ line ∷ [] = ap (λ requests. first_header ∷ flat_map transaction_lines requests) none ∙ ap (λ line. line ∷ []) (sym (header_read line parts.0)) in
-    subst (Leads Start requests (line ∷ [])) parts.1 (record { reached = subst AreFirst (sym none) none_is_first; told = lines })
+-- after all these lines
+abbrev pub after_lines : Reading → List Line → Read Reading
+after_lines reading [] = Ok reading
+after_lines reading (line ∷ lines) = after_line reading line >>= λ next. after_lines next lines
 
-opening_leads : (requests : List Request) (line : Line) (new : Reading) → AreFirst requests → after_opening requests line ≡ Some new → Leads Between requests (line ∷ []) new
-opening_leads requests line new first e =
-    let step = bind_some (name_of_opening line) (λ name. cond (nat_le MOST_REQUESTS (length requests) || is_taken name requests) None (Some (record { requests = requests; place = Inside name [] }))) new e in
-    let name = step.0 in
-    let opened = opening_read line name step.1 in
-    let tests = unless (nat_le MOST_REQUESTS (length requests) || is_taken name requests) (record { requests = requests; place = Inside name [] }) new step.2 in
-    let both = or_parts (nat_le MOST_REQUESTS (length requests)) (is_taken name requests) tests.0 in
-    subst (Leads Between requests (line ∷ [])) tests.1 (record {
-      reached = record { before = first; room = leb-false MOST_REQUESTS (length requests) both.0; named = opened.0; free = both.1; few = omega arith; each = tt };
-      told = ap (λ line. first_header ∷ flat_map transaction_lines requests ++ line ∷ []) (sym opened.1);
-    })
+kept : (reading next : Reading) → within_limits reading ≡ Ok next → (over_limit (counts_so_far next) ≡ None) × (reading ≡ next)
+kept reading next e = go (over_limit (counts_so_far reading)) refl e
+  where
+    go : (found : Option Cause) → over_limit (counts_so_far reading) ≡ found → unless_met reading found ≡ Ok next → (over_limit (counts_so_far next) ≡ None) × (reading ≡ next)
+    go None h e =
+        let same : reading ≡ next = ok_is {E = Cause} reading next e in
+        (subst (λ r. over_limit (counts_so_far r) ≡ None) same h, same)
+    go (Some cause) h e = absurd cc
 
--- the transaction that ends
-abbrev made : Name → List Op → Request
-made name ops = record { name = name; session = 0; gate = 0; work = Change ops }
+-- the script so far is good and has these lines
+pub record Led (lines : List Line) (last : Reading) : Type 0 where
+  pub good : IsGoodReading last
+  pub within : over_limit (counts_so_far last) ≡ None
+  pub told : lines_of_reading last ≡ lines
 
-made_is_first : (requests : List Request) (name : Name) (ops : List Op) → AreFirstInside requests name ops → IsFirstTransaction (made name ops)
-made_is_first requests name ops h = record { name = h.named; session = refl; plain = (refl, tt); few = h.few; each = h.each }
+module _ (laws : NumberLaws) where
+  header_leads : (n m : ℕ) (requests : List Request) (phases : List ℕ) (line : Line) (next : Reading) → IsGood n m requests phases Start
+      → after_header (at n m requests phases Start) line ≡ Ok next → Leads [] line next
+  header_leads n m requests phases line next good e =
+      let step = bind_ok (header_of line) (λ counts. Ok (at counts.0 counts.1 requests phases Between)) next e in
+      let header = header_of-ok laws line step.0.0 step.0.1 step.1 in
+      subst (Leads [] line) (ok_is {E = Cause} (at step.0.0 step.0.1 requests phases Between) next step.2)
+      (subst (λ rs. Leads [] line (at step.0.0 step.0.1 rs phases Between)) (sym good.2)
+      (subst (λ ps. Leads [] line (at step.0.0 step.0.1 [] ps Between)) (sym good.3)
+      (record { good = none_good step.0.0 step.0.1 header.0; told = ap (λ line. line ∷ []) (sym header.1) })))
 
-end_leads : (requests : List Request) (name : Name) (ops : List Op) (line : Line) → AreFirstInside requests name ops → is_end line ≡ true
-    → Leads (Inside name ops) requests (line ∷ []) (record { requests = requests ++ made name ops ∷ []; place = Between })
-end_leads requests name ops line h e =
-    let first = made_is_first requests name ops h in
-    let whole : transaction_lines (made name ops) ≡ first_opening name ∷ map op_line ops ++ line ∷ [] =
-    ap (λ opening. opening ∷ map op_line ops ++ end_line ∷ []) (opening_line-first (made name ops) first) ∙ ap (λ line. first_opening name ∷ map op_line ops ++ line ∷ []) (sym (end_read line e)) in
-    let before = flat_map transaction_lines requests in
-    record {
-      reached = record {
-        few = omega (arith, length_push requests (made name ops), h.room);
-        each = All-push IsFirstTransaction requests (made name ops) h.before.each first;
-        distinct = distinct-push requests (made name ops) h.before.distinct h.free;
-      };
-      told = ap (λ lines. first_header ∷ lines) (
-          flat_map-append transaction_lines requests (made name ops ∷ [])
-          ∙ ap (λ lines. before ++ lines) (append-nil (transaction_lines (made name ops)) ∙ whole)
-          ∙ sym (append_assoc before (first_opening name ∷ map op_line ops) (line ∷ [])));
-    }
+  tx_leads : (n m : ℕ) (requests : List Request) (phases : List ℕ) (words : Line) (next : Reading) → AreGood n m requests phases
+      → after_tx (at n m requests phases Between) words ≡ Ok next → Leads (front_lines n m requests phases) (codes "tx" ∷ words) next
+  tx_leads n m requests phases words next good e =
+      let step = bind_ok (tx_of n words) (λ opening. unless_taken opening.name requests (at n m requests phases (Inside opening []))) next e in
+      let opening = step.0 in
+      let read = tx_of-ok laws n good.sizes.gates.0 good.sizes.gates.1 words opening step.1 in
+      let free = free_name opening.name requests (at n m requests phases (Inside opening [])) next step.2 in
+      subst (Leads (front_lines n m requests phases) (codes "tx" ∷ words)) free.1 (record {
+        good = (good, record { opened = read.0; free = free.0; each = tt });
+        told = ap (λ words. front_lines n m requests phases ++ (codes "tx" ∷ words) ∷ []) (sym read.1);
+      })
 
-op_leads : (requests : List Request) (name : Name) (ops : List Op) (line : Line) (new : Reading) → AreFirstInside requests name ops
-    → (op_of line >>= λ op. cond (nat_le MOST_OPS (length ops)) None (Some (record { requests = requests; place = Inside name (ops ++ op ∷ []) }))) ≡ Some new
-    → Leads (Inside name ops) requests (line ∷ []) new
-op_leads requests name ops line new h e =
-    let step = bind_some (op_of line) (λ op. cond (nat_le MOST_OPS (length ops)) None (Some (record { requests = requests; place = Inside name (ops ++ op ∷ []) }))) new e in
-    let op = step.0 in
-    let test = unless (nat_le MOST_OPS (length ops)) (record { requests = requests; place = Inside name (ops ++ op ∷ []) }) new step.2 in
-    let room : length ops < MOST_OPS = leb-false MOST_OPS (length ops) test.0 in
-    let read = op_read line op step.1 in
-    let before = flat_map transaction_lines requests in
-    let mapped : map op_line (ops ++ op ∷ []) ≡ map op_line ops ++ line ∷ [] = map-append op_line ops (op ∷ []) ∙ ap (λ line. map op_line ops ++ line ∷ []) (sym read.1) in
-    subst (Leads (Inside name ops) requests (line ∷ [])) test.1 (record {
-      reached = record { before = h.before; room = h.room; named = h.named; free = h.free; few = omega (arith, length_push ops op); each = All-push IsFirstOperation ops op h.each read.0 };
-      told = ap (λ lines. first_header ∷ lines) (
-          ap (λ lines. before ++ first_opening name ∷ lines) mapped
-          ∙ sym (append_assoc before (first_opening name ∷ map op_line ops) (line ∷ [])));
-    })
+  prog_leads : (n m : ℕ) (requests : List Request) (phases : List ℕ) (words : Line) (next : Reading) → AreGood n m requests phases
+      → after_prog (at n m requests phases Between) words ≡ Ok next → Leads (front_lines n m requests phases) (codes "prog" ∷ words) next
+  prog_leads n m requests phases words next good e =
+      let step = bind_ok (prog_of n words) (λ prog. unless_taken prog.0.name requests (at n m (requests ++ request_of prog.0 (Look prog.1) ∷ []) phases Between)) next e in
+      let opening = step.0.0 in
+      let program = step.0.1 in
+      let request = request_of opening (Look program) in
+      let read = prog_of-ok laws n good.sizes.gates.0 good.sizes.gates.1 words opening program step.1 in
+      let free = free_name opening.name requests (at n m (requests ++ request ∷ []) phases Between) next step.2 in
+      let more = request_good n m requests phases request good (record { name = read.0.name; session = read.0.session; gate = read.0.gate; work = read.1 }) free.0 in
+      subst (Leads (front_lines n m requests phases) (codes "prog" ∷ words)) free.1 (record {
+        good = more.0;
+        told = more.1 ∙ ap (λ words. front_lines n m requests phases ++ (codes "prog" ∷ words) ∷ []) (sym read.2);
+      })
 
-line_leads : (place : Place) (requests : List Request) (line : Line) (new : Reading) → IsReached place requests → after_line_at place requests line ≡ Some new → Leads place requests (line ∷ []) new
-line_leads Start requests line new h e = header_leads requests line new h e
-line_leads Between requests line new h e = opening_leads requests line new h e
-line_leads (Inside name ops) requests line new h e =
-    elim (chosen (is_end line) (Some (record { requests = requests ++ made name ops ∷ []; place = Between })) (op_of line >>= λ op. cond (nat_le MOST_OPS (length ops)) None (Some (record { requests = requests; place = Inside name (ops ++ op ∷ []) }))) (Some new) e) [
-      | inl k ↦
-          let same : record { requests = requests ++ made name ops ∷ []; place = Between } ≡ new = some_is (record { requests = requests ++ made name ops ∷ []; place = Between }) new k.1 in
-          subst (Leads (Inside name ops) requests (line ∷ [])) same (end_leads requests name ops line h k.0)
-      | inr k ↦ op_leads requests name ops line new h k.1
-    ]
+  phase_leads : (n m : ℕ) (requests : List Request) (phases : List ℕ) (words : Line) (next : Reading) → AreGood n m requests phases
+      → after_phase (at n m requests phases Between) words ≡ Ok next → Leads (front_lines n m requests phases) (codes "phase" ∷ words) next
+  phase_leads n m requests phases [] next good e =
+      subst (Leads (front_lines n m requests phases) phase_line) (ok_is {E = Cause} (at n m requests (phases ++ length requests ∷ []) Between) next e) (record {
+        good = record { sizes = good.sizes; each = good.each; distinct = good.distinct; rising = rise-push 0 (length requests) phases (omega arith) good.rising };
+        told = ap (λ lines. header_line n m ∷ lines) (item_lines-push_phase 0 requests phases (length requests) (omega arith));
+      })
+  phase_leads n m requests phases (word ∷ words) next good e = absurd cc
 
--- what all lines that are read lead to
-pub lines_lead : (place : Place) (requests : List Request) (lines : List Line) (last : Reading) → IsReached place requests
-    → after_lines (record { requests = requests; place = place }) lines ≡ Some last → Leads place requests lines last
-lines_lead place requests [] last h e = subst (Leads place requests []) (some_is (record { requests = requests; place = place }) last e) (record { reached = h; told = sym (append-nil (lines_so_far place requests)) })
-lines_lead place requests (line ∷ lines) last h e =
-    let step = bind_some (after_line_at place requests line) (λ next. after_lines next lines) last e in
-    let one = line_leads place requests line step.0 h step.1 in
-    let rest = lines_lead step.0.place step.0.requests lines last one.reached step.2 in
-    record { reached = rest.reached; told = rest.told ∙ ap (λ front. front ++ lines) one.told ∙ append_assoc (lines_so_far place requests) (line ∷ []) lines }
+  steps_leads : (n m : ℕ) (requests : List Request) (phases : List ℕ) (words : Line) (next : Reading) → AreGood n m requests phases
+      → after_steps (at n m requests phases Between) words ≡ Ok next → Leads (front_lines n m requests phases) (codes "steps" ∷ words) next
+  steps_leads n m requests phases [] next good e =
+      subst (Leads (front_lines n m requests phases) steps_line) (ok_is {E = Cause} (at n m requests phases (Behind [])) next e) (record { good = (good, tt); told = refl })
+  steps_leads n m requests phases (word ∷ words) next good e = absurd cc
+
+  item_leads : (n m : ℕ) (requests : List Request) (phases : List ℕ) (line : Line) (next : Reading) → AreGood n m requests phases
+      → after_item (at n m requests phases Between) line ≡ Ok next → Leads (front_lines n m requests phases) line next
+  item_leads n m requests phases [] next good e = absurd cc
+  item_leads n m requests phases (word ∷ words) next good e =
+      pick _ _ _ _ e (λ same e. by (codes "tx") same (tx_leads n m requests phases words next good e)) (λ other e.
+      pick _ _ _ _ e (λ same e. by (codes "prog") same (prog_leads n m requests phases words next good e)) (λ other e.
+      pick _ _ _ _ e (λ same e. by (codes "phase") same (phase_leads n m requests phases words next good e)) (λ other e.
+      pick _ _ _ _ e (λ same e. by (codes "steps") same (steps_leads n m requests phases words next good e)) (λ other e. absurd cc))))
+    where
+      by : (text : Word) → bytes_eq word text ≡ true → Leads (front_lines n m requests phases) (text ∷ words) next → Leads (front_lines n m requests phases) (word ∷ words) next
+      by text same leads = subst (λ word. Leads (front_lines n m requests phases) (word ∷ words) next) (sym (is_word word text same)) leads
+
+  -- the front and a transaction that has begun
+  abbrev open_lines : ℕ → ℕ → List Request → List ℕ → Opening → List Op → List Line
+  open_lines n m requests phases opening ops = front_lines n m requests phases ++ opening_line opening.name opening.session opening.gate ∷ map op_line ops
+
+  end_leads : (n m : ℕ) (requests : List Request) (phases : List ℕ) (opening : Opening) (ops : List Op) (line : Line) → AreGood n m requests phases → IsOpen n requests opening ops
+      → length ops ≤ 64 → line ≡ end_line → Leads (open_lines n m requests phases opening ops) line (at n m (requests ++ request_of opening (Change ops) ∷ []) phases Between)
+  end_leads n m requests phases opening ops line good begun few same =
+      let request = request_of opening (Change ops) in
+      let more = request_good n m requests phases request good (record { name = begun.opened.name; session = begun.opened.session; gate = begun.opened.gate; work = (begun.each, few) }) begun.free in
+      let front = front_lines n m requests phases in
+      record {
+        good = more.0;
+        told = more.1 ∙ sym (append_assoc front (opening_line opening.name opening.session opening.gate ∷ map op_line ops) (end_line ∷ []))
+            ∙ ap (λ line. open_lines n m requests phases opening ops ++ line ∷ []) (sym same);
+      }
+
+  op_leads : (n m : ℕ) (requests : List Request) (phases : List ℕ) (opening : Opening) (ops : List Op) (line : Line) (next : Reading) → AreGood n m requests phases → IsOpen n requests opening ops
+      → (op_of line >>= λ op. Ok (at n m requests phases (Inside opening (ops ++ op ∷ [])))) ≡ Ok next → Leads (open_lines n m requests phases opening ops) line next
+  op_leads n m requests phases opening ops line next good begun e =
+      let step = bind_ok (op_of line) (λ op. Ok (at n m requests phases (Inside opening (ops ++ op ∷ [])))) next e in
+      let read = op_of-ok line step.0 step.1 in
+      let front = front_lines n m requests phases in
+      let first = opening_line opening.name opening.session opening.gate in
+      subst (Leads (open_lines n m requests phases opening ops) line) (ok_is {E = Cause} (at n m requests phases (Inside opening (ops ++ step.0 ∷ []))) next step.2) (record {
+        good = (good, record { opened = begun.opened; free = begun.free; each = All-push IsOperation ops step.0 begun.each read.0 });
+        told = ap (λ lines. front ++ first ∷ lines) (map-append op_line ops (step.0 ∷ []) ∙ ap (λ line. map op_line ops ++ line ∷ []) (sym read.1))
+            ∙ sym (append_assoc front (first ∷ map op_line ops) (line ∷ []));
+      })
+
+  inside_leads : (n m : ℕ) (requests : List Request) (phases : List ℕ) (opening : Opening) (ops : List Op) (line : Line) (next : Reading) → AreGood n m requests phases → IsOpen n requests opening ops
+      → length ops ≤ 64 → after_line_inside (at n m requests phases (Inside opening ops)) opening ops line ≡ Ok next → Leads (open_lines n m requests phases opening ops) line next
+  inside_leads n m requests phases opening ops line next good begun few e =
+      pick _ _ _ _ e
+      (λ ends e. subst (Leads (open_lines n m requests phases opening ops) line) (ok_is {E = Cause} (at n m (requests ++ request_of opening (Change ops) ∷ []) phases Between) next e)
+      (end_leads n m requests phases opening ops line good begun few (is_end-ok line ends)))
+      (λ goes_on e. op_leads n m requests phases opening ops line next good begun e)
+
+  step_leads : (n m : ℕ) (requests : List Request) (phases : List ℕ) (steps : List Step) (line : Line) (next : Reading) → AreGood n m requests phases → AllByRecursion (IsStep n m (length requests)) steps
+      → after_step (at n m requests phases (Behind steps)) steps line ≡ Ok next → Leads (front_lines n m requests phases ++ steps_line ∷ map (step_line requests) steps) line next
+  step_leads n m requests phases steps line next good each e =
+      let step = bind_ok (step_of n m (λ name. place_of name requests) line) (λ step. Ok (at n m requests phases (Behind (steps ++ step ∷ [])))) next e in
+      let read = step_of-ok laws n m good.sizes requests line step.0 step.1 in
+      let front = front_lines n m requests phases in
+      subst (Leads (front ++ steps_line ∷ map (step_line requests) steps) line) (ok_is {E = Cause} (at n m requests phases (Behind (steps ++ step.0 ∷ []))) next step.2) (record {
+        good = (good, All-push (IsStep n m (length requests)) steps step.0 each read.0);
+        told = ap (λ lines. front ++ steps_line ∷ lines) (map-append (step_line requests) steps (step.0 ∷ []) ∙ ap (λ line. map (step_line requests) steps ++ line ∷ []) (sym read.1))
+            ∙ sym (append_assoc front (steps_line ∷ map (step_line requests) steps) (line ∷ []));
+      })
+
+  line_leads : (n m : ℕ) (requests : List Request) (phases : List ℕ) (place : Place) (line : Line) (next : Reading) → IsGood n m requests phases place
+      → over_limit (counts_so_far (at n m requests phases place)) ≡ None → after_line_at place (at n m requests phases place) line ≡ Ok next → Leads (lines_so_far n m requests phases place) line next
+  line_leads n m requests phases Start line next good within e = header_leads n m requests phases line next good e
+  line_leads n m requests phases Between line next good within e = item_leads n m requests phases line next good e
+  line_leads n m requests phases (Inside opening ops) line next good within e =
+      inside_leads n m requests phases opening ops line next good.0 good.1 (within-few (length ops) (requests ++ request_of opening (Change ops) ∷ []) 0 within).0 e
+  line_leads n m requests phases (Behind steps) line next good within e = step_leads n m requests phases steps line next good.0 good.1 e
+
+  -- ---- one line after another
+
+  pub lines_lead : (reading : Reading) (lines : List Line) (last : Reading) → IsGoodReading reading → over_limit (counts_so_far reading) ≡ None → after_lines reading lines ≡ Ok last
+      → Led (lines_of_reading reading ++ lines) last
+  lines_lead reading [] last good within e =
+      subst (Led (lines_of_reading reading ++ [])) (ok_is {E = Cause} reading last e) (record { good = good; within = within; told = sym (append-nil (lines_of_reading reading)) })
+  lines_lead reading (line ∷ lines) last good within e =
+      let step = bind_ok (after_line reading line) (λ next. after_lines next lines) last e in
+      let one = bind_ok (after_line_at reading.place reading line) within_limits step.0 step.1 in
+      let limits = kept one.0 step.0 one.2 in
+      let leads : Leads (lines_of_reading reading) line step.0 = subst (Leads (lines_of_reading reading) line) limits.1
+      (line_leads reading.gates reading.shards reading.requests reading.phases reading.place line one.0 good within one.1) in
+      let rest = lines_lead step.0 lines last leads.good limits.0 step.2 in
+      record { good = rest.good; within = rest.within; told = rest.told ∙ ap (λ front. front ++ lines) leads.told ∙ append_assoc (lines_of_reading reading) (line ∷ []) lines }
+
+-- what ends there is a script of these lines
+pub script_reached : (last : Reading) (lines : List Line) (script : Script) → Led lines last → script_at last.place last ≡ Ok script → IsScript script × (lines ≡ script_lines script)
+script_reached last lines script led e = go last.gates last.shards last.requests last.phases last.place led.good led.within led.told e
+  where
+    go : (n m : ℕ) (requests : List Request) (phases : List ℕ) (place : Place) → IsGood n m requests phases place → over_limit (counts_so_far (at n m requests phases place)) ≡ None
+        → lines_so_far n m requests phases place ≡ lines → script_at place (at n m requests phases place) ≡ Ok script → IsScript script × (lines ≡ script_lines script)
+    go n m requests phases Start good within told e = absurd cc
+    go n m requests phases Between good within told e =
+        subst (λ script. IsScript script × (lines ≡ script_lines script)) (ok_is {E = Cause} (script_with None (at n m requests phases Between)) script e) (
+          record { gates = good.sizes.gates; shards = good.sizes.shards; requests = good.each; distinct = good.distinct; phases = good.rising; steps = tt; within = within },
+          sym told ∙ sym (append-nil (front_lines n m requests phases)),
+        )
+    go n m requests phases (Inside opening ops) good within told e = absurd cc
+    go n m requests phases (Behind steps) good within told e =
+        subst (λ script. IsScript script × (lines ≡ script_lines script)) (ok_is {E = Cause} (script_with (Some steps) (at n m requests phases (Behind steps))) script e) (
+          record { gates = good.0.sizes.gates; shards = good.0.sizes.shards; requests = good.0.each; distinct = good.0.distinct; phases = good.0.rising; steps = good.1; within = within },
+          sym told,
+        )

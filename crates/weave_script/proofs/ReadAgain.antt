@@ -1,135 +1,227 @@
--- The lines of a script of the first form are read as its requests.
-use Rattle.std.proofs.Common.{◌≡◌, ◌+◌, ◌<◌, ◌≤◌, false, true, ◌&&◌, ◌||◌, cond, List, [], ◌∷◌, ◌++◌, length, map, Option, Some, None, refl, sym, ap, ◌∙◌, subst, append_assoc, arith, lit<}
-use Rattle.std.specs.Prelude.{IsTrue, nat_le, codes}
-use Rattle.std.specs.List.{flat_map, AllByRecursion, IsDistinct}
-use Rattle.std.proofs.lemmas.Bool.{cond-true, cond-false, or_from, lt-leb}
-use Rattle.std.proofs.lemmas.List.{append-nil, length_push}
-use Rattle.weave_data.specs.Names.{is_name, same_name}
-use Rattle.weave_data.specs.declared.name.Name.{Name}
+-- The lines of a script are read as it.
+use Rattle.std.proofs.Common.{◌≡◌, ℕ, ◌+◌, ◌≤◌, List, [], ◌∷◌, ◌++◌, map, length, Option, Some, None, Ok, Err, refl, sym, ap, ◌∙◌, subst, append_assoc, arith}
+use Rattle.std.specs.Prelude.{codes}
+use Rattle.std.specs.Fmt.{decimal}
+use Rattle.std.specs.List.{AllByRecursion, IsDistinct}
+use Rattle.std.proofs.lemmas.Bool.{cond-false}
+use Rattle.std.proofs.lemmas.List.{append-nil, length_push, length-append}
+use Rattle.weave_data.specs.Names.{same_name}
 use Rattle.graph_ops.specs.declared.op.Op.{Op}
-use Rattle.graph_ops.specs.declared.op.Op.TheVariants.{Create, Delete, Set, Unset, Link, Unlink, Tag, Untag, Get}
 use Rattle.program_defs.specs.declared.script.Request.{Request}
 use Rattle.program_defs.specs.declared.script.Script.{Script}
+use Rattle.program_defs.specs.declared.script.Step.{Step}
 use Rattle.program_defs.specs.declared.script.Work.{Work}
 use Rattle.program_defs.specs.declared.script.Work.TheVariants.{Change, Look}
-use Rattle.weave_report.specs.PlainRun.{IsChange, ops_of}
-use Rattle.weave_script.specs.declared.limits.TheConstants.{MOST_REQUESTS, MOST_OPS}
-use Rattle.weave_script.specs.declared.reading.Place.TheVariants.{Between, Inside}
+use Rattle.weave_text.specs.Lines.{Line}
+use Rattle.weave_script.specs.declared.reading.Opening.{Opening}
+use Rattle.weave_script.specs.declared.reading.Place.{Place}
+use Rattle.weave_script.specs.declared.reading.Place.TheVariants.{Start, Between, Inside, Behind}
 use Rattle.weave_script.specs.declared.reading.Reading.{Reading}
-use Rattle.weave_script.specs.Lines.{Line}
-use Rattle.weave_script.specs.Numbers.{is_the_number}
-use Rattle.weave_script.specs.ScriptLines.{op_line, opening_line, end_line, transaction_lines, script_lines}
-use Rattle.weave_script.specs.FirstForm.{IsFirstOperation, IsFirstTransaction, IsFirstForm, names_of}
-use Rattle.weave_script.specs.Reading.{◌>>=◌, name_of, is_header, name_of_opening, is_end, op_of, is_taken, after_line, after_lines, start}
-use Rattle.weave_script.proofs.Clean.{decimal-zero, decimal-one, opening_line-first, header_line-first}
-use Rattle.weave_script.proofs.FirstRead.{first_header, first_opening}
-use Rattle.weave_script.proofs.Numerals.{is_the_number-decimal}
+use Rattle.weave_script.specs.Fields.{Read, ◌>>=◌}
+use Rattle.weave_script.specs.HeaderLine.{header_of}
+use Rattle.weave_script.specs.Limits.{over_limit}
+use Rattle.weave_script.specs.OpLines.{is_end, op_of}
+use Rattle.weave_script.specs.ReadText.{script_at}
+use Rattle.weave_script.specs.Reading.{start, counts_so_far, unless_taken, after_line_at, unless_met, within_limits, after_line}
+use Rattle.weave_script.specs.RequestLines.{request_of, tx_of}
+use Rattle.weave_script.specs.ScriptLines.{header_line, op_line, opening_line, end_line, program_words, work_lines, request_lines, phase_line, phase_lines, due_phases, later_phases, item_lines, step_line, steps_line, steps_lines, script_lines}
+use Rattle.weave_script.specs.Scripts.{IsOperation, IsWork, IsRequest, IsStep, RiseTo, IsScript, names_of, steps_of}
+use Rattle.weave_script.specs.StepLines.{place_of, step_of}
+use Rattle.weave_script.proofs.Binds.{bind_at}
+use Rattle.weave_script.proofs.FieldLaws.{NumberLaws}
+use Rattle.weave_script.proofs.HeaderLaws.{AreSizes, header_of-line}
+use Rattle.weave_script.proofs.LimitLaws.{AreFew, within-few, few-within, front_few, front_ops_few}
+use Rattle.weave_script.proofs.Lines.{unless_taken-free, after_prog-ok}
+use Rattle.weave_script.proofs.OpLaws.{op_of-line}
+use Rattle.weave_script.proofs.Phases.{due_rise, later_rise, due_and_later}
+use Rattle.weave_script.proofs.Places.{IsFree, place_of-free, free_before}
+use Rattle.weave_script.proofs.Reached.{at, after_lines}
+use Rattle.weave_script.proofs.RequestLaws.{IsOpening, tx_of-words, prog_of-words}
+use Rattle.weave_script.proofs.StepLaws.{step_of-line}
 
--- reading so far, between two transactions or inside one
-abbrev pub between : List Request → Reading
-between requests = record { requests = requests; place = Between }
+-- a line at its place, where no limit is met behind it
+line_again : (reading next : Reading) (line : Line) → after_line_at reading.place reading line ≡ Ok next → over_limit (counts_so_far next) ≡ None → after_line reading line ≡ Ok next
+line_again reading next line e within = ap (λ read. read >>= within_limits) e ∙ ap (unless_met next) within
 
-abbrev pub inside : List Request → Name → List Op → Reading
-inside requests name ops = record { requests = requests; place = Inside name ops }
-
-pub after_lines-append : (reading : Reading) (xs ys : List Line) → after_lines reading (xs ++ ys) ≡ (after_lines reading xs >>= λ next. after_lines next ys)
+after_lines-append : (reading : Reading) (xs ys : List Line) → after_lines reading (xs ++ ys) ≡ (after_lines reading xs >>= λ next. after_lines next ys)
 after_lines-append reading [] ys = refl
 after_lines-append reading (x ∷ xs) ys = through (after_line reading x) (λ next. after_lines-append next xs ys)
   where
-    through : (step : Option Reading) → ((next : Reading) → after_lines next (xs ++ ys) ≡ (after_lines next xs >>= λ last. after_lines last ys))
+    through : (step : Read Reading) → ((next : Reading) → after_lines next (xs ++ ys) ≡ (after_lines next xs >>= λ last. after_lines last ys))
         → (step >>= λ next. after_lines next (xs ++ ys)) ≡ ((step >>= λ next. after_lines next xs) >>= λ last. after_lines last ys)
-    through None each = refl
-    through (Some next) each = each next
+    through (Ok next) each = each next
+    through (Err cause) each = refl
 
-name_of-is : (name : Name) → IsTrue (is_name name) → name_of name ≡ Some name
-name_of-is name h = cond-true (is_name name) _ _ h
+-- some lines, and then others
+pub lines_then : (reading next : Reading) (xs ys : List Line) → after_lines reading xs ≡ Ok next → after_lines reading (xs ++ ys) ≡ after_lines next ys
+lines_then reading next xs ys e = after_lines-append reading xs ys ∙ bind_at (after_lines reading xs) (λ next. after_lines next ys) next e
 
-zero_again : is_the_number 0 (codes "0") ≡ true
-zero_again = ap (is_the_number 0) (sym decimal-zero) ∙ is_the_number-decimal 0 (lit< tt)
+-- one line, and then others
+line_then : (reading next : Reading) (line : Line) (lines : List Line) → after_line_at reading.place reading line ≡ Ok next → over_limit (counts_so_far next) ≡ None
+    → after_lines reading (line ∷ lines) ≡ after_lines next lines
+line_then reading next line lines e within = bind_at (after_line reading line) (λ next. after_lines next lines) next (line_again reading next line e within)
 
-one_again : is_the_number 1 (codes "1") ≡ true
-one_again = ap (is_the_number 1) (sym decimal-one) ∙ is_the_number-decimal 1 (lit< tt)
+between_within : (n m : ℕ) (requests : List Request) (phases : List ℕ) → AreFew requests → over_limit (counts_so_far (at n m requests phases Between)) ≡ None
+between_within n m requests phases few = few-within 0 requests 0 (omega arith) few (omega arith)
 
-header_again : is_header first_header ≡ true
-header_again = ap (λ one. one && one) one_again
+-- ---- phases
 
-opening_again : (name : Name) → IsTrue (is_name name) → name_of_opening (first_opening name) ≡ Some name
-opening_again name h = ap (λ zero. cond (zero && zero) (name_of name) None) zero_again ∙ name_of-is name h
+equal_numbers : (a b : ℕ) → a ≤ b → b ≤ a → a ≡ b
+equal_numbers a b h k = omega arith
 
-op_again : (op : Op) → IsFirstOperation op → (op_of (op_line op) ≡ Some op) × (is_end (op_line op) ≡ false)
-op_again (Create v) h = (ap (λ v. v >>= λ v. Some (Create v)) (name_of-is v h), refl)
-op_again (Get v) h = (ap (λ v. v >>= λ v. Some (Get v)) (name_of-is v h), refl)
-op_again (Set v key value) h = (rw (name_of-is v h.0, name_of-is key h.1, name_of-is value h.2) refl, refl)
-op_again (Delete v) h = absurd h
-op_again (Unset v key) h = absurd h
-op_again (Link v edge target) h = absurd h
-op_again (Unlink v edge) h = absurd h
-op_again (Tag v edge key value) h = absurd h
-op_again (Untag v edge key) h = absurd h
+phases_again : (n m : ℕ) (requests : List Request) (past phases : List ℕ) → AreFew requests → RiseTo (length requests) (length requests) phases
+    → after_lines (at n m requests past Between) (phase_lines phases) ≡ Ok (at n m requests (past ++ phases) Between)
+phases_again n m requests past [] few h = ap (λ phases. Ok (at n m requests phases Between)) (sym (append-nil past))
+phases_again n m requests past (phase ∷ phases) few h =
+    let same : phase ≡ length requests = equal_numbers phase (length requests) h.1 h.0 in
+    let next = at n m requests (past ++ length requests ∷ []) Between in
+    line_then (at n m requests past Between) next phase_line (phase_lines phases) refl (between_within n m requests (past ++ length requests ∷ []) few)
+    ∙ phases_again n m requests (past ++ length requests ∷ []) phases few (subst (λ low. RiseTo low (length requests) phases) same h.2)
+    ∙ ap (λ phases. Ok (at n m requests phases Between)) (append_assoc past (length requests ∷ []) phases ∙ ap (λ phase. past ++ phase ∷ phases) (sym same))
 
-one_op : (requests : List Request) (name : Name) (ops : List Op) (op : Op) → IsFirstOperation op → length ops < MOST_OPS
-    → after_line (inside requests name ops) (op_line op) ≡ Some (inside requests name (ops ++ op ∷ []))
-one_op requests name ops op h room =
-    let again = op_again op h in
-    cond-false (is_end (op_line op)) _ _ again.1
-    ∙ ap (λ read. read >>= λ op. cond (nat_le MOST_OPS (length ops)) None (Some (inside requests name (ops ++ op ∷ [])))) again.0
-    ∙ cond-false (nat_le MOST_OPS (length ops)) _ _ (lt-leb MOST_OPS (length ops) room)
+-- ---- transactions
 
-all_ops : (requests : List Request) (name : Name) (before ops : List Op) → AllByRecursion IsFirstOperation ops → length before + length ops ≤ MOST_OPS
-    → after_lines (inside requests name before) (map op_line ops) ≡ Some (inside requests name (before ++ ops))
-all_ops requests name before [] h room = ap (λ ops. Some (inside requests name ops)) (sym (append-nil before))
-all_ops requests name before (op ∷ ops) h room =
-    ap (λ step. step >>= λ next. after_lines next (map op_line ops)) (one_op requests name before op h.0 (omega arith))
-    ∙ all_ops requests name (before ++ op ∷ []) ops h.1 (omega (arith, length_push before op))
-    ∙ ap (λ ops. Some (inside requests name ops)) (append_assoc before (op ∷ []) ops)
+op_again : (n m : ℕ) (requests : List Request) (phases : List ℕ) (opening : Opening) (before : List Op) (op : Op) → IsOperation op
+    → after_line_at (Inside opening before) (at n m requests phases (Inside opening before)) (op_line op) ≡ Ok (at n m requests phases (Inside opening (before ++ op ∷ [])))
+op_again n m requests phases opening before op h =
+    let read = op_of-line op h in
+    cond-false (is_end (op_line op)) _ _ read.1
+    ∙ bind_at (op_of (op_line op)) (λ op. Ok (at n m requests phases (Inside opening (before ++ op ∷ [])))) op read.0
 
-change_is : (work : Work) → IsChange work → Change (ops_of work) ≡ work
-change_is (Change ops) h = refl
-change_is (Look program) h = absurd h
+ops_again : (n m : ℕ) (requests : List Request) (phases : List ℕ) (opening : Opening) (before ops : List Op) → AllByRecursion IsOperation ops → length (before ++ ops) ≤ 64
+    → AreFew (requests ++ request_of opening (Change (before ++ ops)) ∷ [])
+    → after_lines (at n m requests phases (Inside opening before)) (map op_line ops) ≡ Ok (at n m requests phases (Inside opening (before ++ ops)))
+ops_again n m requests phases opening before [] h small few = ap (λ ops. Ok (at n m requests phases (Inside opening ops))) (sym (append-nil before))
+ops_again n m requests phases opening before (op ∷ ops) h small few =
+    let more = before ++ op ∷ [] in
+    let same : more ++ ops ≡ before ++ op ∷ ops = append_assoc before (op ∷ []) ops in
+    let small_more : length (more ++ ops) ≤ 64 = subst (λ ops. length ops ≤ 64) (sym same) small in
+    let few_more : AreFew (requests ++ request_of opening (Change (more ++ ops)) ∷ []) = subst (λ ops. AreFew (requests ++ request_of opening (Change ops) ∷ [])) (sym same) few in
+    let next = at n m requests phases (Inside opening more) in
+    let fits : length more ≤ 64 = omega (arith, length-append more ops, small_more) in
+    line_then (at n m requests phases (Inside opening before)) next (op_line op) (map op_line ops) (op_again n m requests phases opening before op h.0)
+    (few-within (length more) (requests ++ request_of opening (Change more) ∷ []) 0 fits (front_ops_few requests opening more ops few_more) (omega arith))
+    ∙ ops_again n m requests phases opening more ops h.1 small_more few_more
+    ∙ ap (λ ops. Ok (at n m requests phases (Inside opening ops))) same
 
--- the request that the reader makes of it
-request_is : (request : Request) → IsFirstTransaction request → record { name = request.name; session = 0; gate = 0; work = Change (ops_of request.work) } ≡ request
-request_is request h = λ i. record { name = request.name; session = sym h.session i; gate = sym h.plain.0 i; work = change_is request.work h.plain.1 i }
+module _ (laws : NumberLaws) where
+  tx_again : (n m : ℕ) (requests : List Request) (phases : List ℕ) (opening : Opening) → n ≤ 8 → IsOpening n opening → IsFree opening.name requests
+      → after_line_at Between (at n m requests phases Between) (opening_line opening.name opening.session opening.gate) ≡ Ok (at n m requests phases (Inside opening []))
+  tx_again n m requests phases opening small h free =
+      bind_at (tx_of n (opening.name ∷ decimal opening.session ∷ decimal opening.gate ∷ [])) (λ opening. unless_taken opening.name requests (at n m requests phases (Inside opening []))) opening (tx_of-words laws n small opening h)
+      ∙ unless_taken-free opening.name requests (at n m requests phases (Inside opening [])) (place_of-free opening.name requests free)
 
-opens : (requests : List Request) (request : Request) → IsFirstTransaction request → length requests < MOST_REQUESTS → is_taken request.name requests ≡ false
-    → after_line (between requests) (opening_line request) ≡ Some (inside requests request.name [])
-opens requests request h room free =
-    ap (after_line (between requests)) (opening_line-first request h)
-    ∙ ap (λ read. read >>= λ name. cond (nat_le MOST_REQUESTS (length requests) || is_taken name requests) None (Some (inside requests name []))) (opening_again request.name h.name)
-    ∙ cond-false (nat_le MOST_REQUESTS (length requests) || is_taken request.name requests) _ _ (or_from _ _ (lt-leb MOST_REQUESTS (length requests) room) free)
+  work_again : (n m : ℕ) (requests : List Request) (phases : List ℕ) (opening : Opening) (work : Work) → n ≤ 8 → IsOpening n opening → IsFree opening.name requests → IsWork work
+      → AreFew (requests ++ request_of opening work ∷ [])
+      → after_lines (at n m requests phases Between) (work_lines opening.name opening.session opening.gate work) ≡ Ok (at n m (requests ++ request_of opening work ∷ []) phases Between)
+  work_again n m requests phases opening (Change ops) small h free work few =
+      let begun = at n m requests phases (Inside opening []) in
+      let whole = at n m requests phases (Inside opening ops) in
+      let ended = at n m (requests ++ request_of opening (Change ops) ∷ []) phases Between in
+      line_then (at n m requests phases Between) begun (opening_line opening.name opening.session opening.gate) (map op_line ops ++ end_line ∷ []) (tx_again n m requests phases opening small h free)
+      (few-within 0 (requests ++ request_of opening (Change []) ∷ []) 0 (omega arith) (front_ops_few requests opening [] ops few) (omega arith))
+      ∙ lines_then begun whole (map op_line ops) (end_line ∷ []) (ops_again n m requests phases opening [] ops work.0 work.1 few)
+      ∙ line_then whole ended end_line [] refl (between_within n m (requests ++ request_of opening (Change ops) ∷ []) phases few)
+  work_again n m requests phases opening (Look program) small h free work few =
+      let next = at n m (requests ++ request_of opening (Look program) ∷ []) phases Between in
+      let words = opening.name ∷ decimal opening.session ∷ decimal opening.gate ∷ program_words program in
+      line_then (at n m requests phases Between) next (codes "prog" ∷ words) []
+      (after_prog-ok (at n m requests phases Between) words (opening, program) (prog_of-words laws n small opening program h work) (place_of-free opening.name requests free))
+      (between_within n m (requests ++ request_of opening (Look program) ∷ []) phases few)
 
-one_transaction : (requests : List Request) (request : Request) → IsFirstTransaction request → length requests < MOST_REQUESTS → is_taken request.name requests ≡ false
-    → after_lines (between requests) (transaction_lines request) ≡ Some (between (requests ++ request ∷ []))
-one_transaction requests request h room free =
-    let ops = ops_of request.work in
-    ap (λ step. step >>= λ next. after_lines next (map op_line ops ++ end_line ∷ [])) (opens requests request h room free)
-    ∙ after_lines-append (inside requests request.name []) (map op_line ops) (end_line ∷ [])
-    ∙ ap (λ step. step >>= λ next. after_lines next (end_line ∷ [])) (all_ops requests request.name [] ops h.each (omega (arith, h.few)))
-    ∙ ap (λ made. Some (between (requests ++ made ∷ []))) (request_is request h)
+  request_again : (n m : ℕ) (requests : List Request) (phases : List ℕ) (request : Request) → n ≤ 8 → IsRequest n request → IsFree request.name requests → AreFew (requests ++ request ∷ [])
+      → after_lines (at n m requests phases Between) (request_lines request) ≡ Ok (at n m (requests ++ request ∷ []) phases Between)
+  request_again n m requests phases request small h free few =
+      work_again n m requests phases (record { name = request.name; session = request.session; gate = request.gate }) request.work small (record { name = h.name; session = h.session; gate = h.gate }) free h.work few
 
--- none of the requests before has the name
-free_name : (before : List Request) (request : Request) (rest : List Request) → IsDistinct same_name (names_of (before ++ request ∷ rest)) → is_taken request.name before ≡ false
-unfolding IsDistinct
-free_name [] request rest h = refl
-free_name (other ∷ before) request rest h = or_from _ _ (differs before h.0) (free_name before request rest h.1)
-  where
-    differs : (others : List Request) → AllByRecursion (λ name. same_name other.name name ≡ false) (names_of (others ++ request ∷ rest)) → same_name other.name request.name ≡ false
-    differs [] k = k.0
-    differs (next ∷ others) k = differs others k.1
+  -- ---- requests and phases
 
-all_transactions : (before requests : List Request) → AllByRecursion IsFirstTransaction requests → length before + length requests ≤ MOST_REQUESTS
-    → IsDistinct same_name (names_of (before ++ requests)) → after_lines (between before) (flat_map transaction_lines requests) ≡ Some (between (before ++ requests))
-all_transactions before [] h room distinct = ap (λ requests. Some (between requests)) (sym (append-nil before))
-all_transactions before (request ∷ requests) h room distinct =
-    let regrouped : (before ++ request ∷ []) ++ requests ≡ before ++ request ∷ requests = append_assoc before (request ∷ []) requests in
-    after_lines-append (between before) (transaction_lines request) (flat_map transaction_lines requests)
-    ∙ ap (λ step. step >>= λ next. after_lines next (flat_map transaction_lines requests)) (one_transaction before request h.0 (omega arith) (free_name before request requests distinct))
-    ∙ all_transactions (before ++ request ∷ []) requests h.1 (omega (arith, length_push before request)) (subst (λ all. IsDistinct same_name (names_of all)) (sym regrouped) distinct)
-    ∙ ap (λ requests. Some (between requests)) regrouped
+  items_again : (n m : ℕ) (done : List Request) (past : List ℕ) (rest : List Request) (phases : List ℕ) → n ≤ 8 → AllByRecursion (IsRequest n) rest → IsDistinct same_name (names_of (done ++ rest))
+      → AreFew (done ++ rest) → RiseTo (length done) (length (done ++ rest)) phases
+      → after_lines (at n m done past Between) (item_lines (length done) rest phases) ≡ Ok (at n m (done ++ rest) (past ++ phases) Between)
+  items_again n m done past [] phases small h distinct few rising =
+      let same = append-nil done in
+      phases_again n m done past phases (subst AreFew same few) (subst (λ requests. RiseTo (length done) (length requests) phases) same rising)
+      ∙ ap (λ requests. Ok (at n m requests (past ++ phases) Between)) (sym same)
+  items_again n m done past (request ∷ rest) phases small h distinct few rising =
+      let k = length done in
+      let due = due_phases k phases in
+      let later = later_phases k phases in
+      let more = done ++ request ∷ [] in
+      let same : more ++ rest ≡ done ++ request ∷ rest = append_assoc done (request ∷ []) rest in
+      let count : k + 1 ≡ length more = omega (arith, length_push done request) in
+      let few_more : AreFew (more ++ rest) = subst AreFew (sym same) few in
+      let rising_more : RiseTo (length more) (length (more ++ rest)) later =
+      subst (λ low. RiseTo low (length (more ++ rest)) later) count (subst (λ requests. RiseTo (k + 1) (length requests) later) (sym same) (later_rise k k (length (done ++ request ∷ rest)) phases rising)) in
+      let behind_phases = at n m done (past ++ due) Between in
+      let behind_request = at n m more (past ++ due) Between in
+      lines_then (at n m done past Between) behind_request (phase_lines due ++ request_lines request) (item_lines (k + 1) rest later)
+      (lines_then (at n m done past Between) behind_phases (phase_lines due) (request_lines request)
+      (phases_again n m done past due (front_few done (request ∷ rest) few) (due_rise k k (length (done ++ request ∷ rest)) phases rising))
+      ∙ request_again n m done (past ++ due) request small h.0 (free_before done request rest distinct) (front_few more rest few_more))
+      ∙ ap (λ k. after_lines behind_request (item_lines k rest later)) count
+      ∙ items_again n m more (past ++ due) rest later small h.1 (subst (λ requests. IsDistinct same_name (names_of requests)) (sym same) distinct) few_more rising_more
+      ∙ ap (λ requests. Ok (at n m requests ((past ++ due) ++ later) Between)) same
+      ∙ ap (λ phases. Ok (at n m (done ++ request ∷ rest) phases Between)) (append_assoc past due later ∙ ap (λ phases. past ++ phases) (due_and_later k phases))
 
--- the lines of the script are read as its requests
-pub script_again : (script : Script) → IsFirstForm script → after_lines start (script_lines script) ≡ Some (between script.requests)
-script_again script h =
-    ap (λ header. after_lines start (header ∷ flat_map transaction_lines script.requests)) (header_line-first script h)
-    ∙ ap (λ header. cond header (Some (between [])) None >>= λ next. after_lines next (flat_map transaction_lines script.requests)) header_again
-    ∙ all_transactions [] script.requests h.each (omega (arith, h.few)) h.distinct
+  -- ---- steps
+
+  steps_again : (n m : ℕ) (requests : List Request) (phases : List ℕ) (before steps : List Step) → AreSizes n m → AllByRecursion (IsRequest n) requests → IsDistinct same_name (names_of requests)
+      → AllByRecursion (IsStep n m (length requests)) steps → AreFew requests → length (before ++ steps) ≤ 100000
+      → after_lines (at n m requests phases (Behind before)) (map (step_line requests) steps) ≡ Ok (at n m requests phases (Behind (before ++ steps)))
+  steps_again n m requests phases before [] sizes each distinct h few small = ap (λ steps. Ok (at n m requests phases (Behind steps))) (sym (append-nil before))
+  steps_again n m requests phases before (step ∷ steps) sizes each distinct h few small =
+      let more = before ++ step ∷ [] in
+      let same : more ++ steps ≡ before ++ step ∷ steps = append_assoc before (step ∷ []) steps in
+      let small_more : length (more ++ steps) ≤ 100000 = subst (λ steps. length steps ≤ 100000) (sym same) small in
+      let fits : length more ≤ 100000 = omega (arith, length-append more steps, small_more) in
+      line_then (at n m requests phases (Behind before)) (at n m requests phases (Behind more)) (step_line requests step) (map (step_line requests) steps)
+      (bind_at (step_of n m (λ name. place_of name requests) (step_line requests step)) (λ step. Ok (at n m requests phases (Behind (before ++ step ∷ [])))) step
+      (step_of-line laws n m sizes requests each distinct step h.0))
+      (few-within 0 requests (length more) (omega arith) few fits)
+      ∙ steps_again n m requests phases more steps sizes each distinct h.1 few small_more
+      ∙ ap (λ steps. Ok (at n m requests phases (Behind steps))) same
+
+  -- ---- scripts
+
+  -- where the script ends
+  abbrev pub last_place : Option (List Step) → Place
+  last_place None = Between
+  last_place (Some steps) = Behind steps
+
+  -- the script so far, at its end
+  abbrev pub last_reading : Script → Reading
+  last_reading script = at script.gates script.shards script.requests script.phases (last_place script.steps)
+
+  pub script_at-last : (script : Script) → script_at (last_reading script).place (last_reading script) ≡ Ok script
+  script_at-last script = go script.steps refl
+    where
+      go : (steps : Option (List Step)) → script.steps ≡ steps
+          → script_at (last_place steps) (at script.gates script.shards script.requests script.phases (last_place steps)) ≡ Ok (record script { steps = steps })
+      go None e = refl
+      go (Some steps) e = refl
+
+  header_again : (n m : ℕ) → AreSizes n m → after_line_at Start start (header_line n m) ≡ Ok (at n m [] [] Between)
+  header_again n m sizes = bind_at (header_of (header_line n m)) (λ counts. Ok (at counts.0 counts.1 [] [] Between)) (n, m) (header_of-line laws n m sizes)
+
+  steps_part : (n m : ℕ) (requests : List Request) (phases : List ℕ) (steps : Option (List Step)) → AreSizes n m → AllByRecursion (IsRequest n) requests → IsDistinct same_name (names_of requests)
+      → AllByRecursion (IsStep n m (length requests)) (steps_of steps) → AreFew requests → length (steps_of steps) ≤ 100000
+      → after_lines (at n m requests phases Between) (steps_lines requests steps) ≡ Ok (at n m requests phases (last_place steps))
+  steps_part n m requests phases None sizes each distinct h few small = refl
+  steps_part n m requests phases (Some steps) sizes each distinct h few small =
+      line_then (at n m requests phases Between) (at n m requests phases (Behind [])) steps_line (map (step_line requests) steps) refl (few-within 0 requests 0 (omega arith) few (omega arith))
+      ∙ steps_again n m requests phases [] steps sizes each distinct h few small
+
+  -- a script's lines are read as it
+  pub script_again : (script : Script) → IsScript script → after_lines start (script_lines script) ≡ Ok (last_reading script)
+  script_again script h =
+      let n = script.gates in
+      let m = script.shards in
+      let requests = script.requests in
+      let phases = script.phases in
+      let sizes : AreSizes n m = record { gates = h.gates; shards = h.shards } in
+      let few = within-few 0 requests (length (steps_of script.steps)) h.within in
+      line_then start (at n m [] [] Between) (header_line n m) (item_lines 0 requests phases ++ steps_lines requests script.steps) (header_again n m sizes) refl
+      ∙ lines_then (at n m [] [] Between) (at n m requests phases Between) (item_lines 0 requests phases) (steps_lines requests script.steps)
+      (items_again n m [] [] requests phases h.gates.1 h.requests h.distinct few.1 h.phases)
+      ∙ steps_part n m requests phases script.steps sizes h.requests h.distinct h.steps few.1 few.2

@@ -1,102 +1,113 @@
--- What is read is a text of the script, and a text of a script is read as it.
-use Rattle.std.proofs.Common.{◌≡◌, ℕ, ◌≢◌, List, [], ◌∷◌, ◌++◌, map, Some, None, Ok, Err, refl, sym, ap, ◌∙◌, subst}
-use Rattle.std.specs.List.{flat_map, join_with_byte}
-use Rattle.std.proofs.lemmas.List.{append_cancel_right}
-use Rattle.program_defs.specs.declared.script.Request.{Request}
+-- Texts and their scripts.
+use Rattle.std.proofs.Common.{◌≡◌, ℕ, suc, ◌≤◌, Bool, true, false, cond, List, [], ◌∷◌, length, Ok, Err, refl, sym, ap, ◌∙◌}
+use Rattle.std.specs.Prelude.{Result, nat_lt}
+use Rattle.std.proofs.lemmas.Bool.{cond-false, le-ltb, ltb-false}
 use Rattle.program_defs.specs.declared.script.Script.{Script}
-use Rattle.weave_script.specs.declared.fault.ScriptFault.{ScriptFault}
-use Rattle.weave_script.specs.declared.fault.ScriptFault.TheVariants.{Refused, OtherForm, Memory}
-use Rattle.weave_script.specs.declared.reading.Place.{Place}
-use Rattle.weave_script.specs.declared.reading.Place.TheVariants.{Start, Between, Inside}
-use Rattle.weave_script.specs.Answers.{IsReadAs}
-use Rattle.weave_script.specs.FirstForm.{IsFirstForm, IsTextOf}
-use Rattle.weave_script.specs.Lines.{text_of, lines_of, words_of}
-use Rattle.weave_script.specs.Reading.{◌>>=◌, Gives, start, after_lines, whole_requests, requests_of}
-use Rattle.weave_script.specs.ScriptLines.{transaction_lines, header_line, script_lines}
-use Rattle.weave_script.proofs.Clean.{header_line-first, script_is_clean}
-use Rattle.weave_script.proofs.FirstRead.{some_is, bind_some, first_header}
-use Rattle.weave_script.proofs.Joined.{joined, text_of-joined, text_of-lines, lines_of-text_of}
-use Rattle.weave_script.proofs.ReadAgain.{script_again}
-use Rattle.weave_script.proofs.Reached.{AreFirst, IsReached, lines_so_far, lines_lead}
+use Rattle.weave_text.specs.Cutting.{lines_of, words_of, is_skipped, kept_lines}
+use Rattle.weave_text.specs.Lines.{Bytes}
+use Rattle.weave_script.specs.declared.fault.Cause.{Cause}
+use Rattle.weave_script.specs.declared.fault.Cause.TheVariants as causes
+use Rattle.weave_script.specs.declared.reading.Reading.{Reading}
+use Rattle.weave_script.specs.Fields.{Read, ◌>>=◌}
+use Rattle.weave_script.specs.ReadText.{Fault, Part, at_line, read_on, read_part, read_text, script_at}
+use Rattle.weave_script.specs.Reading.{start, after_line}
+use Rattle.weave_script.specs.ScriptLines.{script_lines, script_text}
+use Rattle.weave_script.specs.Scripts.{IsScript}
+use Rattle.weave_script.specs.Texts.{IsTextOf}
+use Rattle.weave_script.proofs.Binds.{bind_ok, bind_at, ok_is}
+use Rattle.weave_script.proofs.FieldLaws.{NumberLaws}
+use Rattle.weave_script.proofs.Reached.{after_lines, lines_lead, script_reached}
+use Rattle.weave_script.proofs.ReadAgain.{last_reading, script_at-last, script_again}
 
--- the script of the first form with these requests
-abbrev pub script_of : List Request → Script
-script_of requests = record { gates = 1; shards = 1; requests = requests; phases = []; steps = None }
+pub at_line_ok : {A : Type 0} (n : ℕ) (read : Read A) (value : A) → at_line n read ≡ Ok value → read ≡ Ok value
+at_line_ok n (Ok other) value e = ap (λ v. Ok v) (ok_is {E = Fault} other value e)
+at_line_ok n (Err cause) value e = absurd cc
 
-is_finished : (place : Place) (reached requests : List Request) → IsReached place reached → whole_requests place reached ≡ Some requests
-    → AreFirst requests × (lines_so_far place reached ≡ first_header ∷ flat_map transaction_lines requests)
-is_finished Start reached requests h e = absurd cc
-is_finished Between reached requests h e =
-    let same = some_is reached requests e in
-    (subst AreFirst same h, ap (λ requests. first_header ∷ flat_map transaction_lines requests) same)
-is_finished (Inside name ops) reached requests h e = absurd cc
+-- the lines that are kept lead where reading on leads
+read_on-kept : (n : ℕ) (reading : Reading) (lines : List Bytes) (part : Part) → read_on false n reading lines ≡ Ok part → after_lines reading (kept_lines lines) ≡ Ok part.reading
+read_on-kept n reading [] part e = ap (λ (p : Part). Ok p.reading) (ok_is {E = Fault} (record { reading = reading; line = n; left = [] }) part e)
+read_on-kept n reading (line ∷ lines) part e = go (λ next e. read_on-kept (suc n) next lines part e) (is_skipped line) e
+  where
+    go : ((next : Reading) → read_on false (suc n) next lines ≡ Ok part → after_lines next (kept_lines lines) ≡ Ok part.reading)
+        → (b : Bool) → cond b (read_on false (suc n) reading lines) (at_line n (after_line reading (words_of line)) >>= λ next. read_on false (suc n) next lines) ≡ Ok part
+        → after_lines reading (cond b (kept_lines lines) (words_of line ∷ kept_lines lines)) ≡ Ok part.reading
+    go rest true e = rest reading e
+    go rest false e =
+        let step = bind_ok (at_line n (after_line reading (words_of line))) (λ next. read_on false (suc n) next lines) part e in
+        bind_at (after_line reading (words_of line)) (λ next. after_lines next (kept_lines lines)) step.0 (at_line_ok n (after_line reading (words_of line)) step.0 step.1)
+        ∙ rest step.0 step.2
 
--- what was read is a text of these requests
-pub text-from_read : (bytes text : List ℕ) (requests : List Request) → bytes ≡ text ++ 10 ∷ [] → requests_of text ≡ Some requests → IsTextOf bytes (script_of requests)
+-- the text is read to its end
+abbrev Ends : ℕ → Reading → List Bytes → Reading → Type 0
+Ends n reading lines last = (m : ℕ) × (read_on false n reading lines ≡ Ok (record { reading = last; line = m; left = [] }))
+
+kept-read_on : (n : ℕ) (reading : Reading) (lines : List Bytes) (last : Reading) → after_lines reading (kept_lines lines) ≡ Ok last → Ends n reading lines last
+kept-read_on n reading [] last e = (n, ap (λ reading. Ok (record { reading = reading; line = n; left = [] })) (ok_is {E = Cause} reading last e))
+kept-read_on n reading (line ∷ lines) last e = go (λ next e. kept-read_on (suc n) next lines last e) (is_skipped line) e
+  where
+    go : ((next : Reading) → after_lines next (kept_lines lines) ≡ Ok last → Ends (suc n) next lines last)
+        → (b : Bool) → after_lines reading (cond b (kept_lines lines) (words_of line ∷ kept_lines lines)) ≡ Ok last
+        → (m : ℕ) × (cond b (read_on false (suc n) reading lines) (at_line n (after_line reading (words_of line)) >>= λ next. read_on false (suc n) next lines) ≡ Ok (record { reading = last; line = m; left = [] }))
+    go rest true e = rest reading e
+    go rest false e =
+        let step = bind_ok (after_line reading (words_of line)) (λ next. after_lines next (kept_lines lines)) last e in
+        let more = rest step.0 step.2 in
+        (more.0, ap (λ read. at_line n read >>= λ next. read_on false (suc n) next lines) step.1 ∙ more.1)
+
+pub not_long : (long : Bool) (fault : Fault) (rest : Result Part Fault) (part : Part) → cond long (Err fault) rest ≡ Ok part → rest ≡ Ok part
+not_long true fault rest part e = absurd cc
+not_long false fault rest part e = e
+
+module _ (laws : NumberLaws) where
+  -- what is read is a text of the script
+  pub text-from_read : (bytes : Bytes) (script : Script) → read_text bytes ≡ Ok script → IsTextOf bytes script
+  unfolding IsTextOf
+  text-from_read bytes script e =
+      let step = bind_ok (read_part false bytes) (λ part. at_line part.line (script_at part.reading.place part.reading)) script e in
+      let part = step.0 in
+      let read : read_on false 1 start (lines_of bytes) ≡ Ok part = not_long (nat_lt 4194304 (length bytes)) (record { line = 0; cause = causes.TooLong }) (read_on false 1 start (lines_of bytes)) part step.1 in
+      let led = lines_lead laws start (kept_lines (lines_of bytes)) part.reading (refl, refl, refl, refl) refl (read_on-kept 1 start (lines_of bytes) part read) in
+      script_reached part.reading (kept_lines (lines_of bytes)) script led (at_line_ok part.line (script_at part.reading.place part.reading) script step.2)
+
+  -- the lines of a text of a script lead to it
+  text_leads : (bytes : Bytes) (script : Script) → IsTextOf bytes script → after_lines start (kept_lines (lines_of bytes)) ≡ Ok (last_reading laws script)
+  unfolding IsTextOf
+  text_leads bytes script text = ap (after_lines start) text.1 ∙ script_again laws script text.0
+
+  -- a text of a script that isn't too long is read as it
+  pub read_text-text : (bytes : Bytes) (script : Script) → length bytes ≤ 4194304 → IsTextOf bytes script → read_text bytes ≡ Ok script
+  read_text-text bytes script short text =
+      let last = last_reading laws script in
+      let read = kept-read_on 1 start (lines_of bytes) last (text_leads bytes script text) in
+      ap (λ part. part >>= λ part. at_line part.line (script_at part.reading.place part.reading))
+      (cond-false (nat_lt 4194304 (length bytes)) (Err (record { line = 0; cause = causes.TooLong })) (read_on false 1 start (lines_of bytes)) (le-ltb 4194304 (length bytes) short) ∙ read.1)
+      ∙ ap (at_line read.0) (script_at-last laws script)
+
+  -- no text is of two scripts
+  pub one_script : (bytes : Bytes) (a b : Script) → IsTextOf bytes a → IsTextOf bytes b → a ≡ b
+  one_script bytes a b text other =
+      let same : last_reading laws a ≡ last_reading laws b = ok_is {E = Cause} (last_reading laws a) (last_reading laws b) (sym (text_leads bytes a text) ∙ text_leads bytes b other) in
+      ok_is {E = Cause} a b (sym (script_at-last laws a) ∙ ap (λ (r : Reading). script_at r.place r) same ∙ script_at-last laws b)
+
+  -- what is refused and isn't too long is a text of no script
+  pub no_script : (bytes : Bytes) (fault : Fault) (script : Script) → length bytes ≤ 4194304 → read_text bytes ≡ Err fault → IsTextOf bytes script → ⊥
+  no_script bytes fault script short refused text = let e = sym (read_text-text bytes script short text) ∙ refused in absurd cc
+
+-- what has a text is a script
+pub script-from_text : (bytes : Bytes) (script : Script) → IsTextOf bytes script → IsScript script
 unfolding IsTextOf
-text-from_read bytes text requests cut e =
-    let lines = map words_of (lines_of text) in
-    let read = bind_some (after_lines start lines) (λ reading. whole_requests reading.place reading.requests) requests e in
-    let led = lines_lead Start [] lines read.0 refl read.1 in
-    let end = is_finished read.0.place read.0.requests requests led.reached read.2 in
-    let form : IsFirstForm (script_of requests) = record { gates = refl; shards = refl; few = end.0.few; each = end.0.each; distinct = end.0.distinct; phases = refl; steps = refl } in
-    let same : lines ≡ script_lines (script_of requests) = sym led.told ∙ end.1 ∙ ap (λ header. header ∷ flat_map transaction_lines requests) (sym (header_line-first (script_of requests) form)) in
-    (form, cut ∙ sym (text_of-lines text) ∙ ap text_of same)
+script-from_text bytes script text = text.0
 
-pub form-from_text : (bytes : List ℕ) (script : Script) → IsTextOf bytes script → IsFirstForm script
+long : (b : Bool) (fault : Fault) (rest : Result Part Fault) {A : Type 0} (f : Part → Result A Fault) (value : A) → (cond b (Err fault) rest >>= f) ≡ Ok value → b ≡ false
+long true fault rest f value e = absurd cc
+long false fault rest f value e = refl
+
+-- what is read isn't too long
+pub short-from_read : (bytes : Bytes) (script : Script) → read_text bytes ≡ Ok script → length bytes ≤ 4194304
+short-from_read bytes script e =
+    ltb-false 4194304 (length bytes) (long (nat_lt 4194304 (length bytes)) (record { line = 0; cause = causes.TooLong }) (read_on false 1 start (lines_of bytes)) (λ part. at_line part.line (script_at part.reading.place part.reading)) script e)
+
+-- clean lines are cut from their text as they are
+pub printed : (script : Script) → IsScript script → kept_lines (lines_of (script_text script)) ≡ script_lines script → IsTextOf (script_text script) script
 unfolding IsTextOf
-form-from_text bytes script h = h.0
-
--- what reading makes of a text of a script
-pub record IsReadBack (bytes : List ℕ) (script : Script) : Type 0 where
-  pub text : List ℕ
-  pub cut : bytes ≡ text ++ 10 ∷ []
-  pub requests : requests_of text ≡ Some script.requests
-  pub made : script_of script.requests ≡ script
-
-pub read-from_text : (bytes : List ℕ) (script : Script) → IsTextOf bytes script → IsReadBack bytes script
-unfolding IsTextOf
-read-from_text bytes script h =
-    let rest = flat_map transaction_lines script.requests in
-    let text = join_with_byte 10 (map joined (script_lines script)) in
-    let whole = text_of-joined (header_line script) rest in
-    let lines : map words_of (lines_of text) ≡ script_lines script = lines_of-text_of (header_line script) rest text (script_is_clean script h.0) whole in
-    let form = h.0 in
-    record {
-      text = text;
-      cut = h.1 ∙ whole;
-      requests = ap (λ lines. after_lines start lines >>= λ reading. whole_requests reading.place reading.requests) lines ∙ ap (λ read. read >>= λ reading. whole_requests reading.place reading.requests) (script_again script form);
-      made = λ i. record { gates = sym form.gates i; shards = sym form.shards i; requests = script.requests; phases = sym form.phases i; steps = sym form.steps i };
-    }
-
--- two readings of one text
-same_requests : (bytes text : List ℕ) (requests : List Request) (script : Script) → bytes ≡ text ++ 10 ∷ [] → requests_of text ≡ Some requests → IsTextOf bytes script → script_of requests ≡ script
-same_requests bytes text requests script cut e h =
-    let back = read-from_text bytes script h in
-    let same : text ≡ back.text = append_cancel_right text back.text (10 ∷ []) (sym cut ∙ back.cut) in
-    ap script_of (some_is requests script.requests (sym e ∙ ap requests_of same ∙ back.requests)) ∙ back.made
-
-pub two-of_one_text : (bytes : List ℕ) (a b : Script) → IsTextOf bytes a → IsTextOf bytes b → a ≡ b
-two-of_one_text bytes a b h k =
-    let back = read-from_text bytes a h in
-    sym back.made ∙ same_requests bytes back.text a.requests b back.cut back.requests k
-
--- whatever doesn't end in a line feed
-pub no_text : (bytes : List ℕ) (script : Script) → ((front : List ℕ) → bytes ≢ front ++ 10 ∷ []) → ¬ IsTextOf bytes script
-no_text bytes script none h = let back = read-from_text bytes script h in none back.text back.cut
-
--- where the requests were read
-pub read_as : (bytes text : List ℕ) (requests : List Request) (script : Script) → bytes ≡ text ++ 10 ∷ [] → requests_of text ≡ Some requests → IsTextOf bytes script
-    → IsReadAs script (Ok (script_of requests))
-read_as bytes text requests script cut e h = same_requests bytes text requests script cut e h
-
--- where they were not
-pub not_read : (fault : ScriptFault) (bytes text : List ℕ) (script : Script) → bytes ≡ text ++ 10 ∷ [] → Gives {A = List Request} (Err fault) (requests_of text) → IsTextOf bytes script
-    → IsReadAs script (Err fault)
-not_read (Refused line cause) bytes text script cut e h = e
-not_read OtherForm bytes text script cut e h =
-    let back = read-from_text bytes script h in
-    let same : text ≡ back.text = append_cancel_right text back.text (10 ∷ []) (sym cut ∙ back.cut) in
-    let both : None ≡ Some script.requests = sym e ∙ ap requests_of same ∙ back.requests in
-    absurd cc
-not_read Memory bytes text script cut e h = tt
+printed script h e = (h, e)

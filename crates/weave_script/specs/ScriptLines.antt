@@ -1,13 +1,25 @@
--- The lines of a script of transactions, without phases and steps.
-use Rattle.std.specs.Prelude.{List, [], ◌∷◌, ◌++◌, map, codes}
-use Rattle.std.specs.List.{flat_map}
+-- The lines of a script.
+use Rattle.std.specs.Prelude.{ℕ, ◌+◌, nat_le, List, [], ◌∷◌, ◌++◌, map, Option, Some, None, codes, if◌then◌else◌}
 use Rattle.std.specs.Fmt.{decimal}
+use Rattle.std.specs.List.{slice_get}
+use Rattle.std.specs.Option.{option_map_or}
+use Rattle.weave_text.specs.Lines.{Bytes, Word, Line, lines_text}
+use Rattle.weave_data.specs.declared.name.Name.{Name}
 use Rattle.graph_ops.specs.declared.op.Op.{Op}
 use Rattle.graph_ops.specs.declared.op.Op.TheVariants.{Create, Delete, Set, Unset, Link, Unlink, Tag, Untag, Get}
+use Rattle.program_defs.specs.declared.program.Filter.{Filter}
+use Rattle.program_defs.specs.declared.program.Program.{Program}
+use Rattle.program_defs.specs.declared.program.Program.TheVariants.{Show, Reach, Around, Path}
 use Rattle.program_defs.specs.declared.script.Request.{Request}
 use Rattle.program_defs.specs.declared.script.Script.{Script}
-use Rattle.weave_report.specs.PlainRun.{ops_of}
-use Rattle.weave_script.specs.Lines.{Line}
+use Rattle.program_defs.specs.declared.script.Step.{Step}
+use Rattle.program_defs.specs.declared.script.Step.TheVariants.{Begin, Judge, Send, Say, Hear, Nop, Deliver, Apply, Visit, Reply, Collect, Epoch}
+use Rattle.program_defs.specs.declared.script.Work.{Work}
+use Rattle.program_defs.specs.declared.script.Work.TheVariants.{Change, Look}
+
+-- the first line, with the numbers of gatekeepers and shards
+abbrev pub header_line : ℕ → ℕ → Line
+header_line gates shards = codes "weaver" ∷ codes "1" ∷ decimal gates ∷ decimal shards ∷ []
 
 -- an operation's line: its word, and its fields in their order
 abbrev pub op_line : Op → Line
@@ -21,22 +33,94 @@ op_line (Tag v edge key value) = codes "tag" ∷ v ∷ edge ∷ key ∷ value �
 op_line (Untag v edge key) = codes "untag" ∷ v ∷ edge ∷ key ∷ []
 op_line (Get v) = codes "get" ∷ v ∷ []
 
--- the line that begins a transaction
-abbrev pub opening_line : Request → Line
-opening_line request = codes "tx" ∷ request.name ∷ decimal request.session ∷ decimal request.gate ∷ []
+-- the line that begins a transaction, with its name, session and gatekeeper
+abbrev pub opening_line : Name → ℕ → ℕ → Line
+opening_line name session gate = codes "tx" ∷ name ∷ decimal session ∷ decimal gate ∷ []
 
 -- the line that ends a transaction
 abbrev pub end_line : Line
 end_line = codes "end" ∷ []
 
--- a transaction's lines
-abbrev pub transaction_lines : Request → List Line
-transaction_lines request = opening_line request ∷ map op_line (ops_of request.work) ++ end_line ∷ []
+-- the words of a filter, where a program has one
+abbrev pub filter_words : Option Filter → List Word
+filter_words None = []
+filter_words (Some filter) = codes "where" ∷ filter.key ∷ filter.value ∷ []
 
--- a script's first line
-abbrev pub header_line : Script → Line
-header_line script = codes "weaver" ∷ codes "1" ∷ decimal script.gates ∷ decimal script.shards ∷ []
+-- a program's word, its fields in their order, and its filter
+abbrev pub program_words : Program → List Word
+program_words (Show v) = codes "show" ∷ v ∷ []
+program_words (Reach from to pass) = codes "reach" ∷ from ∷ to ∷ filter_words pass
+program_words (Around from bound pass) = codes "around" ∷ from ∷ decimal bound ∷ filter_words pass
+program_words (Path from to bound pass) = codes "path" ∷ from ∷ to ∷ decimal bound ∷ filter_words pass
+
+-- a program's line, with its name, session and gatekeeper
+abbrev pub program_line : Name → ℕ → ℕ → Program → Line
+program_line name session gate program = codes "prog" ∷ name ∷ decimal session ∷ decimal gate ∷ program_words program
+
+-- the lines of a piece of work: a transaction has one for each operation and one that ends it, a program has one alone
+abbrev pub work_lines : Name → ℕ → ℕ → Work → List Line
+work_lines name session gate (Change ops) = opening_line name session gate ∷ map op_line ops ++ end_line ∷ []
+work_lines name session gate (Look program) = program_line name session gate program ∷ []
+
+-- a request's lines
+abbrev pub request_lines : Request → List Line
+request_lines request = work_lines request.name request.session request.gate request.work
+
+-- the line that begins a phase
+abbrev pub phase_line : Line
+phase_line = codes "phase" ∷ []
+
+-- a line for each of these phases
+abbrev pub phase_lines : List ℕ → List Line
+phase_lines phases = map (λ _. phase_line) phases
+
+-- the first phases, as far as at most so many requests stand before each
+abbrev pub due_phases : ℕ → List ℕ → List ℕ
+due_phases n [] = []
+due_phases n (phase ∷ phases) = if nat_le phase n then phase ∷ due_phases n phases else []
+
+-- the phases behind these
+abbrev pub later_phases : ℕ → List ℕ → List ℕ
+later_phases n [] = []
+later_phases n (phase ∷ phases) = if nat_le phase n then later_phases n phases else phase ∷ phases
+
+-- the lines of requests before which so many stand, with the phases between and behind them
+abbrev pub item_lines : ℕ → List Request → List ℕ → List Line
+item_lines n [] phases = phase_lines phases
+item_lines n (request ∷ requests) phases = phase_lines (due_phases n phases) ++ request_lines request ++ item_lines (n + 1) requests (later_phases n phases)
+
+-- a request's name by its place; one that isn't there has an empty name
+abbrev pub name_of_request : List Request → ℕ → Word
+name_of_request requests place = option_map_or (λ (request : Request). request.name) (slice_get requests place) []
+
+-- a step's line: its word, and its fields in their order
+abbrev pub step_line : List Request → Step → Line
+step_line requests (Begin request) = codes "begin" ∷ name_of_request requests request ∷ []
+step_line requests (Judge gate) = codes "judge" ∷ decimal gate ∷ []
+step_line requests (Send gate) = codes "send" ∷ decimal gate ∷ []
+step_line requests (Say gate) = codes "say" ∷ decimal gate ∷ []
+step_line requests (Hear gate notice) = codes "hear" ∷ decimal gate ∷ decimal notice ∷ []
+step_line requests (Nop gate shard) = codes "nop" ∷ decimal gate ∷ decimal shard ∷ []
+step_line requests (Deliver gate shard number) = codes "deliver" ∷ decimal gate ∷ decimal shard ∷ decimal number ∷ []
+step_line requests (Apply shard gate) = codes "apply" ∷ decimal shard ∷ decimal gate ∷ []
+step_line requests (Visit request) = codes "visit" ∷ name_of_request requests request ∷ []
+step_line requests (Reply request) = codes "reply" ∷ name_of_request requests request ∷ []
+step_line requests (Collect shard) = codes "collect" ∷ decimal shard ∷ []
+step_line requests (Epoch gate epoch) = codes "epoch" ∷ decimal gate ∷ decimal epoch ∷ []
+
+-- the line behind which the steps stand
+abbrev pub steps_line : Line
+steps_line = codes "steps" ∷ []
+
+-- the lines of the steps, where the script has them
+abbrev pub steps_lines : List Request → Option (List Step) → List Line
+steps_lines requests None = []
+steps_lines requests (Some steps) = steps_line ∷ map (step_line requests) steps
 
 -- a script's lines
 abbrev pub script_lines : Script → List Line
-script_lines script = header_line script ∷ flat_map transaction_lines script.requests
+script_lines script = header_line script.gates script.shards ∷ item_lines 0 script.requests script.phases ++ steps_lines script.requests script.steps
+
+-- a script's one printed text
+abbrev pub script_text : Script → Bytes
+script_text script = lines_text (script_lines script)

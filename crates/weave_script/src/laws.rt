@@ -1,16 +1,68 @@
 //! What holds of every text of a script.
-ghost use Rattle.std.specs.Prelude.{◌≡◌, ℕ, List};
+ghost use Rattle.std.specs.Prelude.{◌≡◌, ◌≤◌, ◌<◌, ◌^◌, ℕ, List, length, Ok, Err, false};
 ghost use Rattle.std.specs.List.{AllByRecursion};
 ghost use Rattle.program_defs.specs.declared.script.Script.{Script};
-ghost use Rattle.weave_report.specs.PlainRun.{IsPlainTransaction};
-ghost use Rattle.weave_script.specs.FirstForm.{IsTextOf};
+ghost use Rattle.weave_report.specs.PlainRun.{IsPlainTransaction, ops_of};
+ghost use Rattle.weave_text.specs.Cutting.{lines_of};
+ghost use Rattle.weave_text.specs.Lines.{Bytes};
+ghost use Rattle.weave_script.specs.CheckText.{IsHead};
+ghost use Rattle.weave_script.specs.Faults.{IsFirstFault};
+ghost use Rattle.weave_script.specs.ReadText.{Fault, Head, head_of, read_text};
+ghost use Rattle.weave_script.specs.Reading.{start};
+ghost use Rattle.weave_script.specs.ScriptLines.{script_text};
+ghost use Rattle.weave_script.specs.Scripts.{IsScript};
+ghost use Rattle.weave_script.specs.Texts.{IsTextOf};
+ghost use Rattle.weave_script.specs.Unbuilt.{has_program, has_more_gatekeepers};
 
-/// No text is of two scripts.
-pub fn one_script()
-    ensures { (bytes : List ℕ) (a b : Script) → IsTextOf bytes a → IsTextOf bytes b → a ≡ b }
+use weave_text::{clean_lines_come_back, numbers_come_back, words_are_clean};
+
+/// What is read is a text of that script, and every text of a script that isn't too long is read as it. What is refused and isn't too long is a text of no script.
+pub fn texts_are_read()
+    ensures read { (bytes : Bytes) (script : Script) → read_text bytes ≡ Ok script → IsTextOf bytes script }
+    ensures short { (bytes : Bytes) (script : Script) → read_text bytes ≡ Ok script → length bytes ≤ 4194304 }
+    ensures every_text { (bytes : Bytes) (script : Script) → length bytes ≤ 4194304 → IsTextOf bytes script → read_text bytes ≡ Ok script }
+    ensures refused { (bytes : Bytes) (fault : Fault) (script : Script) → length bytes ≤ 4194304 → read_text bytes ≡ Err fault → ¬ IsTextOf bytes script }
+{
+    numbers_come_back();
+}
+
+/// The fault that is told of a text that isn't too long is its first one: the lines before it are accepted, and it is refused for that cause behind them.
+pub fn faults_are_first()
+    ensures { (bytes : Bytes) (fault : Fault) → length bytes ≤ 4194304 → read_text bytes ≡ Err fault → IsFirstFault 1 start (lines_of bytes) fault }
 {}
 
-/// A script that has a text, which for now is of the first form, asks for transactions at gatekeeper 0 alone.
+/// No text is of two scripts, and what has a text is a script whose numbers, names and counts are in their ranges.
+pub fn texts_are_of_one_script()
+    ensures one { (bytes : Bytes) (a b : Script) → IsTextOf bytes a → IsTextOf bytes b → a ≡ b }
+    ensures script { (bytes : Bytes) (script : Script) → IsTextOf bytes script → IsScript script }
+{
+    numbers_come_back();
+}
+
+/// A script's printed text is one of its texts, and is read as it where it isn't too long.
+pub fn printed_scripts_come_back()
+    ensures text { (script : Script) → IsScript script → IsTextOf (script_text script) script }
+    ensures read { (script : Script) → IsScript script → length (script_text script) ≤ 4194304 → read_text (script_text script) ≡ Ok script }
+{
+    clean_lines_come_back();
+    words_are_clean();
+    numbers_come_back();
+}
+
+/// The lines before a report that follows a script are those of the script.
+pub fn heads_are_texts()
+    ensures { (bytes : Bytes) (head : Head) → head_of bytes ≡ Ok head → IsHead bytes head.script head.left }
+{
+    numbers_come_back();
+}
+
+/// A script without programs at one gatekeeper asks for transactions at gatekeeper 0 alone.
 pub fn all_are_plain()
-    ensures { (bytes : List ℕ) (script : Script) → IsTextOf bytes script → AllByRecursion IsPlainTransaction script.requests }
+    ensures { (script : Script) → IsScript script → has_program script ≡ false → has_more_gatekeepers script ≡ false → AllByRecursion IsPlainTransaction script.requests }
+{}
+
+/// A script has few requests, and its transactions few operations.
+pub fn scripts_are_small()
+    ensures requests { (script : Script) → IsScript script → length script.requests ≤ 10000 }
+    ensures operations { (script : Script) → IsScript script → AllByRecursion (λ request. length (ops_of request.work) ≤ 64) script.requests }
 {}

@@ -1,21 +1,42 @@
-//! Scripts as texts. For now the reader takes scripts of the first form alone: one gatekeeper, one shard, and at most 15 transactions of `create`, `set` and `get` in one session.
+//! Scripts as texts, in the whole grammar: read, and printed.
 //!
-//! What is read is a text of the script, every text of a script is read as it unless memory is wanting, and no text is of two scripts.
+//! `read_script` gives what `read_text` in `specs/ReadText.antt` says of the bytes: the script of which they are a text, or the first line that can't be accepted and the first cause that holds in it. `print_script` writes a script's one printed text. The laws in `laws.rt` tie the two: what is read is a text of that script, every text of a script that isn't too long is read as it, no text is of two scripts, a printed script comes back, and the fault that is told is the first.
 #![tactic(auto)]
 
+mod check;
+#[cfg(test)]
+mod check_tests;
 mod fault;
-mod forms;
+mod fields;
+mod head;
+mod header;
+mod index;
 mod laws;
 mod limits;
-mod lines;
-mod numbers;
+mod ops;
+mod part;
+mod print;
+#[cfg(test)]
+mod print_tests;
 mod read;
+mod reader;
 mod reading;
+mod requests;
+mod steps;
+mod unbuilt;
 
+pub use check::read_check;
 pub use fault::{Cause, ScriptFault};
-pub use laws::{all_are_plain, one_script};
-pub use limits::{MOST_BYTES, MOST_OPS, MOST_REQUESTS};
+pub use laws::{
+    all_are_plain, faults_are_first, heads_are_texts, printed_scripts_come_back, scripts_are_small,
+    texts_are_of_one_script, texts_are_read,
+};
+pub use limits::{
+    MOST_BYTES, MOST_GETS, MOST_OPS, MOST_PROGRAMS, MOST_REQUESTS, MOST_STEPS, MOST_VERTICES,
+};
+pub use print::print_script;
 pub use read::read_script;
+pub use unbuilt::{has_more_gatekeepers, has_program};
 
 #[cfg(test)]
 mod tests;

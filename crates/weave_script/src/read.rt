@@ -1,39 +1,52 @@
 //! Reads a script from its text.
-ghost use Rattle.std.specs.Prelude.{◌≡◌, ◌<◌, ◌≤◌, length, IfOk, IsErrOf};
-ghost use Rattle.program_defs.specs.declared.script.Script.{Script};
-ghost use Rattle.weave_script.specs.FirstForm.{IsFirstForm, IsTextOf};
-ghost use Rattle.weave_script.specs.Answers.{IfRefused, IsReadAs};
+ghost use Rattle.std.specs.Prelude.{◌≡◌, Ok, Err, IfOk};
+ghost use Rattle.weave_script.specs.Answers.{IfRefused};
+ghost use Rattle.weave_script.specs.ReadText.{Fault, script_at, read_text};
 
 use crate::fault::{Cause, ScriptFault};
-use crate::limits::MOST_BYTES;
-use crate::reading::read_requests;
+use crate::part::{Part, read_part};
+use crate::reading::{Place, Reading};
 use program_defs::Script;
 use std::alloc::Global;
-use weave_data::Items;
 
-/// The script of which the bytes are a text.
+/// The script of which the bytes are a text, or the first fault of the text. Whoever wants the laws of texts calls those of `laws`.
 pub fn read_script(alloc: Global, bytes: &[u8]) -> Result<Script, ScriptFault>
-    ensures read { IfOk result (λ script. IsTextOf bytes.now script) }
-    ensures first_form { IfOk result (λ script. IsFirstForm script) }
-    ensures complete { (script : Script) → IsTextOf bytes.now script → length bytes.now ≤ MOST_BYTES → IsReadAs script result }
-    ensures too_long { MOST_BYTES < length bytes.now → IsErrOf result (ScriptFault.Refused 0 Cause.TooLong) }
-    ensures refused { IfRefused result (λ line cause. (line ≡ 0) × (cause ≡ Cause.TooLong) × (MOST_BYTES < length bytes.now)) }
-    ensures other_form { IsErrOf result ScriptFault.OtherForm → (script : Script) → ¬ IsTextOf bytes.now script }
+    ensures read { IfOk result (λ script. read_text bytes.now ≡ Ok script) }
+    ensures refused { IfRefused result (λ line cause. read_text bytes.now ≡ Err (record { line = line; cause = cause })) }
 {
-    if bytes.len() > MOST_BYTES {
-        return Err(ScriptFault::Refused {
-            line: 0,
-            cause: Cause::TooLong,
-        });
+    let Part {
+        reader,
+        line,
+        left: _,
+    } = read_part(alloc, false, bytes)?;
+    match script_at(reader.reading) {
+        Ok(script) => Ok(script),
+        Err(cause) => Err(ScriptFault::Refused { line, cause }),
     }
-    let Some(text) = bytes.strip_suffix(b"\n") else {
-        return Err(ScriptFault::OtherForm);
+}
+
+/// The script that ends here.
+pub(crate) fn script_at(reading: Reading) -> Result<Script, Cause>
+    ensures { result ≡ script_at reading.place reading }
+{
+    let Reading {
+        gates,
+        shards,
+        requests,
+        phases,
+        place,
+    } = reading;
+    let steps = match place {
+        Place::Start => return Err(Cause::Header),
+        Place::Inside { .. } => return Err(Cause::End),
+        Place::Between => None,
+        Place::Behind { steps } => Some(steps),
     };
     Ok(Script {
-        gates: 1,
-        shards: 1,
-        requests: read_requests(alloc, text)?,
-        phases: Items::new(alloc),
-        steps: None,
+        gates,
+        shards,
+        requests,
+        phases,
+        steps,
     })
 }

@@ -1,0 +1,92 @@
+-- The fault that is told is the first.
+use Rattle.std.proofs.Common.{◌≡◌, ℕ, suc, ◌+◌, ◌≤◌, Bool, true, false, cond, List, [], ◌∷◌, length, Ok, Err, refl, sym, ap, ◌∙◌, arith}
+use Rattle.std.specs.Prelude.{Result, nat_lt}
+use Rattle.std.proofs.lemmas.Bool.{cond-true, cond-false, le-ltb}
+use Rattle.program_defs.specs.declared.script.Script.{Script}
+use Rattle.weave_text.specs.Cutting.{lines_of, words_of, is_skipped}
+use Rattle.weave_text.specs.Lines.{Bytes}
+use Rattle.weave_script.specs.declared.fault.Cause.{Cause}
+use Rattle.weave_script.specs.declared.fault.Cause.TheVariants as causes
+use Rattle.weave_script.specs.declared.reading.Reading.{Reading}
+use Rattle.weave_script.specs.Fields.{Read, ◌>>=◌}
+use Rattle.weave_script.specs.Faults.{IsRefusedAt, IsFirstFault}
+use Rattle.weave_script.specs.ReadText.{Fault, Part, at_line, read_on, read_text, script_at}
+use Rattle.weave_script.specs.Reading.{start, after_line}
+
+abbrev err : {A E : Type 0} → E → Result A E
+err e = Err e
+
+same_fault : {A : Type 0} (a b : Fault) → err {A = A} a ≡ err b → a ≡ b
+same_fault a b e = cc
+
+-- what ends with the script that is read
+abbrev finish : Part → Result Script Fault
+finish part = at_line part.line (script_at part.reading.place part.reading)
+
+told_at : (n : ℕ) (cause : Cause) (fault : Fault) → err {A = Script} (record { line = n; cause = cause }) ≡ Err fault → (cause ≡ fault.cause) × (fault.line ≡ n)
+told_at n cause fault e =
+    let same : record { line = n; cause = cause } ≡ fault = same_fault {A = Script} (record { line = n; cause = cause }) fault e in
+    (ap (λ (f : Fault). f.cause) same, sym (ap (λ (f : Fault). f.line) same))
+
+fault_at : (n : ℕ) (read : Read Script) (fault : Fault) → at_line n read ≡ Err fault → (read ≡ Err fault.cause) × (fault.line ≡ n)
+fault_at n (Ok value) fault e = absurd cc
+fault_at n (Err cause) fault e = let h = told_at n cause fault e in (ap (λ c. Err c) h.0, h.1)
+
+-- one line that was accepted stands before
+further : (n : ℕ) (from next : Reading) (line : Bytes) (lines : List Bytes) (fault : Fault) → ((more : List Bytes) → read_on false n from (line ∷ more) ≡ read_on false (suc n) next more)
+    → IsFirstFault (suc n) next lines fault → IsFirstFault n from (line ∷ lines) fault
+further n from next line lines fault step first =
+    let count : suc n + length first.before ≡ n + length (line ∷ first.before) = omega arith in
+    record {
+      before = line ∷ first.before;
+      rest = first.rest;
+      parts = ap (λ lines. line ∷ lines) first.parts;
+      number = first.number ∙ count;
+      reading = first.reading;
+      accepted = step first.before ∙ first.accepted ∙ ap (λ k. Ok (record { reading = first.reading; line = k; left = [] })) count;
+      refused = first.refused;
+    }
+
+-- nothing stands before it
+at_once : (n : ℕ) (from : Reading) (lines : List Bytes) (fault : Fault) → fault.line ≡ n → IsRefusedAt from lines fault.cause → IsFirstFault n from lines fault
+at_once n from lines fault number refused =
+    let none : n ≡ n + 0 = omega arith in
+    record {
+      before = [];
+      rest = lines;
+      parts = refl;
+      number = number ∙ none;
+      reading = from;
+      accepted = ap (λ k. Ok (record { reading = from; line = k; left = [] })) none;
+      refused = refused;
+    }
+
+first_fault : (n : ℕ) (from : Reading) (lines : List Bytes) (fault : Fault) → (read_on false n from lines >>= finish) ≡ Err fault → IsFirstFault n from lines fault
+first_fault n from [] fault e =
+    let h = fault_at n (script_at from.place from) fault e in
+    at_once n from [] fault h.1 h.0
+first_fault n from (line ∷ lines) fault e = go (λ next e. first_fault (suc n) next lines fault e) (is_skipped line) refl e
+  where
+    taken : ((next : Reading) → (read_on false (suc n) next lines >>= finish) ≡ Err fault → IsFirstFault (suc n) next lines fault)
+        → is_skipped line ≡ false → (read : Read Reading) → after_line from (words_of line) ≡ read
+        → ((at_line n read >>= λ next. read_on false (suc n) next lines) >>= finish) ≡ Err fault → IsFirstFault n from (line ∷ lines) fault
+    taken rest kept (Ok next) read e =
+        further n from next line lines fault
+        (λ more. cond-false (is_skipped line) _ _ kept ∙ ap (λ read. at_line n read >>= λ next. read_on false (suc n) next more) read)
+        (rest next e)
+    taken rest kept (Err cause) read e =
+        let h = told_at n cause fault e in
+        at_once n from (line ∷ lines) fault h.1 (kept, read ∙ ap (λ c. Err c) h.0)
+
+    go : ((next : Reading) → (read_on false (suc n) next lines >>= finish) ≡ Err fault → IsFirstFault (suc n) next lines fault)
+        → (b : Bool) → is_skipped line ≡ b
+        → (cond b (read_on false (suc n) from lines) (at_line n (after_line from (words_of line)) >>= λ next. read_on false (suc n) next lines) >>= finish) ≡ Err fault
+        → IsFirstFault n from (line ∷ lines) fault
+    go rest true skipped e = further n from from line lines fault (λ more. cond-true (is_skipped line) _ _ skipped) (rest from e)
+    go rest false kept e = taken rest kept (after_line from (words_of line)) refl e
+
+-- of a text that isn't too long
+pub first_fault_of_text : (bytes : Bytes) (fault : Fault) → length bytes ≤ 4194304 → read_text bytes ≡ Err fault → IsFirstFault 1 start (lines_of bytes) fault
+first_fault_of_text bytes fault short e =
+    first_fault 1 start (lines_of bytes) fault
+    (sym (ap (λ part. part >>= finish) (cond-false (nat_lt 4194304 (length bytes)) (Err (record { line = 0; cause = causes.TooLong })) (read_on false 1 start (lines_of bytes)) (le-ltb 4194304 (length bytes) short))) ∙ e)

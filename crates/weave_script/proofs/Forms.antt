@@ -1,0 +1,12 @@
+-- Forms of lines, by their number of words.
+use Rattle.std.proofs.Common.{◌≡◌, ℕ, ◌<◌, [], ◌∷◌, length, Err, refl, arith}
+use Rattle.weave_text.specs.Lines.{Line}
+use Rattle.weave_script.specs.declared.fault.Cause.TheVariants as causes
+use Rattle.weave_script.specs.RequestLines.{prog_of}
+
+-- too few words for a program
+pub prog_of-short : (gates : ℕ) (line : Line) → length line < 3 → prog_of gates line ≡ Err causes.Line
+prog_of-short gates [] few = refl
+prog_of-short gates (a ∷ []) few = refl
+prog_of-short gates (a ∷ b ∷ []) few = refl
+prog_of-short gates (a ∷ b ∷ c ∷ rest) few = absurd (omega arith)

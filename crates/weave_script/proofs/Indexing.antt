@@ -1,0 +1,140 @@
+-- The index of requests, as it grows.
+use Rattle.std.proofs.Common.{◌≡◌, ℕ, ◌+◌, suc, Bool, true, false, cond, ◌||◌, List, [], ◌∷◌, ◌++◌, length, Option, Some, None, refl, sym, ap, ◌∙◌, subst, arith}
+use Rattle.std.specs.Prelude.{is_some, count_by}
+use Rattle.std.specs.List.{flat_map}
+use Rattle.std.proofs.lemmas.Grind.{flat_map-append}
+use Rattle.std.proofs.lemmas.List.{append-nil}
+use Rattle.std.proofs.lemmas.List.Folds.{list_any-append}
+use Rattle.std.proofs.lemmas.List.Sums.{fold-append, sum_by-append}
+use Rattle.weave_data.specs.Names.{same_name, one_name}
+use Rattle.weave_data.specs.Pairs.{at_key, has, put}
+use Rattle.weave_data.specs.declared.name.Name.{Name}
+use Rattle.graph_ops.specs.Mentions.{is_among, with_name}
+use Rattle.graph_ops.specs.declared.op.Op.{Op}
+use Rattle.graph_ops.specs.declared.op.Op.TheVariants.{Create, Delete, Set, Unset, Link, Unlink, Tag, Untag, Get}
+use Rattle.program_defs.specs.declared.script.Request.{Request}
+use Rattle.program_defs.specs.declared.script.Work.TheVariants.{Change}
+use Rattle.weave_script.specs.Indexed.{IsSetOf, IsPlaces, IsNew}
+use Rattle.weave_script.specs.Limits.{with_names, vertices_of, vertices_of_work, vertices_of_op, programs_of, is_program, gets_of, gets_of_work, is_get}
+use Rattle.weave_script.specs.RequestLines.{request_of}
+use Rattle.weave_script.specs.StepLines.{place_of}
+use Rattle.weave_script.specs.declared.reading.Opening.{Opening}
+use Rattle.weave_script.proofs.Keys.{same_both_ways, at_key-put, length-put, position_from-push_yes, position_from-push_no, position_from-last}
+
+-- ---- sets of names
+
+module _ {X : Type 0} where
+  present : (found : Option X) → is_some found ≡ false → found ≡ None
+  present None e = refl
+  present (Some x) e = absurd cc
+
+  has_put : (same : Bool) (v : X) (found : Option X) (among : Bool) → is_some found ≡ among → is_some (cond same (Some v) found) ≡ (among || (same || false))
+  has_put true v found true e = refl
+  has_put true v found false e = refl
+  has_put false v found true e = e
+  has_put false v found false e = e
+
+  -- a new name was put
+  pub set_put : (pairs : List (List ℕ × X)) (names : List Name) (name : Name) (v : X) → IsSetOf pairs names → has name pairs ≡ false → IsSetOf (put name v pairs) (with_name name names)
+  set_put pairs names name v set new =
+      let fresh : is_among names name ≡ false = sym (set.among name) ∙ new in
+      subst (IsSetOf (put name v pairs)) (ap (λ b. cond b names (names ++ name ∷ [])) (sym fresh)) (record {
+        among = λ other.
+            ap is_some (at_key-put name other v pairs)
+            ∙ has_put (same_name other name) v (at_key other pairs) (is_among names other) (set.among other)
+            ∙ ap (λ b. is_among names other || (b || false)) (same_both_ways other name)
+            ∙ sym (list_any-append (λ n. same_name n other) names (name ∷ []));
+        count = length-put name v pairs (present (at_key name pairs) new) ∙ ap suc set.count ∙ sym (length_one_more names);
+      })
+    where
+      length_one_more : (xs : List Name) → length (xs ++ name ∷ []) ≡ suc (length xs)
+      length_one_more [] = refl
+      length_one_more (x ∷ xs) = ap suc (length_one_more xs)
+
+  -- the name was there
+  pub set_same : (pairs : List (List ℕ × X)) (names : List Name) (name : Name) → IsSetOf pairs names → has name pairs ≡ true → IsSetOf pairs (with_name name names)
+  set_same pairs names name set there = subst (IsSetOf pairs) (ap (λ b. cond b names (names ++ name ∷ [])) (sym (sym (set.among name) ∙ there))) set
+
+-- ---- places
+
+-- a new name was put with the place behind all
+pub places_put : (pairs : List (List ℕ × ℕ)) (requests : List Request) (name : Name) (place : ℕ) (request : Request)
+    → IsPlaces pairs requests → IsNew name place requests → request.name ≡ name → IsPlaces (put name place pairs) (requests ++ request ∷ [])
+places_put pairs requests name place request places new named other = at_key-put name other place pairs ∙ go (same_name other name) refl
+  where
+    go : (b : Bool) → same_name other name ≡ b → cond b (Some place) (at_key other pairs) ≡ place_of other (requests ++ request ∷ [])
+    go true h =
+        let same : other ≡ name = one_name other name h in
+        let none : place_of other requests ≡ None = subst (λ n. place_of n requests ≡ None) (sym same) new.0 in
+        let here : same_name request.name other ≡ true = subst (λ n. same_name n other ≡ true) (sym named ∙ refl) (sym (same_both_ways other name) ∙ h) in
+        ap (λ n. Some n) (new.1 ∙ omega arith) ∙ sym (position_from-push_yes (λ r. same_name r.name other) 0 requests request none here)
+    go false h =
+        let elsewhere : same_name request.name other ≡ false = ap (λ n. same_name n other) named ∙ sym (same_both_ways other name) ∙ h in
+        places other ∙ sym (position_from-push_no (λ r. same_name r.name other) 0 requests request elsewhere)
+
+-- ---- counts of one more request
+
+pub vertices_of-push : (requests : List Request) (request : Request) → vertices_of (requests ++ request ∷ []) ≡ with_names (vertices_of requests) (vertices_of_work request.work)
+vertices_of-push requests request =
+    ap (λ names. with_names [] names) (flat_map-append (λ (r : Request). vertices_of_work r.work) requests (request ∷ []) ∙ ap (λ more. flat_map (λ (r : Request). vertices_of_work r.work) requests ++ more) (append-nil (vertices_of_work request.work)))
+    ∙ fold-append (λ so_far name. with_name name so_far) [] (flat_map (λ (r : Request). vertices_of_work r.work) requests) (vertices_of_work request.work)
+
+pub gets_of-push : (requests : List Request) (request : Request) → gets_of (requests ++ request ∷ []) ≡ gets_of requests + gets_of_work request.work
+gets_of-push requests request = sum_by-append (λ (r : Request). gets_of_work r.work) requests (request ∷ []) ∙ omega arith
+
+pub programs_of-push : (requests : List Request) (request : Request) → programs_of (requests ++ request ∷ []) ≡ programs_of requests + cond (is_program request.work) 1 0
+programs_of-push requests request = sum_by-append (λ (r : Request). cond (is_program r.work) 1 0) requests (request ∷ []) ∙ omega arith
+
+-- ---- a transaction, and its operations
+
+pub op_places : (pairs : List (List ℕ × ℕ)) (requests : List Request) (opening : Opening) (ops more : List Op)
+    → IsPlaces pairs (requests ++ request_of opening (Change ops) ∷ []) → IsPlaces pairs (requests ++ request_of opening (Change more) ∷ [])
+op_places pairs requests opening ops more places name =
+    places name ∙ position_from-last (λ (r : Request). same_name r.name name) 0 requests (request_of opening (Change ops)) (request_of opening (Change more)) refl
+
+pub op_vertices : (requests : List Request) (opening : Opening) (ops : List Op) (op : Op)
+    → vertices_of (requests ++ request_of opening (Change (ops ++ op ∷ [])) ∷ []) ≡ with_names (vertices_of (requests ++ request_of opening (Change ops) ∷ [])) (vertices_of_op op)
+op_vertices requests opening ops op =
+    vertices_of-push requests (request_of opening (Change (ops ++ op ∷ [])))
+    ∙ ap (λ names. with_names (vertices_of requests) names) (flat_map-append vertices_of_op ops (op ∷ []) ∙ ap (λ more. flat_map vertices_of_op ops ++ more) (append-nil (vertices_of_op op)))
+    ∙ fold-append (λ so_far name. with_name name so_far) (vertices_of requests) (flat_map vertices_of_op ops) (vertices_of_op op)
+    ∙ ap (λ names. with_names names (vertices_of_op op)) (sym (vertices_of-push requests (request_of opening (Change ops))))
+
+pub op_gets : (requests : List Request) (opening : Opening) (ops : List Op) (op : Op)
+    → gets_of (requests ++ request_of opening (Change (ops ++ op ∷ [])) ∷ []) ≡ gets_of (requests ++ request_of opening (Change ops) ∷ []) + cond (is_get op) 1 0
+op_gets requests opening ops op =
+    let more : count_by is_get (ops ++ op ∷ []) ≡ count_by is_get ops + cond (is_get op) 1 0 = sum_by-append (λ o. cond (is_get o) 1 0) ops (op ∷ []) ∙ omega arith in
+    omega (arith, gets_of-push requests (request_of opening (Change (ops ++ op ∷ []))), gets_of-push requests (request_of opening (Change ops)), more)
+
+pub op_programs : (requests : List Request) (opening : Opening) (ops more : List Op)
+    → programs_of (requests ++ request_of opening (Change more) ∷ []) ≡ programs_of (requests ++ request_of opening (Change ops) ∷ [])
+op_programs requests opening ops more = programs_of-push requests (request_of opening (Change more)) ∙ sym (programs_of-push requests (request_of opening (Change ops)))
+
+pub not_get : (op : Op) → ((v : Name) → op ≡ Get v → ⊥) → is_get op ≡ false
+not_get (Create v) other = refl
+not_get (Delete v) other = refl
+not_get (Set v key value) other = refl
+not_get (Unset v key) other = refl
+not_get (Link v edge target) other = refl
+not_get (Unlink v edge) other = refl
+not_get (Tag v edge key value) other = refl
+not_get (Untag v edge key) other = refl
+not_get (Get v) other = absurd (other v refl)
+
+pub transaction_vertices : (requests : List Request) (opening : Opening) → vertices_of (requests ++ request_of opening (Change []) ∷ []) ≡ vertices_of requests
+transaction_vertices requests opening = vertices_of-push requests (request_of opening (Change []))
+
+pub transaction_counts : (requests : List Request) (opening : Opening)
+    → (programs_of (requests ++ request_of opening (Change []) ∷ []) ≡ programs_of requests) × (gets_of (requests ++ request_of opening (Change []) ∷ []) ≡ gets_of requests)
+transaction_counts requests opening = (omega (arith, programs_of-push requests (request_of opening (Change []))), omega (arith, gets_of-push requests (request_of opening (Change []))))
+
+-- one more operation that is a `get`, or is none
+pub get_more : (requests : List Request) (opening : Opening) (ops : List Op) (op : Op) → is_get op ≡ true
+    → gets_of (requests ++ request_of opening (Change ops) ∷ []) + 1 ≡ gets_of (requests ++ request_of opening (Change (ops ++ op ∷ [])) ∷ [])
+get_more requests opening ops op get = sym (op_gets requests opening ops op ∙ ap (λ b. gets_of (requests ++ request_of opening (Change ops) ∷ []) + cond b 1 0) get)
+
+pub no_get_more : (requests : List Request) (opening : Opening) (ops : List Op) (op : Op) → is_get op ≡ false
+    → gets_of (requests ++ request_of opening (Change ops) ∷ []) ≡ gets_of (requests ++ request_of opening (Change (ops ++ op ∷ [])) ∷ [])
+no_get_more requests opening ops op none =
+    let more = op_gets requests opening ops op ∙ ap (λ b. gets_of (requests ++ request_of opening (Change ops) ∷ []) + cond b 1 0) none in
+    omega (arith, more)

@@ -1,0 +1,50 @@
+-- Phases that rise.
+use Rattle.std.proofs.Common.{◌≡◌, ℕ, ◌+◌, ◌≤◌, Bool, true, false, cond, ◌&&◌, List, [], ◌∷◌, ◌++◌, refl, ap, arith}
+use Rattle.std.specs.Prelude.{nat_le}
+use Rattle.std.proofs.lemmas.Bool.{le-leb, leb-true, leb-false}
+use Rattle.weave_script.specs.ScriptLines.{due_phases, later_phases}
+use Rattle.weave_script.specs.Scripts.{RiseTo}
+use Rattle.weave_script.proofs.Items.{are_at_most}
+
+-- to a higher end
+pub rise_further : (low high more : ℕ) (phases : List ℕ) → high ≤ more → RiseTo low high phases → RiseTo low more phases
+rise_further low high more [] above h = tt
+rise_further low high more (phase ∷ phases) above h = (h.0, omega (arith, h.1), rise_further phase high more phases above h.2)
+
+-- and one more at the end
+pub rise-push : (low high : ℕ) (phases : List ℕ) → low ≤ high → RiseTo low high phases → RiseTo low high (phases ++ high ∷ [])
+rise-push low high [] some h = (some, omega arith, tt)
+rise-push low high (phase ∷ phases) some h = (h.0, h.1, rise-push phase high phases h.1 h.2)
+
+both : (a b : Bool) → a ≡ true → b ≡ true → (a && b) ≡ true
+both true b h k = k
+both false b h k = absurd cc
+
+-- each is at most the end
+pub rising-at_most : (low high : ℕ) (phases : List ℕ) → RiseTo low high phases → are_at_most high phases ≡ true
+rising-at_most low high [] h = refl
+rising-at_most low high (phase ∷ phases) h = both (nat_le phase high) (are_at_most high phases) (le-leb phase high h.1) (rising-at_most phase high phases h.2)
+
+-- ---- phases that are due
+
+chosen : (b : Bool) {A : Type 0} (x y : A) (P : A → Type 0) → (b ≡ true → P x) → (b ≡ false → P y) → P (cond b x y)
+chosen true x y P first second = first refl
+chosen false x y P first second = second refl
+
+pub due_rise : (low n high : ℕ) (phases : List ℕ) → RiseTo low high phases → RiseTo low n (due_phases n phases)
+due_rise low n high [] h = tt
+due_rise low n high (phase ∷ phases) h =
+    chosen (nat_le phase n) (phase ∷ due_phases n phases) [] (RiseTo low n) (λ due. (h.0, leb-true phase n due, due_rise phase n high phases h.2)) (λ later. tt)
+
+pub later_rise : (low n high : ℕ) (phases : List ℕ) → RiseTo low high phases → RiseTo (n + 1) high (later_phases n phases)
+later_rise low n high [] h = tt
+later_rise low n high (phase ∷ phases) h =
+    chosen (nat_le phase n) (later_phases n phases) (phase ∷ phases) (RiseTo (n + 1) high) (λ due. later_rise phase n high phases h.2) (λ later. (omega (arith, leb-false phase n later), h.1, h.2))
+
+pub due_and_later : (n : ℕ) (phases : List ℕ) → due_phases n phases ++ later_phases n phases ≡ phases
+due_and_later n [] = refl
+due_and_later n (phase ∷ phases) = go (nat_le phase n) (due_and_later n phases)
+  where
+    go : (b : Bool) → due_phases n phases ++ later_phases n phases ≡ phases → cond b (phase ∷ due_phases n phases) [] ++ cond b (later_phases n phases) (phase ∷ phases) ≡ phase ∷ phases
+    go true rest = ap (λ more. phase ∷ more) rest
+    go false rest = refl

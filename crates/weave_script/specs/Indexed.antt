@@ -1,0 +1,50 @@
+-- What the reader keeps beside the script so far. No public contract cites this.
+use Rattle.std.specs.Prelude.{◌≡◌, ℕ, List, length, None, Result, Ok, Err}
+use Rattle.weave_data.specs.Pairs.{at_key, has}
+use Rattle.weave_data.specs.declared.name.Name.{Name}
+use Rattle.graph_ops.specs.Mentions.{is_among}
+use Rattle.program_defs.specs.declared.script.Request.{Request}
+use Rattle.weave_script.specs.declared.fault.LineFault.{LineFault}
+use Rattle.weave_script.specs.declared.fault.LineFault.TheVariants.{Refused, Memory}
+use Rattle.weave_script.specs.declared.index.Index.{Index}
+use Rattle.weave_script.specs.declared.reader.Reader.{Reader}
+use Rattle.weave_script.specs.declared.reading.Reading.{Reading}
+use Rattle.weave_script.specs.Fields.{Read}
+use Rattle.weave_script.specs.Limits.{over_limit, vertices_of, programs_of, gets_of}
+use Rattle.weave_script.specs.Reading.{requests_so_far, counts_so_far}
+use Rattle.weave_script.specs.StepLines.{place_of}
+
+-- the map has these names as its keys
+pub record IsSetOf {X : Type 0} (pairs : List (List ℕ × X)) (names : List Name) : Type 0 where
+  pub among : (name : Name) → has name pairs ≡ is_among names name
+  pub count : length pairs ≡ length names
+
+-- the map has at each name the place of its request
+abbrev pub IsPlaces : List (List ℕ × ℕ) → List Request → Type 0
+IsPlaces pairs requests = (name : Name) → at_key name pairs ≡ place_of name requests
+
+-- no request has the name, and the place is that of a request behind them
+abbrev pub IsNew : Name → ℕ → List Request → Type 0
+IsNew name place requests = (place_of name requests ≡ None) × (place ≡ length requests)
+
+-- the index is that of these requests
+pub record IsIndexOf (index : Index) (requests : List Request) : Type 0 where
+  pub places : IsPlaces index.places requests
+  pub vertices : IsSetOf index.vertices (vertices_of requests)
+  pub programs : index.programs ≡ programs_of requests
+  pub gets : index.gets ≡ gets_of requests
+
+-- the reader's index is that of its requests so far
+abbrev pub IsIndexed : Reader → Type 0
+IsIndexed reader = IsIndexOf reader.index (requests_so_far reader.reading.place reader.reading.requests)
+
+-- and no limit is met
+pub record IsReady (reader : Reader) : Type 0 where
+  pub indexed : IsIndexed reader
+  pub within : over_limit (counts_so_far reader.reading) ≡ None
+
+-- a function gives the reader after a line, or the line's cause, unless memory runs out
+abbrev pub Gives : (Reader → Type 0) → Result Reader LineFault → Read Reading → Type 0
+Gives Fits (Ok reader) read = (read ≡ Ok reader.reading) × Fits reader
+Gives Fits (Err (Refused cause)) read = read ≡ Err cause
+Gives Fits (Err Memory) read = Unit {0}

@@ -1,0 +1,92 @@
+-- The limits on a script, and what of it they count.
+use Rattle.std.specs.Prelude.{ℕ, Bool, true, false, List, [], ◌∷◌, length, fold, sum_by, count_by, Option, Some, None, nat_lt, if◌then◌else◌}
+use Rattle.std.specs.List.{flat_map}
+use Rattle.weave_data.specs.declared.name.Name.{Name}
+use Rattle.graph_ops.specs.Mentions.{with_name}
+use Rattle.graph_ops.specs.declared.op.Op.{Op}
+use Rattle.graph_ops.specs.declared.op.Op.TheVariants.{Create, Delete, Set, Unset, Link, Unlink, Tag, Untag, Get}
+use Rattle.program_defs.specs.declared.program.Program.{Program}
+use Rattle.program_defs.specs.declared.program.Program.TheVariants.{Show, Reach, Around, Path}
+use Rattle.program_defs.specs.declared.script.Request.{Request}
+use Rattle.program_defs.specs.declared.script.Work.{Work}
+use Rattle.program_defs.specs.declared.script.Work.TheVariants.{Change, Look}
+use Rattle.weave_script.specs.declared.fault.Cause.{Cause}
+use Rattle.weave_script.specs.declared.fault.Cause.TheVariants as causes
+use Rattle.weave_script.specs.declared.reading.Counts.{Counts}
+
+-- the table of limits: the cause of the first one that is met
+abbrev pub over_limit : Counts → Option Cause
+over_limit counts =
+    if nat_lt 64 counts.operations then Some causes.Operations
+    else if nat_lt 10000 counts.requests then Some causes.Requests
+    else if nat_lt 1000 counts.programs then Some causes.Programs
+    else if nat_lt 1000 counts.gets then Some causes.Gets
+    else if nat_lt 10000 counts.vertices then Some causes.Vertices
+    else if nat_lt 100000 counts.steps then Some causes.Steps
+    else None
+
+-- the names that stand in an operation as vertices
+abbrev pub vertices_of_op : Op → List Name
+vertices_of_op (Create v) = v ∷ []
+vertices_of_op (Delete v) = v ∷ []
+vertices_of_op (Set v key value) = v ∷ []
+vertices_of_op (Unset v key) = v ∷ []
+vertices_of_op (Link v edge target) = v ∷ target ∷ []
+vertices_of_op (Unlink v edge) = v ∷ []
+vertices_of_op (Tag v edge key value) = v ∷ []
+vertices_of_op (Untag v edge key) = v ∷ []
+vertices_of_op (Get v) = v ∷ []
+
+-- and in a program
+abbrev pub vertices_of_program : Program → List Name
+vertices_of_program (Show v) = v ∷ []
+vertices_of_program (Reach from to pass) = from ∷ to ∷ []
+vertices_of_program (Around from bound pass) = from ∷ []
+vertices_of_program (Path from to bound pass) = from ∷ to ∷ []
+
+-- and in a piece of work
+abbrev pub vertices_of_work : Work → List Name
+vertices_of_work (Change ops) = flat_map vertices_of_op ops
+vertices_of_work (Look program) = vertices_of_program program
+
+-- names with some more, each once
+abbrev pub with_names : List Name → List Name → List Name
+with_names so_far names = fold (λ so_far name. with_name name so_far) so_far names
+
+-- the different names of vertices in requests
+abbrev pub vertices_of : List Request → List Name
+vertices_of requests = with_names [] (flat_map (λ request. vertices_of_work request.work) requests)
+
+-- the work is a program
+abbrev pub is_program : Work → Bool
+is_program (Change ops) = false
+is_program (Look program) = true
+
+-- the operation is a `get`
+abbrev pub is_get : Op → Bool
+is_get (Get v) = true
+is_get _ = false
+
+-- how many operations of a transaction are `get`
+abbrev pub gets_of_work : Work → ℕ
+gets_of_work (Change ops) = count_by is_get ops
+gets_of_work (Look program) = 0
+
+-- and how many in all
+abbrev pub gets_of : List Request → ℕ
+gets_of requests = sum_by (λ request. gets_of_work request.work) requests
+
+-- how many requests are programs
+abbrev pub programs_of : List Request → ℕ
+programs_of requests = count_by (λ request. is_program request.work) requests
+
+-- the counts of so many operations of an open transaction, of requests, and of so many steps
+abbrev pub counts_of : ℕ → List Request → ℕ → Counts
+counts_of operations requests steps = record {
+  operations = operations;
+  requests = length requests;
+  programs = programs_of requests;
+  gets = gets_of requests;
+  vertices = length (vertices_of requests);
+  steps = steps;
+}

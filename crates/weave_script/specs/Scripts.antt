@@ -1,0 +1,100 @@
+-- Scripts that have a text.
+use Rattle.std.specs.Prelude.{◌≡◌, ◌≤◌, ◌<◌, ℕ, IsTrue, List, [], ◌∷◌, length, map, Option, Some, None}
+use Rattle.std.specs.List.{AllByRecursion, IsDistinct}
+use Rattle.weave_data.specs.Names.{is_name, same_name}
+use Rattle.weave_data.specs.declared.name.Name.{Name}
+use Rattle.graph_ops.specs.declared.op.Op.{Op}
+use Rattle.graph_ops.specs.declared.op.Op.TheVariants.{Create, Delete, Set, Unset, Link, Unlink, Tag, Untag, Get}
+use Rattle.program_defs.specs.declared.program.Filter.{Filter}
+use Rattle.program_defs.specs.declared.program.Program.{Program}
+use Rattle.program_defs.specs.declared.program.Program.TheVariants.{Show, Reach, Around, Path}
+use Rattle.program_defs.specs.declared.script.Request.{Request}
+use Rattle.program_defs.specs.declared.script.Script.{Script}
+use Rattle.program_defs.specs.declared.script.Step.{Step}
+use Rattle.program_defs.specs.declared.script.Step.TheVariants.{Begin, Judge, Send, Say, Hear, Nop, Deliver, Apply, Visit, Reply, Collect, Epoch}
+use Rattle.program_defs.specs.declared.script.Work.{Work}
+use Rattle.program_defs.specs.declared.script.Work.TheVariants.{Change, Look}
+use Rattle.weave_script.specs.Limits.{over_limit, counts_of}
+
+-- the bytes are those of a name
+abbrev pub IsName : Name → Type 0
+IsName name = IsTrue (is_name name)
+
+-- every field is a name
+abbrev pub IsOperation : Op → Type 0
+IsOperation (Create v) = IsName v
+IsOperation (Delete v) = IsName v
+IsOperation (Set v key value) = IsName v × IsName key × IsName value
+IsOperation (Unset v key) = IsName v × IsName key
+IsOperation (Link v edge target) = IsName v × IsName edge × IsName target
+IsOperation (Unlink v edge) = IsName v × IsName edge
+IsOperation (Tag v edge key value) = IsName v × IsName edge × IsName key × IsName value
+IsOperation (Untag v edge key) = IsName v × IsName edge × IsName key
+IsOperation (Get v) = IsName v
+
+-- names, where there is a filter
+abbrev pub IsFilter : Option Filter → Type 0
+IsFilter None = Unit {0}
+IsFilter (Some filter) = IsName filter.key × IsName filter.value
+
+-- names, and a bound of at most 1,000
+abbrev pub IsProgram : Program → Type 0
+IsProgram (Show v) = IsName v
+IsProgram (Reach from to pass) = IsName from × IsName to × IsFilter pass
+IsProgram (Around from bound pass) = IsName from × (bound ≤ 1000) × IsFilter pass
+IsProgram (Path from to bound pass) = IsName from × IsName to × (bound ≤ 1000) × IsFilter pass
+
+-- a program, or at most 64 operations
+abbrev pub IsWork : Work → Type 0
+IsWork (Change ops) = AllByRecursion IsOperation ops × (length ops ≤ 64)
+IsWork (Look program) = IsProgram program
+
+-- a request of a session 0 to 63 at one of so many gatekeepers
+pub record IsRequest (gates : ℕ) (request : Request) : Type 0 where
+  pub name : IsName request.name
+  pub session : request.session ≤ 63
+  pub gate : request.gate < gates
+  pub work : IsWork request.work
+
+-- a number of a notice or a message
+abbrev pub IsNotice : ℕ → Type 0
+IsNotice n = (1 ≤ n) × (n ≤ 100000)
+
+-- a step in a script of so many gatekeepers, shards and requests
+abbrev pub IsStep : ℕ → ℕ → ℕ → Step → Type 0
+IsStep gates shards requests (Begin request) = request < requests
+IsStep gates shards requests (Judge gate) = gate < gates
+IsStep gates shards requests (Send gate) = gate < gates
+IsStep gates shards requests (Say gate) = gate < gates
+IsStep gates shards requests (Hear gate notice) = (gate < gates) × IsNotice notice
+IsStep gates shards requests (Nop gate shard) = (gate < gates) × (shard < shards)
+IsStep gates shards requests (Deliver gate shard number) = (gate < gates) × (shard < shards) × IsNotice number
+IsStep gates shards requests (Apply shard gate) = (shard < shards) × (gate < gates)
+IsStep gates shards requests (Visit request) = request < requests
+IsStep gates shards requests (Reply request) = request < requests
+IsStep gates shards requests (Collect shard) = shard < shards
+IsStep gates shards requests (Epoch gate epoch) = (gate < gates) × (1 ≤ epoch) × (epoch ≤ 1000000)
+
+-- the requests' names
+abbrev pub names_of : List Request → List Name
+names_of requests = map (λ request. request.name) requests
+
+-- each number is at least the one before it, and so many at most
+abbrev pub RiseTo : ℕ → ℕ → List ℕ → Type 0
+RiseTo low high [] = Unit {0}
+RiseTo low high (n ∷ ns) = (low ≤ n) × (n ≤ high) × RiseTo n high ns
+
+-- the steps that a script has
+abbrev pub steps_of : Option (List Step) → List Step
+steps_of None = []
+steps_of (Some steps) = steps
+
+-- Everything is in its range, no two requests have one name, phases stand before, between and behind requests in their order, and no limit is met.
+pub record IsScript (script : Script) : Type 0 where
+  pub gates : (1 ≤ script.gates) × (script.gates ≤ 8)
+  pub shards : (1 ≤ script.shards) × (script.shards ≤ 16)
+  pub requests : AllByRecursion (IsRequest script.gates) script.requests
+  pub distinct : IsDistinct same_name (names_of script.requests)
+  pub phases : RiseTo 0 (length script.requests) script.phases
+  pub steps : AllByRecursion (IsStep script.gates script.shards (length script.requests)) (steps_of script.steps)
+  pub within : over_limit (counts_of 0 script.requests (length (steps_of script.steps))) ≡ None

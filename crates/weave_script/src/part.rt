@@ -1,0 +1,103 @@
+//! The lines of a text, up to where its script ends.
+ghost use Rattle.std.specs.Prelude.{◌≡◌, ◌≤◌, ◌<◌, ◌^◌, ◌+◌, map, length, IfOk, IsTrue};
+ghost use Rattle.weave_text.specs.Cutting.{lines_of, words_of, is_skipped};
+ghost use Rattle.weave_script.specs.Indexed.{IsReady};
+ghost use Rattle.weave_script.specs.Parts.{GivesPart, Takes};
+ghost use Rattle.weave_script.specs.ReadText.{is_open, is_report, read_on, read_part};
+ghost use Rattle.weave_script.specs.Reading.{start};
+
+use crate::fault::{Cause, LineFault, ScriptFault};
+use crate::limits::MOST_BYTES;
+use crate::reader::{Reader, after_line, start};
+use crate::reading::Place;
+use std::alloc::Global;
+use weave_text::{first_line, is, is_skipped, words};
+
+/// How far a text has been read: the script so far, the number of the next line, and what is left.
+#[derive(Drop)]
+pub(crate) struct Part<'a> {
+    pub(crate) reader: Reader,
+    pub(crate) line: u32,
+    pub(crate) left: &'a [u8],
+}
+
+/// Reads a text to its end, or, where a report is to follow, to the first line of that.
+pub(crate) fn read_part(alloc: Global, report: bool, bytes: &[u8]) -> Result<Part<'_>, ScriptFault>
+    ensures part { GivesPart result (read_part report bytes.now) }
+    ensures from_one { IfOk result (λ part. 1 ≤ part.line) }
+    ensures room { IfOk result (λ part. part.line + length part.left.now ≤ 4194305) }
+{
+    if bytes.len() > MOST_BYTES {
+        return Err(ScriptFault::Refused {
+            line: 0,
+            cause: Cause::TooLong,
+        });
+    }
+    read_on(alloc, report, bytes)
+}
+
+fn read_on(alloc: Global, report: bool, bytes: &[u8]) -> Result<Part<'_>, ScriptFault>
+    requires { length bytes.now ≤ MOST_BYTES }
+    ensures part { GivesPart result (read_on report 1 start (lines_of bytes.now)) }
+    ensures from_one { IfOk result (λ part. 1 ≤ part.line) }
+    ensures room { IfOk result (λ part. part.line + length part.left.now ≤ 4194305) }
+{
+    let mut reader = start(alloc);
+    let mut line = 1;
+    let mut left = bytes;
+    while let Some((first, rest)) = first_line(left) {
+        match take(alloc, report, reader, first) {
+            Ok(Taken::Line(next)) => reader = next,
+            Ok(Taken::Nothing(reader)) => return Ok(Part { reader, line, left }),
+            Err(LineFault::Refused(cause)) => return Err(ScriptFault::Refused { line, cause }),
+            Err(LineFault::Memory) => return Err(ScriptFault::Memory),
+        }
+        line += 1;
+        left = rest;
+    }
+    Ok(Part { reader, line, left })
+}
+
+/// What a line was taken as.
+#[derive(Drop)]
+pub(crate) enum Taken {
+    /// It is one of the script, or is skipped.
+    Line(Reader),
+    /// It is the first one of a report.
+    Nothing(Reader),
+}
+
+fn take(alloc: Global, report: bool, reader: Reader, line: &[u8]) -> Result<Taken, LineFault>
+    requires { IsReady reader }
+    ensures { Takes report reader.reading line.now result }
+{
+    if is_skipped(line) {
+        return Ok(Taken::Line(reader));
+    }
+    let words = words(alloc, line)?;
+    if report && is_open(&reader.reading.place) && is_report(&words) {
+        return Ok(Taken::Nothing(reader));
+    }
+    match after_line(alloc, reader, &words) {
+        Ok(reader) => Ok(Taken::Line(reader)),
+        Err(fault) => Err(fault),
+    }
+}
+
+fn is_report(words: &[&[u8]]) -> bool
+    ensures { result ≡ is_report (map (λ word. word.now) words.now) }
+{
+    match words {
+        [] => false,
+        [word, ..] => is(word, b"report"),
+    }
+}
+
+fn is_open(place: &Place) -> bool
+    ensures { result ≡ is_open place.now }
+{
+    match place {
+        Place::Between | Place::Behind { .. } => true,
+        Place::Start | Place::Inside { .. } => false,
+    }
+}

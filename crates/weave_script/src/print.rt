@@ -1,0 +1,40 @@
+//! The text of a script.
+ghost use Rattle.std.specs.Prelude.{◌≡◌, ◌++◌, IfOk, OnOk};
+ghost use Rattle.weave_text.specs.Lines.{line_text};
+ghost use Rattle.weave_script.specs.ScriptLines.{header_line, script_text};
+
+mod items;
+mod request;
+mod step;
+mod words;
+
+use crate::print::items::print_items;
+use crate::print::step::print_steps;
+use program_defs::Script;
+use std::alloc::{AllocError, Global};
+use weave_text::Text;
+
+/// The one printed text of a script. The one error is want of memory.
+pub fn print_script(alloc: Global, script: &Script) -> Result<Vec<u8>, AllocError>
+    ensures text { IfOk result (λ text. text.items ≡ script_text script.now) }
+{
+    let mut text = Text::new(alloc);
+    print_header(&mut text, script.gates, script.shards)?;
+    print_items(
+        &mut text,
+        script.requests.as_slice(),
+        script.phases.as_slice(),
+    )?;
+    print_steps(&mut text, script.requests.as_slice(), &script.steps)?;
+    Ok(text.into_bytes())
+}
+
+fn print_header(text: &mut Text, gates: u32, shards: u32) -> Result<(), AllocError>
+    ensures { OnOk result (text.new ≡ text.old ++ line_text (header_line gates shards)) }
+{
+    text.push(b"weaver 1")?;
+    text.number_word(u64::from(gates))?;
+    text.number_word(u64::from(shards))?;
+    text.end_line()?;
+    Ok(())
+}
