@@ -1,10 +1,8 @@
 -- The printed report of a plain run tells a right report.
-use Rattle.std.proofs.Common.{◌≡◌, ℕ, ◌<◌, ◌≤◌, ◌^◌, List, [], ◌∷◌, length, ap, ◌∙◌, arith}
-use Rattle.std.specs.List.{AllByRecursion}
-use Rattle.program_defs.specs.declared.script.Request.{Request}
+use Rattle.std.proofs.Common.{◌≡◌, ℕ, ◌≤◌, List, [], length, ap, ◌∙◌}
 use Rattle.program_defs.specs.declared.script.Script.{Script}
 use Rattle.weave_report.specs.declared.report.Report.{Report}
-use Rattle.weave_report.specs.PlainRun.{IsPlainTransaction, plain_report}
+use Rattle.weave_report.specs.PlainRun.{plain_report}
 use Rattle.weave_report.specs.Words.{EveryReplyIsFinal}
 use Rattle.weave_report.specs.ReportOf.{IsReportOf}
 use Rattle.weave_report.specs.RightReport.{IsRightReport}
@@ -12,24 +10,8 @@ use Rattle.weave_report.specs.Meetings.{MeetingsAreOrdered, PhasesAreKept}
 use Rattle.weave_report.specs.PrintedOrder.{IsPrintedOrder}
 use Rattle.weave_report.specs.ReportText.{report_text}
 use Rattle.weave_io.specs.declared.reading.TheConstants.{MOST_BYTES}
-use Rattle.weave_script.specs.FirstForm.{IsTextOf, IsFirstForm, IsFirstTransaction}
+use Rattle.weave_script.specs.Texts.{IsTextOf}
 use Rattle.weaver_top.specs.Endings.{TellsRightReport}
-
-plain : (requests : List Request) → AllByRecursion IsFirstTransaction requests → AllByRecursion IsPlainTransaction requests
-plain [] all = tt
-plain (request ∷ requests) all = (all.0.plain, plain requests all.1)
-
--- the requests of a script of the first form are plain transactions
-pub all_plain : (script : Script) → IsFirstForm script → AllByRecursion IsPlainTransaction script.requests
-all_plain script form = plain script.requests form.each
-
--- it has a gatekeeper
-pub one_gate : (script : Script) → IsFirstForm script → 1 ≤ script.gates
-one_gate script form = omega (arith, form.gates)
-
--- and few requests
-pub few_requests : (script : Script) → IsFirstForm script → length script.requests < 2 ^ 64
-few_requests script form = omega (arith, form.few)
 
 -- what the laws say of the plain run's report
 pub record IsWellRun (script : Script) (report : Report) : Type 0 where

@@ -1,7 +1,11 @@
 -- What `run` writes for an input, from bytes to bytes.
-use Rattle.std.specs.Prelude.{◌≡◌, ◌<◌, ◌≤◌, ◌⊎◌, ℕ, List, [], ◌∷◌, ◌++◌, length, codes, IfSome}
+use Rattle.std.specs.Prelude.{◌≡◌, ◌≤◌, ◌⊎◌, ℕ, true, false, List, [], ◌∷◌, ◌++◌, length, codes, IfSome, Err}
+use Rattle.std.specs.Fmt.{decimal}
 use Rattle.weave_io.specs.Told.{Told, Tells, TakesCount, Appends, AppendsPrefix}
-use Rattle.weave_script.specs.FirstForm.{IsTextOf}
+use Rattle.weave_script.specs.CauseTexts.{cause_text}
+use Rattle.weave_script.specs.ReadText.{Fault, read_text}
+use Rattle.weave_script.specs.Texts.{IsTextOf}
+use Rattle.weaver_top.specs.Built.{is_unbuilt}
 use Rattle.program_defs.specs.declared.script.Script.{Script}
 use Rattle.weave_report.specs.declared.report.Report.{Report}
 use Rattle.weave_report.specs.Words.{EveryReplyIsFinal}
@@ -26,24 +30,36 @@ pub record TellsRightReport (input text : List ℕ) : Type 0 where
   pub no_steps : report.answers ≡ []
   pub text_is_printed : text ≡ report_text script report
 
--- the input has more bytes than an input may have
-abbrev pub IsTooLong : List ℕ → Type 0
-IsTooLong input = 4194304 < length input
+-- the input isn't too long, and is a text of a script that `run` takes
+pub record CanBeRun (input : List ℕ) : Type 0 where
+  pub input_is_short : length input ≤ 4194304
+  pub script : Script
+  pub input_is_its_text : IsTextOf input script
+  pub built : is_unbuilt script ≡ false
 
--- the input isn't too long, and is no text of a script
-pub record IsOfOtherForm (input : List ℕ) : Type 0 where
-  pub short : length input ≤ 4194304
-  pub no_script : (script : Script) → ¬ IsTextOf input script
+-- the line for an input that is refused: the number of a line, or 0 for the whole input, and the cause
+abbrev pub refusal_line : ℕ → List ℕ → List ℕ
+refusal_line line cause = codes "refused " ++ decimal line ++ codes " " ++ cause ++ 10 ∷ []
 
--- the line for an input that is refused
-abbrev pub refusal_line : List ℕ → List ℕ
-refusal_line cause = codes "refused 0 " ++ cause ++ 10 ∷ []
+-- the input is too long, or no text of a script, and the text tells its first fault
+pub record TellsFault (input text : List ℕ) : Type 0 where
+  pub not_run : ¬ CanBeRun input
+  pub fault : Fault
+  pub is_first : read_text input ≡ Err fault
+  pub line : text ≡ refusal_line fault.line (cause_text fault.cause)
+
+-- the input is a text of a script that `run` doesn't take yet, and the text tells so
+pub record TellsUnbuilt (input text : List ℕ) : Type 0 where
+  pub not_run : ¬ CanBeRun input
+  pub input_is_short : length input ≤ 4194304
+  pub script : Script
+  pub input_is_its_text : IsTextOf input script
+  pub unbuilt : is_unbuilt script ≡ true
+  pub line : text ≡ refusal_line 0 (codes "unbuilt")
 
 -- the text tells why the input is refused
 abbrev pub TellsRefusal : List ℕ → List ℕ → Type 0
-TellsRefusal input text =
-    (IsTooLong input × (text ≡ refusal_line (codes "too_long")))
-    ⊎ (IsOfOtherForm input × (text ≡ refusal_line (codes "unbuilt")))
+TellsRefusal input text = TellsFault input text ⊎ TellsUnbuilt input text
 
 -- the text is what `run` has to write for the input
 abbrev pub TellsAnswer : List ℕ → List ℕ → Type 0
@@ -60,10 +76,6 @@ Writes Fits left before after = IfSome left (λ input. (text : List ℕ) × Fits
 -- or some of such a text, from its start
 abbrev pub WritesPrefix : (List ℕ → List ℕ → Type 0) → Told → Told → Told → Type 0
 WritesPrefix Fits left before after = IfSome left (λ input. (text : List ℕ) × Fits input text × AppendsPrefix before after text)
-
--- the input isn't too long, and is a text of a script
-abbrev pub CanBeRun : List ℕ → Type 0
-CanBeRun input = (length input ≤ 4194304) × (script : Script) × IsTextOf input script
 
 -- what was written before still stands in front
 abbrev pub KeepsWritten : Told → Told → Type 0

@@ -7,7 +7,7 @@ ghost use Rattle.weaver_top.specs.Answers.{IsAnswerTo, status_of, Delivers};
 ghost use Rattle.weaver_top.specs.Commands.{is_run};
 ghost use Rattle.weaver_top.specs.Endings.{TellsRightReport, TellsRefusal, TellsAnswer, Writes, WritesPrefix, IsReadWhole, KeepsWritten, CanBeRun};
 
-use crate::answer::{Answer, answer_to};
+use crate::answer::{Answer, answer_to, too_long};
 use crate::pace::Pace;
 use crate::status::Status;
 use crate::words::asks_to_run;
@@ -82,7 +82,10 @@ fn prepare<S: Source>(alloc: Global, source: &mut S) -> Result<Answer, Stop>
             Ok(answer) => Ok(answer),
             Err(_) => Err(Stop::Memory),
         },
-        Err(ReadFault::TooLong) => Ok(Answer::TooLong),
+        Err(ReadFault::TooLong) => match too_long(alloc) {
+            Ok(answer) => Ok(answer),
+            Err(_) => Err(Stop::Memory),
+        },
         Err(ReadFault::Read) => Err(Stop::Read),
         Err(ReadFault::Memory) => Err(Stop::Memory),
     }

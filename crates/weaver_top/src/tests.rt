@@ -121,24 +121,90 @@ fn the_65th_property(rt: HostRuntime) -> Result<(), Fail> {
     Ok(())
 }
 
+// Whether the input is refused with this line.
+fn is_refused<R: Threads + Wait + Sync>(
+    rt: &R,
+    alloc: Global,
+    input: &[u8],
+    line: &[u8],
+) -> Result<bool, AllocError> {
+    let (status, written) = run(rt, alloc, input)?;
+    Ok(status == Status::Refused && written.as_slice() == line)
+}
+
 #[test]
 fn inputs_that_are_refused(rt: HostRuntime) -> Result<(), Fail> {
-    let alloc = rt.alloc();
-    for input in [
-        b"".as_slice(),
-        b"weaver 1 1 1".as_slice(),
-        b"weaver 1 2 1\n".as_slice(),
-        b"weaver 1 1 1\n\n".as_slice(),
-        b"weaver 1 1 1\ntx t1 0 0\ndelete v\nend\n".as_slice(),
-    ] {
-        let (status, written) = run(&rt, alloc, input)?;
-        assert_eq!(rt; status, Status::Refused);
-        assert_eq!(rt; written.as_slice(), b"refused 0 unbuilt\n".as_slice());
+    let cases = [
+        ("", "refused 1 header\n"),
+        ("# nothing\n\n", "refused 3 header\n"),
+        ("weaver 1 9 1\n", "refused 1 gatekeepers\n"),
+        ("weaver 1 1 1\ntx t1 64 0\n", "refused 2 session\n"),
+        (
+            "weaver 1 1 1\ntx t1 0 0\ncreate aaaaaaaaaaaaaaaaaaaaaaaaaaaaaaaaa\nend\n",
+            "refused 3 name\n",
+        ),
+        ("weaver 1 1 1\ntx t1 0 0\nset v k\n", "refused 3 line\n"),
+        ("weaver 1 1 1\ntx t1 0 0\ncreate v\n", "refused 4 end\n"),
+        ("weaver 1 1 1\nsteps\nbegin t1\n", "refused 3 request\n"),
+        ("weaver 1 1 1\nreport 1\n", "refused 2 line\n"),
+        ("weaver 1 2 1\n", "refused 0 unbuilt\n"),
+        ("weaver 1 1 1\nprog p 0 0 show v\n", "refused 0 unbuilt\n"),
+    ];
+    for (input, line) in cases.iter() {
+        assert!(rt;
+            is_refused(&rt, rt.alloc(), input.as_bytes(), line.as_bytes())?,
+            "{input}"
+        );
     }
+    Ok(())
+}
+
+#[test]
+fn the_65th_operation_and_too_many_bytes(rt: HostRuntime) -> Result<(), Fail> {
+    let alloc = rt.alloc();
+    let mut input = Vec::from_slice(alloc, b"weaver 1 1 1\ntx a 0 0\n")?;
+    set_lines(&mut input, 0, 65)?;
+    assert!(rt; is_refused(&rt, alloc, input.as_slice(), b"refused 67 operations\n")?);
     let spaces = vec![in alloc; b' '; 4_194_305]?;
-    let (status, written) = run(&rt, alloc, spaces.as_slice())?;
-    assert_eq!(rt; status, Status::Refused);
-    assert_eq!(rt; written.as_slice(), b"refused 0 too_long\n".as_slice());
+    assert!(rt; is_refused(&rt, alloc, spaces.as_slice(), b"refused 0 too_long\n")?);
+    Ok(())
+}
+
+// A transaction that makes an edge with eight tags and then sets a tag of this number.
+fn tagged(alloc: Global, last: u32) -> Result<Vec<u8>, AllocError> {
+    let mut input = Vec::from_slice(alloc, b"weaver 1 1 1\ntx t 0 0\ncreate v\nlink v e w\n")?;
+    for number in 1..9 {
+        let line = format!(in alloc; "tag v e k{number} x\n")?;
+        input.extend_from_slice(line.as_str().as_bytes())?;
+    }
+    let line = format!(in alloc; "tag v e k{last} x\nend\n")?;
+    input.extend_from_slice(line.as_str().as_bytes())?;
+    Ok(input)
+}
+
+#[test]
+fn the_ninth_tag(rt: HostRuntime) -> Result<(), Fail> {
+    let alloc = rt.alloc();
+    let (status, written) = run(&rt, alloc, tagged(alloc, 9)?.as_slice())?;
+    assert_eq!(rt; status, Status::Done);
+    let refused = b"report 1\ntx t 0:0:1 refused 11 full at 0\norder\nend\n";
+    assert_eq!(rt; written.as_slice(), refused.as_slice());
+    let (status, written) = run(&rt, alloc, tagged(alloc, 1)?.as_slice())?;
+    assert_eq!(rt; status, Status::Done);
+    let committed = b"report 1\ntx t 0:0:1 committed 1\norder t\nend\n";
+    assert_eq!(rt; written.as_slice(), committed.as_slice());
+    Ok(())
+}
+
+#[test]
+fn sessions_phases_comments_and_steps(rt: HostRuntime) -> Result<(), Fail> {
+    let input =
+        b"# two sessions\nweaver 1 1 4\n\ntx a 3 0\ncreate v\nlink v e w\nend\nphase\ntx b 7 0\ntag v e k x\nget v\nend\nsteps\nbegin a";
+    let report =
+        b"report 1\ntx a 0:0:1 committed 1\ntx b 0:0:2 committed 2\ngot 2 record e>w,k=x\norder a b\nend\n";
+    let (status, written) = run(&rt, rt.alloc(), input)?;
+    assert_eq!(rt; status, Status::Done);
+    assert_eq!(rt; written.as_slice(), report.as_slice());
     Ok(())
 }
 
