@@ -1,5 +1,5 @@
 -- The printed report of a plain run tells a right report.
-use Rattle.std.proofs.Common.{◌≡◌, ℕ, ◌≤◌, List, [], length, ap, ◌∙◌}
+use Rattle.std.proofs.Common.{◌≡◌, ℕ, ◌≤◌, false, List, [], length, ap, ◌∙◌}
 use Rattle.program_defs.specs.declared.script.Script.{Script}
 use Rattle.weave_report.specs.declared.report.Report.{Report}
 use Rattle.weave_report.specs.PlainRun.{plain_report}
@@ -11,6 +11,7 @@ use Rattle.weave_report.specs.PrintedOrder.{IsPrintedOrder}
 use Rattle.weave_report.specs.ReportText.{report_text}
 use Rattle.weave_io.specs.declared.reading.TheConstants.{MOST_BYTES}
 use Rattle.weave_script.specs.Texts.{IsTextOf}
+use Rattle.weaver_top.specs.Built.{is_unbuilt}
 use Rattle.weaver_top.specs.Endings.{TellsRightReport}
 
 -- what the laws say of the plain run's report
@@ -24,12 +25,13 @@ pub record IsWellRun (script : Script) (report : Report) : Type 0 where
   pub no_steps : report.answers ≡ []
 
 -- the printed text of such a report is what the headline asks for
-pub tells : (input : List ℕ) (script : Script) (report : Report) (text : List ℕ) → length input ≤ MOST_BYTES → IsTextOf input script → report ≡ plain_report script.requests → text ≡ report_text script report → IsWellRun script (plain_report script.requests) → TellsRightReport input text
-tells input script report text is_short is_text is printed run =
+pub tells : (input : List ℕ) (script : Script) (report : Report) (text : List ℕ) → length input ≤ MOST_BYTES → IsTextOf input script → is_unbuilt script ≡ false → report ≡ plain_report script.requests → text ≡ report_text script report → IsWellRun script (plain_report script.requests) → TellsRightReport input text
+tells input script report text is_short is_text built is printed run =
     record {
       input_is_short = is_short;
       script = script;
       input_is_its_text = is_text;
+      built = built;
       report = plain_report script.requests;
       report_is_of_script = run.of_script;
       report_is_right = run.right;

@@ -15,11 +15,12 @@ use Rattle.weave_report.specs.PrintedOrder.{IsPrintedOrder}
 use Rattle.weave_report.specs.ReportOf.{IsReportOf}
 use Rattle.weave_report.specs.ReportText.{report_text}
 
--- The headline. The text is the printed text of a report that is right for the script of which the whole input is a text. Its order is the printed order; of two requests that meet at a vertex one precedes the other, and the script's phases are kept; every request has its final reply, and no step was asked for.
+-- The headline. The text is the printed text of a report that is right for the script of which the whole input is a text. Its order is the printed order; of two requests that meet at a vertex one precedes the other, and the script's phases are kept; every request has its final reply, and there are no answers of steps. The script is one that `run` takes.
 pub record TellsRightReport (input text : List ℕ) : Type 0 where
   pub input_is_short : length input ≤ 4194304
   pub script : Script
   pub input_is_its_text : IsTextOf input script
+  pub built : is_unbuilt script ≡ false
   pub report : Report
   pub report_is_of_script : IsReportOf script report
   pub report_is_right : IsRightReport script report

@@ -146,6 +146,20 @@ fn inputs_that_are_refused(rt: HostRuntime) -> Result<(), Fail> {
         ("weaver 1 1 1\ntx t1 0 0\nset v k\n", "refused 3 line\n"),
         ("weaver 1 1 1\ntx t1 0 0\ncreate v\n", "refused 4 end\n"),
         ("weaver 1 1 1\nsteps\nbegin t1\n", "refused 3 request\n"),
+        ("weaver 1 1 17\n", "refused 1 shards\n"),
+        ("weaver 1 1 1\ntx t1 x 0\n", "refused 2 number\n"),
+        ("weaver 1 1 1\ntx t1 00 0\n", "refused 2 number\n"),
+        ("weaver 1 2 1\ntx t1 0 2\n", "refused 2 gatekeeper\n"),
+        ("weaver 1 1 2\nsteps\ncollect 2\n", "refused 3 shard\n"),
+        (
+            "weaver 1 1 1\nprog p 0 0 around a 1001\n",
+            "refused 2 bound\n",
+        ),
+        (
+            "weaver 1 1 1\ntx t 0 0\nend\ntx t 0 0\n",
+            "refused 4 taken\n",
+        ),
+        ("weaver 1 1 1\ntx  t1 0 0\n", "refused 2 line\n"),
         ("weaver 1 1 1\nreport 1\n", "refused 2 line\n"),
         ("weaver 1 2 1\n", "refused 0 unbuilt\n"),
         ("weaver 1 1 1\nprog p 0 0 show v\n", "refused 0 unbuilt\n"),
@@ -224,6 +238,7 @@ fn words_that_are_no_command(rt: HostRuntime) -> Result<(), Fail> {
     assert!(rt; refuses_words(&rt, rt.alloc(), &["run", "now"])?);
     assert!(rt; refuses_words(&rt, rt.alloc(), &["Run"])?);
     assert!(rt; refuses_words(&rt, rt.alloc(), &["check"])?);
+    assert!(rt; refuses_words(&rt, rt.alloc(), &["load", "7", "0"])?);
     Ok(())
 }
 

@@ -16,7 +16,7 @@ returns c input short is_text =
     let valid = c.requires.valid in
     let built = built_parts _ _ c.requires.built in
     let plain = c.all_are_plain.ensures script valid built.0 built.1 in
-    tells input script _ _ short is_text c.in_ok-report.ensures c.in_ok-text.ensures.text record {
+    tells input script _ _ short is_text c.requires.built c.in_ok-report.ensures c.in_ok-text.ensures.text record {
       of_script = laws.of_the_script script (some_gate script valid) (few_requests_of script valid) plain;
       right = laws.right script plain;
       in_order = laws.in_printed_order script plain;
