@@ -1,6 +1,5 @@
 -- A request is begun at a gatekeeper whose fields are what the replay of its log gives.
 use Rattle.std.proofs.Common.{◌≡◌, ℕ, ◌^◌, ◌-◌, ◌<◌, ◌≤◌, false, nat_eq, List, [], length, map, slice_get, is_some, IsTrue, Option, None, Some, inl, inr, refl, sym, ap, subst, ◌∙◌, arith}
-use Rattle.std.specs.List.{list_any}
 use Rattle.std.specs.Option.{ForSome, option_map}
 use Rattle.vector_stamp.specs.declared.clock.Clock.{Clock}
 use Rattle.vector_stamp.specs.declared.clock.Stamp.{Stamp}
@@ -12,12 +11,11 @@ use Rattle.std.proofs.lemmas.Bool.{cases_Bool}
 use Rattle.weave_entries.specs.declared.message.Message.{Message}
 use Rattle.weave_entries.specs.declared.message.Addressed.{Addressed}
 use Rattle.weave_entries.specs.declared.gate_log.GateEntry.{GateEntry}
-use Rattle.weave_entries.specs.GateReplay.{Begun, is_begun, begun_stamp, clock_of, running_of, channel_of}
+use Rattle.weave_entries.specs.GateReplay.{Begun, begun_stamp, clock_of, channel_of}
 use Rattle.weave_entries.specs.GateRules.{IsBegunAt}
 use Rattle.gatekeeper.specs.declared.begun.Open.{Open}
 use Rattle.gatekeeper.specs.Opened.{as_begun}
 use Rattle.gatekeeper.specs.Gates.{GateView, IsReplayOf}
-use Rattle.gatekeeper.proofs.Ends.{list_any-map}
 use Rattle.gatekeeper.proofs.Rising.{rises}
 use Rattle.gatekeeper.proofs.Small.{own_small, none_sent}
 
@@ -26,7 +24,7 @@ pub none_flies : (flight : Option Open) (flies : Option Begun) → option_map as
 none_flies None flies is none = sym is
 none_flies (Some one) flies is none = absurd (cc)
 
-module _ (home shards : ℕ) (clock : Clock) (flight : Option Open) (running : List Open) (channels : List (Channel Message)) (log : List GateEntry) (kept : IsReplayOf home shards clock flight running channels log) where
+module _ (home shards : ℕ) (clock : Clock) (flight : Option Open) (running : List ((ℕ × ℕ) × Clock)) (channels : List (Channel Message)) (log : List GateEntry) (kept : IsReplayOf home shards clock flight running channels log) where
   -- there is room for one more event
   pub own_fits : length log < 2 ^ 63 → count_of home clock < 2 ^ 64 - 1
   own_fits few =
@@ -47,16 +45,6 @@ module _ (home shards : ℕ) (clock : Clock) (flight : Option Open) (running : L
       let counts : IsTrue (counts_no_more home clock heard.clock) = subst (λ (c : Clock). IsTrue (counts_no_more home c heard.clock)) clock_is (subst (λ n. IsTrue (counts_no_more n (clock_of view.home view.log) heard.clock)) home_is no_more) in
       let stamp_is : begun_stamp home clock (Some heard) ≡ stamp = sym (is ∙ ap (λ (l : Option Stamp). begun_stamp home clock l) last_is) in
       subst (λ (s : Stamp). IsTrue (stamp_before heard s)) stamp_is (heard_before-stamp home clock heard.clock kept.home_is eight_kept (eight heard last_is) counts)
-
-  -- whether it is running that the author began under the number
-  pub running_told : (view : GateView) (author request : ℕ) → view.log ≡ log → list_any (is_begun author request) (running_of view.log) ≡ list_any (λ (one : Open). is_begun author request (as_begun one)) running
-  running_told view author request log_is =
-      ap (λ (l : List GateEntry). list_any (is_begun author request) (running_of l)) log_is
-      ∙ ap (λ (r : List Begun). list_any (is_begun author request) r) (sym kept.running_is)
-      ∙ list_any-map as_begun (is_begun author request) running
-
-  pub running_in : (author request : ℕ) → list_any (is_begun author request) (running_of log) ≡ list_any (λ (one : Open). is_begun author request (as_begun one)) running
-  running_in author request = ap (λ (r : List Begun). list_any (is_begun author request) r) (sym kept.running_is) ∙ list_any-map as_begun (is_begun author request) running
 
   -- a message that is fetched is the one that was sent
   pub fetched_beyond : (view : GateView) (shard number : ℕ) → view.log ≡ log → shards ≤ shard → None ≡ sent_as number (channel_of shard view.log)

@@ -1,29 +1,33 @@
 -- Fields that are what the replay of the log gives, after one more entry.
-use Rattle.std.proofs.Common.{◌≡◌, ℕ, List, [], ◌∷◌, ◌++◌, length, map, slice_get, Option, Some, sym, ap, subst, ◌∙◌}
+use Rattle.std.proofs.Common.{◌≡◌, ℕ, ◌<◌, ◌≤◌, List, [], ◌∷◌, ◌++◌, All, length, map, slice_get, Option, None, Some, refl, sym, ap, subst, ◌∙◌}
+use Rattle.std.specs.Map.{lookup}
 use Rattle.std.specs.Option.{option_map}
 use Rattle.std.proofs.lemmas.List.{append-nil}
+use Rattle.std.proofs.lemmas.Option.{slice_get_within, get_or_from_slice_get}
 use Rattle.vector_stamp.specs.declared.clock.Clock.{Clock}
+use Rattle.vector_stamp.specs.Clocks.{start_clock}
 use Rattle.shard_queue.specs.Sent.{Channel}
 use Rattle.weave_entries.specs.declared.message.Message.{Message}
 use Rattle.weave_entries.specs.declared.message.Addressed.{Addressed}
 use Rattle.weave_entries.specs.declared.gate_log.GateEntry.{GateEntry}
 use Rattle.weave_entries.specs.declared.gate_log.GateDeed.{GateDeed}
-use Rattle.weave_entries.specs.GateReplay.{Begun, clock_after, flight_after, running_after, messages_by, to_shard, channel_of}
+use Rattle.weave_entries.specs.GateReplay.{Begun, clock_after, flight_after, running_after, messages_by, to_shard, running_of, channel_of}
 use Rattle.weave_entries.specs.GateRules.{FitsAs}
 use Rattle.gatekeeper.specs.declared.begun.Open.{Open}
 use Rattle.gatekeeper.specs.Opened.{as_begun}
 use Rattle.gatekeeper.specs.Gates.{IsReplayOf}
-use Rattle.weave_entries.proofs.Logs.{each-push}
+use Rattle.gatekeeper.specs.Running.{same_program, HoldsPrograms}
+use Rattle.weave_entries.proofs.Logs.{each-none, each-push}
 use Rattle.gatekeeper.proofs.Replay.{clock-push, flight-push, running-push, channel-push}
 
 -- each field goes on as the entry says
-pub keeps_on : (home shards : ℕ) (clock : Clock) (flight : Option Open) (running : List Open) (channels : List (Channel Message)) (log : List GateEntry) (author : ℕ) (deed : GateDeed) (next : Clock) (flying : Option Open) (run : List Open) (sent : List (Channel Message)) (longer : List GateEntry) → IsReplayOf home shards clock flight running channels log → FitsAs home shards log author deed → longer ≡ log ++ record { author = author; deed = deed } ∷ [] → next ≡ clock_after home clock deed → option_map as_begun flying ≡ flight_after (option_map as_begun flight) author deed → map as_begun run ≡ running_after (map as_begun running) author deed → length sent ≡ shards → ((shard : ℕ) (channel : Channel Message) → slice_get sent shard ≡ Some channel → channel.sent ≡ channel_of shard log ++ map (λ (addressed : Addressed). addressed.message) (to_shard shard (messages_by deed))) → IsReplayOf home shards next flying run sent longer
+pub keeps_on : (home shards : ℕ) (clock : Clock) (flight : Option Open) (running : List ((ℕ × ℕ) × Clock)) (channels : List (Channel Message)) (log : List GateEntry) (author : ℕ) (deed : GateDeed) (next : Clock) (flying : Option Open) (run : List ((ℕ × ℕ) × Clock)) (sent : List (Channel Message)) (longer : List GateEntry) → IsReplayOf home shards clock flight running channels log → FitsAs home shards log author deed → longer ≡ log ++ record { author = author; deed = deed } ∷ [] → next ≡ clock_after home clock deed → option_map as_begun flying ≡ flight_after (option_map as_begun flight) author deed → HoldsPrograms run (running_after (running_of log) author deed) → length sent ≡ shards → ((shard : ℕ) (channel : Channel Message) → slice_get sent shard ≡ Some channel → channel.sent ≡ channel_of shard log ++ map (λ (addressed : Addressed). addressed.message) (to_shard shard (messages_by deed))) → IsReplayOf home shards next flying run sent longer
 keeps_on home shards clock flight running channels log author deed next flying run sent longer kept fits longer_is next_is flying_is run_is all_sent sent_is =
     let entry : GateEntry = record { author = author; deed = deed } in
     subst (λ (l : List GateEntry). IsReplayOf home shards next flying run sent l) (sym longer_is) (record {
       clock_is = next_is ∙ ap (λ (c : Clock). clock_after home c deed) kept.clock_is ∙ sym (clock-push log entry home);
       flight_is = flying_is ∙ ap (λ (f : Option Begun). flight_after f author deed) kept.flight_is ∙ sym (flight-push log entry);
-      running_is = run_is ∙ ap (λ (r : List Begun). running_after r author deed) kept.running_is ∙ sym (running-push log entry);
+      running_is = subst (HoldsPrograms run) (sym (running-push log entry)) run_is;
       all_channels = all_sent;
       channels_are = λ shard channel at. sent_is shard channel at ∙ sym (channel-push log entry shard);
       home_is = kept.home_is;
@@ -32,7 +36,36 @@ keeps_on home shards clock flight running channels log author deed next flying r
     })
 
 -- and where it sends nothing, the channels stay
-pub keeps_still : (home shards : ℕ) (clock : Clock) (flight : Option Open) (running : List Open) (channels : List (Channel Message)) (log : List GateEntry) (author : ℕ) (deed : GateDeed) (next : Clock) (flying : Option Open) (run : List Open) (longer : List GateEntry) → IsReplayOf home shards clock flight running channels log → FitsAs home shards log author deed → messages_by deed ≡ [] → longer ≡ log ++ record { author = author; deed = deed } ∷ [] → next ≡ clock_after home clock deed → option_map as_begun flying ≡ flight_after (option_map as_begun flight) author deed → map as_begun run ≡ running_after (map as_begun running) author deed → IsReplayOf home shards next flying run channels longer
+pub keeps_still : (home shards : ℕ) (clock : Clock) (flight : Option Open) (running : List ((ℕ × ℕ) × Clock)) (channels : List (Channel Message)) (log : List GateEntry) (author : ℕ) (deed : GateDeed) (next : Clock) (flying : Option Open) (run : List ((ℕ × ℕ) × Clock)) (longer : List GateEntry) → IsReplayOf home shards clock flight running channels log → FitsAs home shards log author deed → messages_by deed ≡ [] → longer ≡ log ++ record { author = author; deed = deed } ∷ [] → next ≡ clock_after home clock deed → option_map as_begun flying ≡ flight_after (option_map as_begun flight) author deed → HoldsPrograms run (running_after (running_of log) author deed) → IsReplayOf home shards next flying run channels longer
 keeps_still home shards clock flight running channels log author deed next flying run longer kept fits nothing longer_is next_is flying_is run_is =
     keeps_on home shards clock flight running channels log author deed next flying run channels longer kept fits longer_is next_is flying_is run_is kept.all_channels
     (λ shard channel at. kept.channels_are shard channel at ∙ sym (append-nil (channel_of shard log)) ∙ ap (λ (ms : List Addressed). channel_of shard log ++ map (λ (addressed : Addressed). addressed.message) (to_shard shard ms)) (sym nothing))
+
+-- the programs may stand in another table, and the log in another place
+pub keeps_programs : (home shards : ℕ) (clock : Clock) (flight : Option Open) (running : List ((ℕ × ℕ) × Clock)) (channels : List (Channel Message)) (log : List GateEntry) (run : List ((ℕ × ℕ) × Clock)) (same : List GateEntry) → IsReplayOf home shards clock flight running channels log → HoldsPrograms run (running_of log) → same ≡ log → IsReplayOf home shards clock flight run channels same
+keeps_programs home shards clock flight running channels log run same kept holds is =
+    subst (λ (l : List GateEntry). IsReplayOf home shards clock flight run channels l) (sym is) (record {
+      clock_is = kept.clock_is;
+      flight_is = kept.flight_is;
+      running_is = holds;
+      all_channels = kept.all_channels;
+      channels_are = kept.channels_are;
+      home_is = kept.home_is;
+      some_shard = kept.some_shard;
+      rules = kept.rules;
+    })
+
+-- before the first entry nothing is running, and nothing was sent
+pub keeps_none : (home shards : ℕ) (clock : Clock) (run : List ((ℕ × ℕ) × Clock)) (channels : List (Channel Message)) (log : List GateEntry) → log ≡ [] → clock ≡ start_clock → run ≡ [] → length channels ≡ shards → All (λ (channel : Channel Message). channel.sent ≡ []) channels → home < 8 → 1 ≤ shards → IsReplayOf home shards clock None run channels log
+keeps_none home shards clock run channels log log_is clock_is run_is count empty home_is some =
+    subst (λ (l : List GateEntry). IsReplayOf home shards clock None run channels l) (sym log_is) (record {
+      clock_is = clock_is;
+      flight_is = refl;
+      running_is = λ program. ap (lookup (same_program program)) run_is;
+      all_channels = count;
+      channels_are = λ shard channel at.
+          subst (λ (one : Channel Message). one.sent ≡ []) (get_or_from_slice_get channels shard channel channel at) (empty shard channel (slice_get_within channels shard channel at));
+      home_is = home_is;
+      some_shard = some;
+      rules = each-none (λ before (one : GateEntry). FitsAs home shards before one.author one.deed);
+    })

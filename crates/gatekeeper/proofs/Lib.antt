@@ -10,3 +10,6 @@ pub mod Delivery
 pub mod Messages
 pub mod Ticks
 pub mod Once
+pub mod Sharing
+pub mod Meets
+pub mod Programs

@@ -78,7 +78,7 @@ module _ (make : ℕ → Addressed) (named : ℕ → Bool) (count : ℕ) where
 pub read_sent : (channels : List (Channel Message)) (shard : ℕ) (channel : Channel Message) → shard < length channels → channel ≡ get_or channels shard channel → channel.sent ≡ sent_at shard channels
 read_sent channels shard channel within is = ap sent_on (sym (slice_get-get_or channels shard channel within ∙ ap Some (sym is)))
 
-module _ (home shards : ℕ) (clock : Clock) (flight : Option Open) (running : List Open) (channels : List (Channel Message)) (log : List GateEntry) (kept : IsReplayOf home shards clock flight running channels log) where
+module _ (home shards : ℕ) (clock : Clock) (flight : Option Open) (running : List ((ℕ × ℕ) × Clock)) (channels : List (Channel Message)) (log : List GateEntry) (kept : IsReplayOf home shards clock flight running channels log) where
   -- the channels are those of the log, and beyond the last shard nothing was sent
   pub sent_is : (shard : ℕ) → sent_at shard channels ≡ channel_of shard log
   sent_is shard =
@@ -93,14 +93,13 @@ module _ (home shards : ℕ) (clock : Clock) (flight : Option Open) (running : L
       ]
 
   -- the messages that are made are those of the rule
-  pub made_is : (one : Open) (low : Clock) (ops : List Op) (verdict : Verdict) → low ≡ low_mark one.stamp (map as_begun running) → messages_made channels shards one low ops verdict ≡ messages_of shards log (as_begun one) ops verdict
+  pub made_is : (one : Open) (low : Clock) (ops : List Op) (verdict : Verdict) → low ≡ low_mark one.stamp (running_of log) → messages_made channels shards one low ops verdict ≡ messages_of shards log (as_begun one) ops verdict
   made_is one low ops (Committed number answers counts) low_is =
-      let low_told : low ≡ low_mark one.stamp (running_of log) = low_is ∙ ap (low_mark one.stamp) kept.running_is in
       map_same (made_for channels shards one low ops counts) (message_to shards log (as_begun one) ops counts)
       (λ shard i. record {
         shard = shard;
         number = length (sent_is shard i) + 1;
-        message = record { request = Some one.request; stamp = one.stamp; low = low_told i; parts = parts_for shards shard ops counts };
+        message = record { request = Some one.request; stamp = one.stamp; low = low_is i; parts = parts_for shards shard ops counts };
       }) (shards_named shards counts)
   made_is one low ops (Conflict vertex newer) low_is = refl
   made_is one low ops (Refused op reason at) low_is = refl

@@ -1,5 +1,5 @@
 -- A gatekeeper as contracts see it.
-use Rattle.std.specs.Prelude.{◌≡◌, ℕ, ◌+◌, ◌≤◌, ◌<◌, List, [], ◌∷◌, ◌++◌, map, length, slice_get, Option, Some}
+use Rattle.std.specs.Prelude.{◌≡◌, ℕ, ◌+◌, ◌≤◌, ◌<◌, List, [], ◌∷◌, ◌++◌, length, slice_get, Option, Some}
 use Rattle.std.specs.Option.{option_map}
 use Rattle.vector_stamp.specs.declared.clock.Clock.{Clock}
 use Rattle.weave_entries.specs.declared.message.Message.{Message}
@@ -13,6 +13,7 @@ use Rattle.weave_entries.specs.GateReplay.{Begun, clock_of, flight_of, running_o
 use Rattle.weave_entries.specs.GateRules.{IsGateLog}
 use Rattle.shard_queue.specs.Sent.{Channel}
 use Rattle.gatekeeper.specs.Opened.{as_begun}
+use Rattle.gatekeeper.specs.Running.{HoldsPrograms}
 use Rattle.gatekeeper.specs.declared.begun.Open.{Open}
 
 -- whose gatekeeper it is, of how many gatekeepers and for how many shards, its log, and for how many more entries there is room
@@ -54,10 +55,10 @@ pub record HasRoom (old new : GateView) (entries : ℕ) : Type 0 where
   pub kept : old.spare ≤ new.spare
 
 -- the fields are what the replay of the log gives
-pub record IsReplayOf (home shards : ℕ) (clock : Clock) (flight : Option Open) (running : List Open) (channels : List (Channel Message)) (log : List GateEntry) : Type 0 where
+pub record IsReplayOf (home shards : ℕ) (clock : Clock) (flight : Option Open) (running : List ((ℕ × ℕ) × Clock)) (channels : List (Channel Message)) (log : List GateEntry) : Type 0 where
   pub clock_is : clock ≡ clock_of home log
   pub flight_is : option_map as_begun flight ≡ flight_of log
-  pub running_is : map as_begun running ≡ running_of log
+  pub running_is : HoldsPrograms running (running_of log)
   pub all_channels : length channels ≡ shards
   pub channels_are : (shard : ℕ) (channel : Channel Message) → slice_get channels shard ≡ Some channel → channel.sent ≡ channel_of shard log
   pub home_is : home < 8

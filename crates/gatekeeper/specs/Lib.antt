@@ -2,3 +2,5 @@ pub mod Answers
 pub mod Gates
 pub mod Opened
 pub mod Messages
+pub mod Parts
+pub mod Running

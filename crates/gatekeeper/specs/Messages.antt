@@ -19,6 +19,7 @@ abbrev pub sent_on : Option (Channel Message) → List Message
 sent_on None = []
 sent_on (Some channel) = channel.sent
 
+-- and by its number
 abbrev pub sent_at : ℕ → List (Channel Message) → List Message
 sent_at shard channels = sent_on (slice_get channels shard)
 

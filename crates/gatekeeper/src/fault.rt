@@ -11,6 +11,7 @@ pub enum GateFault {
     Idle,
     /// The epoch is not above the gatekeeper's own.
     Old,
+    /// Memory was wanting.
     Memory,
 }
 

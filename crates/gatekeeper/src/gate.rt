@@ -11,8 +11,9 @@ ghost use Rattle.weave_entries.specs.Sending.{IsCountsOf};
 ghost use Rattle.gatekeeper.specs.Answers.{IsRefusedWhere};
 ghost use Rattle.gatekeeper.specs.Gates.{Adds, IsNew, HasRoom, SendsFlight};
 
-use crate::begun::{Open, begin, end, hear, is_running, low_mark};
+use crate::begun::{Open, begin, hear};
 use crate::fault::GateFault;
+use crate::running::{Programs, end, is_running, low_mark, start};
 use crate::sending::{empty_channels, make_all_room, make_room, messages_of, send_all, send_one};
 use graph_ops::Op;
 use shard_queue::Outbox;
@@ -30,7 +31,7 @@ pub struct Gate {
     shards: u32,
     clock: Clock,
     flight: Option<Open>,
-    running: Vec<Open>,
+    running: Programs,
     channels: Vec<Outbox<Message>>,
     log: Vec<GateEntry>,
 }
@@ -43,7 +44,7 @@ impl Model for Gate {
 
     ghost view = { λ g. record { home = g.home; gates = g.gates; shards = g.shards; log = g.log.items; spare = vec_capacity g.log - vec_len g.log } };
 
-    ghost invariant = { λ g. IsReplayOf g.home g.shards g.clock g.flight g.running.items g.channels.items g.log.items };
+    ghost invariant = { λ g. IsReplayOf g.home g.shards g.clock g.flight g.running.entries g.channels.items g.log.items };
 }
 
 impl Gate {
@@ -61,7 +62,7 @@ impl Gate {
             shards,
             clock: Clock::start(),
             flight: None,
-            running: Vec::new(alloc),
+            running: Programs::new(alloc),
             channels: empty_channels(alloc, shards)?,
             log: Vec::new(alloc),
         })
@@ -122,12 +123,7 @@ impl Gate {
         self.running.reserve(1)?;
         self.log.reserve(1)?;
         let stamp = begin(&mut self.clock, self.home, last);
-        let program = Open {
-            author,
-            request,
-            stamp,
-        };
-        put(&mut self.running, program);
+        start(&mut self.running, author, request, &stamp);
         add(
             &mut self.log,
             author,
@@ -142,7 +138,7 @@ impl Gate {
         ensures idle { IsRefusedWhere GateFault.Idle (not (list_any (is_begun author request) (running_of self.old.log))) result }
         ensures refused { OnErr result (self.new ≡ self.old) }
     {
-        if !is_running(self.running.as_slice(), author, request) {
+        if !is_running(&self.running, author, request) {
             return Err(GateFault::Idle);
         }
         self.log.reserve(1)?;
@@ -168,7 +164,7 @@ impl Gate {
         let Some(flight) = self.flight else {
             return Err(GateFault::Idle);
         };
-        let low = low_mark(&flight.stamp, self.running.as_slice());
+        let low = low_mark(&flight.stamp, &self.running);
         let made = messages_of(
             alloc,
             self.channels.as_slice(),
@@ -208,7 +204,7 @@ impl Gate {
         make_room(&mut self.channels, alloc, shard)?;
         self.log.reserve(1)?;
         let stamp = self.clock.tick(self.home);
-        let low = low_mark(&stamp, self.running.as_slice());
+        let low = low_mark(&stamp, &self.running);
         let message = Message {
             request: None,
             stamp,

@@ -1,15 +1,16 @@
 //! The channels of a gatekeeper, and what is sent on them.
 ghost use Rattle.std.specs.Prelude.{◌≡◌, ℕ, ◌≤◌, ◌<◌, ◌+◌, ◌^◌, [], All, length, slice_get, map, IfOk, OnOk, vec_len};
-ghost use Rattle.weave_entries.specs.Sending.{shards_named};
+ghost use Rattle.graph_ops.specs.Mentions.{named_by};
+ghost use Rattle.weave_entries.specs.Sending.{shards_named, IsCountsOf};
+ghost use Rattle.weave_entries.specs.declared.verdict.Counted.{Counted};
 ghost use Rattle.gatekeeper.specs.Messages.{made_for, with_parted, messages_made, CanGo, CanAllGo, HasRoomAt, KeepsSent, IsSentOn, AreSent, sent_at};
 
 use crate::begun::Open;
-use crate::parts::parts_for;
+use crate::parts::parts_by_shard;
 use graph_ops::Op;
 use shard_queue::Outbox;
 use std::alloc::{AllocError, Global};
 use vector_stamp::Clock;
-use weave_data::Items;
 use weave_entries::{Addressed, Counted, Message, Verdict};
 
 /// A channel to each shard, on which nothing was sent yet.
@@ -36,6 +37,7 @@ pub fn messages_of(
 ) -> Result<Vec<Addressed>, AllocError>
     requires shards { length channels.now ≡ shards }
     requires one_shard { 1 ≤ shards }
+    requires counts { IsCountsOf ops.now verdict.now }
     ensures { IfOk result (λ messages. messages.items ≡ messages_made channels.now shards flight.now low ops.now verdict.now) }
 {
     match verdict {
@@ -63,21 +65,22 @@ fn commit_messages(
 ) -> Result<Vec<Addressed>, AllocError>
     requires shards { length channels.now ≡ shards }
     requires one_shard { 1 ≤ shards }
+    requires counts { map (λ (counted : Counted). counted.vertex) counts.now ≡ named_by ops.now }
     ensures { IfOk result (λ messages. messages.items ≡ map (made_for channels.now shards flight.now low ops.now counts.now) (shards_named shards counts.now)) }
 {
+    let shares = parts_by_shard(alloc, shards, ops, counts)?;
     let mut messages = Vec::new(alloc);
-    for shard in 0..shards {
-        let channel = &channels[shard as usize];
+    for (shard, parts) in shares.into_iter().enumerate() {
+        let channel = &channels[shard];
         let number = channel.count() + 1;
-        let parts = parts_for(alloc, shards, shard, ops, counts)?;
         let message = Message {
             request: Some(flight.request),
             stamp: flight.stamp,
             low,
-            parts: Items::from_vec(parts),
+            parts,
         };
         let addressed = Addressed {
-            shard,
+            shard: shard as u32,
             number,
             message,
         };

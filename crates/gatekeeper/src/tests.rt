@@ -1,15 +1,15 @@
-ghost use Rattle.std.specs.Prelude.{◌≡◌, map, IfOk, OnOk};
+ghost use Rattle.std.specs.Prelude.{◌≡◌, ◌≤◌, map, IfOk, OnOk};
 ghost use Rattle.graph_ops.specs.Mentions.{named_by};
 ghost use Rattle.weave_entries.specs.declared.verdict.Counted.{Counted};
 
 use crate::{Gate, GateFault};
-use graph_ops::{Op, Reason, named};
+use graph_ops::{Op, Part, Reason, named};
 use std::alloc::Global;
 use std::process::Abort;
 use std::test::Fail;
 use vector_stamp::{Clock, Stamp};
 use weave_data::{Items, Name};
-use weave_entries::{Counted, GateDeed, Message, Verdict};
+use weave_entries::{Addressed, Counted, GateDeed, Message, Verdict};
 
 fn clock(epoch: u64, first: u64, second: u64) -> Clock {
     Clock {
@@ -31,8 +31,10 @@ fn name(text: &str) -> Result<Name, Fail> {
 
 // A transaction is begun and aborted, and meanwhile there is no other one and no empty message.
 fn one_flight(rt: &impl Abort, alloc: Global, gate: &mut Gate) -> Result<(), Fail>
-    requires { gate.old.shards ≡ 1 }
-    ensures { OnOk result (gate.new.shards ≡ 1) }
+    requires shards { gate.old.shards ≡ 1 }
+    requires room { 10 ≤ gate.old.spare }
+    ensures shards { OnOk result (gate.new.shards ≡ 1) }
+    ensures room { OnOk result (8 ≤ gate.new.spare) }
 {
     let aborted = Verdict::Refused {
         op: 1,
@@ -65,28 +67,34 @@ fn fetched(gate: &Gate, number: u64) -> Option<(Stamp, Clock)> {
 
 // Empty messages before, during and after a program.
 fn nops_and_a_program(rt: &impl Abort, alloc: Global, gate: &mut Gate) -> Result<(), Fail>
-    requires { gate.old.shards ≡ 1 }
-    ensures { OnOk result (gate.new.shards ≡ 1) }
+    requires shards { gate.old.shards ≡ 1 }
+    requires room { 8 ≤ gate.old.spare }
+    ensures { OnOk result (3 ≤ gate.new.spare) }
 {
     assert_eq!(rt; gate.nop(alloc, 0, 0)?, 1);
     assert_eq!(rt; fetched(gate, 1), Some((stamp(2, 0), clock(0, 2, 0))));
     assert_eq!(rt; fetched(gate, 2), None);
-    gate.reserve(alloc, 1)?;
     gate.hear(0, &clock(0, 0, 5));
     assert_eq!(rt; gate.say(), clock(0, 2, 5));
     assert_eq!(rt; gate.begin_program(alloc, 0, 2, None)?, stamp(3, 5));
     assert_eq!(rt; gate.nop(alloc, 0, 0)?, 2);
     assert_eq!(rt; fetched(gate, 2), Some((stamp(4, 5), clock(0, 3, 5))));
     gate.finish(alloc, 0, 2)?;
-    assert_eq!(rt; gate.finish(alloc, 0, 2), Err(GateFault::Idle));
+    let Err(fault) = gate.finish(alloc, 0, 2) else {
+        return Err(Fail::from("finished again"));
+    };
+    assert_eq!(rt; fault, GateFault::Idle);
     Ok(())
 }
 
 // Epochs are raised, and heard.
-fn epochs(rt: &impl Abort, alloc: Global, gate: &mut Gate) -> Result<(), Fail> {
-    gate.reserve(alloc, 4)?;
-    assert_eq!(rt; gate.epoch(0, 0), Err(GateFault::Old));
-    gate.reserve(alloc, 3)?;
+fn epochs(rt: &impl Abort, gate: &mut Gate) -> Result<(), Fail>
+    requires { 3 ≤ gate.old.spare }
+{
+    let Err(fault) = gate.epoch(0, 0) else {
+        return Err(Fail::from("raised"));
+    };
+    assert_eq!(rt; fault, GateFault::Old);
     gate.epoch(0, 2)?;
     assert_eq!(rt; gate.say(), clock(2, 0, 0));
     gate.hear(0, &clock(1, 0, 9));
@@ -103,7 +111,7 @@ fn a_table_of_calls(rt: HostRuntime) -> Result<(), Fail> {
     gate.reserve(alloc, 10)?;
     one_flight(&rt, alloc, &mut gate)?;
     nops_and_a_program(&rt, alloc, &mut gate)?;
-    epochs(&rt, alloc, &mut gate)?;
+    epochs(&rt, &mut gate)?;
     assert_eq!(rt; gate.log().len(), 10);
     Ok(())
 }
@@ -142,103 +150,190 @@ fn commit(
     Ok(stamp)
 }
 
-fn show_name(text: &mut String, name: &Name) -> Result<(), Fail> {
-    for byte in name.bytes() {
-        text.push(char::from(*byte))?;
+// The word of an operation, and the names that stand in it.
+fn fields(op: &Op) -> (&'static str, [Option<Name>; 4]) {
+    match *op {
+        Op::Create { v } => ("create", [Some(v), None, None, None]),
+        Op::Delete { v } => ("delete", [Some(v), None, None, None]),
+        Op::Set { v, key, value } => ("set", [Some(v), Some(key), Some(value), None]),
+        Op::Unset { v, key } => ("unset", [Some(v), Some(key), None, None]),
+        Op::Link { v, edge, target } => ("link", [Some(v), Some(edge), Some(target), None]),
+        Op::Unlink { v, edge } => ("unlink", [Some(v), Some(edge), None, None]),
+        Op::Tag {
+            v,
+            edge,
+            key,
+            value,
+        } => ("tag", [Some(v), Some(edge), Some(key), Some(value)]),
+        Op::Untag { v, edge, key } => ("untag", [Some(v), Some(edge), Some(key), None]),
+        Op::Get { v } => ("get", [Some(v), None, None, None]),
+    }
+}
+
+fn same_ops(ops: &[Op], wanted: &[Op]) -> bool {
+    ops.len() == wanted.len()
+        && ops
+            .iter()
+            .zip(wanted)
+            .all(|(op, other)| fields(op) == fields(other))
+}
+
+fn same_part(part: &Part, wanted: &Part) -> bool {
+    part.vertex == wanted.vertex
+        && part.before == wanted.before
+        && same_ops(part.ops.as_slice(), wanted.ops.as_slice())
+}
+
+fn same_parts(parts: &[Part], wanted: &[Part]) -> bool {
+    parts.len() == wanted.len()
+        && parts
+            .iter()
+            .zip(wanted)
+            .all(|(part, other)| same_part(part, other))
+}
+
+fn same_message(message: &Message, wanted: &Message) -> bool {
+    message.request == wanted.request
+        && message.stamp == wanted.stamp
+        && message.low == wanted.low
+        && same_parts(message.parts.as_slice(), wanted.parts.as_slice())
+}
+
+// The part of a vertex: of the operations those in these places.
+fn part(
+    alloc: Global,
+    vertex: &str,
+    before: u64,
+    ops: &[Op],
+    places: &[usize],
+) -> Result<Part, Fail> {
+    let mut some = Items::new(alloc);
+    for place in places {
+        some.push(*ops.get(*place).ok_or("no operation")?)?;
+    }
+    Ok(Part {
+        vertex: name(vertex)?,
+        before,
+        ops: some,
+    })
+}
+
+// A message to a shard, while a program runs whose stamp is (2, 0).
+fn addressed(shard: u32, number: u64, request: u32, stamp: Stamp, parts: Vec<Part>) -> Addressed {
+    let message = Message {
+        request: Some(request),
+        stamp,
+        low: clock(0, 2, 0),
+        parts: Items::from_vec(parts),
+    };
+    Addressed {
+        shard,
+        number,
+        message,
+    }
+}
+
+// The messages stand on their channels, and nothing after them.
+fn on_channels(rt: &impl Abort, gate: &Gate, wanted: &[Addressed]) -> Result<(), Fail> {
+    for one in wanted {
+        let Some(message) = gate.fetch(one.shard, one.number) else {
+            return Err(Fail::from("not sent"));
+        };
+        assert!(rt; same_message(message, &one.message));
+        let next = one.number.wrapping_add(1);
+        assert!(rt; gate.fetch(one.shard, next).is_none());
     }
     Ok(())
 }
 
-fn show_op(text: &mut String, op: &Op) -> Result<(), Fail> {
-    match op {
-        Op::Create { .. } => text.push_str(" create")?,
-        Op::Set { key, value, .. } => {
-            text.push_str(" set ")?;
-            show_name(text, key)?;
-            text.push_str("=")?;
-            show_name(text, value)?;
-        }
-        Op::Get { .. } => text.push_str(" get")?,
-        _ => text.push_str(" other")?,
+// The last entry of the log is the sending of these messages.
+fn in_log(rt: &impl Abort, gate: &Gate, request: u32, wanted: &[Addressed]) -> Result<(), Fail> {
+    let Some(entry) = gate.log().last() else {
+        return Err(Fail::from("no entry"));
+    };
+    let GateDeed::Sent {
+        request: sent,
+        messages,
+    } = &entry.deed
+    else {
+        return Err(Fail::from("another entry"));
+    };
+    assert_eq!(rt; (entry.author, *sent), (3, request));
+    assert_eq!(rt; messages.as_slice().len(), wanted.len());
+    for (one, other) in messages.as_slice().iter().zip(wanted) {
+        assert_eq!(rt; (one.shard, one.number), (other.shard, other.number));
+        assert!(rt; same_message(&one.message, &other.message));
     }
     Ok(())
 }
 
-// The parts of a message: each vertex with its count and its operations.
-fn show_parts(alloc: Global, message: &Message) -> Result<String, Fail> {
-    let mut text = String::new(alloc);
-    for part in message.parts.as_slice() {
-        show_name(&mut text, &part.vertex)?;
-        text.push_str(" ")?;
-        text.push(char::from(b'0' + (part.before % 10) as u8))?;
-        for op in part.ops.as_slice() {
-            show_op(&mut text, op)?;
-        }
-        text.push_str("\n")?;
-    }
-    Ok(text)
-}
-
-// Operations on three vertices: `ann` and `bob` are on shard 1 of 2, `cyd` is on shard 0.
-fn five_operations() -> Result<[Op; 5], Fail> {
-    let (ann, bob, cyd) = (name("ann")?, name("bob")?, name("cyd")?);
-    let (key, x, y) = (name("k")?, name("x")?, name("y")?);
+// Operations of each kind on three vertices: `ann` and `bob` are on shard 1 of 2, `cyd` is on shard 0.
+fn ten_operations() -> Result<[Op; 10], Fail> {
+    let (ann, bob, cyd, dan) = (name("ann")?, name("bob")?, name("cyd")?, name("dan")?);
+    let (edge, key, value) = (name("e")?, name("k")?, name("x")?);
     Ok([
         Op::Create { v: ann },
         Op::Get { v: cyd },
-        Op::Set {
+        Op::Set { v: bob, key, value },
+        Op::Unset { v: ann, key },
+        Op::Link {
             v: bob,
-            key,
-            value: x,
+            edge,
+            target: dan,
         },
-        Op::Set {
+        Op::Delete { v: cyd },
+        Op::Tag {
             v: ann,
+            edge,
             key,
-            value: y,
+            value,
         },
+        Op::Untag { v: bob, edge, key },
+        Op::Unlink { v: ann, edge },
         Op::Get { v: bob },
     ])
 }
 
+// What a commit of all ten sends.
+fn first_messages(alloc: Global, ops: &[Op]) -> Result<[Addressed; 2], Fail> {
+    let cyd = part(alloc, "cyd", u64::MAX, ops, &[1, 5])?;
+    let ann = part(alloc, "ann", 12, ops, &[0, 3, 6, 8])?;
+    let bob = part(alloc, "bob", 305, ops, &[2, 4, 7, 9])?;
+    let (here, there) = (vec![in alloc; cyd]?, vec![in alloc; ann, bob]?);
+    Ok([
+        addressed(0, 1, 7, stamp(3, 0), here),
+        addressed(1, 2, 7, stamp(3, 0), there),
+    ])
+}
+
+// What a commit of the first two sends after them.
+fn second_messages(alloc: Global, ops: &[Op]) -> Result<[Addressed; 2], Fail> {
+    let cyd = part(alloc, "cyd", 6, ops, &[1])?;
+    let ann = part(alloc, "ann", 13, ops, &[0])?;
+    let (here, there) = (vec![in alloc; cyd]?, vec![in alloc; ann]?);
+    Ok([
+        addressed(0, 2, 9, stamp(4, 0), here),
+        addressed(1, 3, 9, stamp(4, 0), there),
+    ])
+}
+
 #[test]
-fn a_commit_on_two_shards(rt: HostRuntime) -> Result<(), Fail> {
+fn commits_on_two_shards(rt: HostRuntime) -> Result<(), Fail> {
     let alloc = rt.alloc();
-    let ops = five_operations()?;
+    let ops = ten_operations()?;
     let mut gate = Gate::new(alloc, 0, 2, 2)?;
     assert_eq!(rt; gate.nop(alloc, 3, 1)?, 1);
     assert_eq!(rt; gate.begin_program(alloc, 4, 8, None)?, stamp(2, 0));
-    assert_eq!(rt;
-        commit(alloc, &mut gate, 7, ops.as_slice(), &[0, 5, 2])?,
-        stamp(3, 0)
-    );
-    let rows = [
-        (0, 1, "cyd 5 get\n"),
-        (1, 2, "ann 0 create set k=y\nbob 2 set k=x get\n"),
-    ];
-    for (shard, number, parts) in rows {
-        let Some(message) = gate.fetch(shard, number) else {
-            return Err(Fail::from("not sent"));
-        };
-        assert_eq!(rt;
-            (message.request, message.stamp, message.low),
-            (Some(7), stamp(3, 0), clock(0, 2, 0))
-        );
-        assert_eq!(rt; show_parts(alloc, message)?.as_str(), parts);
-    }
-    assert!(rt; gate.fetch(0, 2).is_none() && gate.fetch(1, 3).is_none());
-    let Some(entry) = gate.log().last() else {
-        return Err(Fail::from("no entry"));
-    };
-    let GateDeed::Sent { request, messages } = &entry.deed else {
-        return Err(Fail::from("another entry"));
-    };
-    assert_eq!(rt;
-        (entry.author, *request, messages.as_slice().len()),
-        (3, 7, 2)
-    );
-    for (addressed, (shard, number, parts)) in messages.as_slice().iter().zip(rows) {
-        assert_eq!(rt; (addressed.shard, addressed.number), (shard, number));
-        assert_eq!(rt; show_parts(alloc, &addressed.message)?.as_str(), parts);
-    }
-    Ok(())
+
+    let wanted = first_messages(alloc, ops.as_slice())?;
+    let begun = commit(alloc, &mut gate, 7, ops.as_slice(), &[12, u64::MAX, 305])?;
+    assert_eq!(rt; begun, stamp(3, 0));
+    on_channels(&rt, &gate, wanted.as_slice())?;
+    in_log(&rt, &gate, 7, wanted.as_slice())?;
+
+    let wanted = second_messages(alloc, ops.as_slice())?;
+    let begun = commit(alloc, &mut gate, 9, &ops[..2], &[13, 6])?;
+    assert_eq!(rt; begun, stamp(4, 0));
+    on_channels(&rt, &gate, wanted.as_slice())?;
+    in_log(&rt, &gate, 9, wanted.as_slice())
 }

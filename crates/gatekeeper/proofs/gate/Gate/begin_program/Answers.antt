@@ -1,9 +1,7 @@
-use Rattle.std.proofs.Common.{refl, sym, ap, ◌∙◌, arith, ◌<◌, ◌^◌, map, length}
-use Rattle.std.proofs.lemmas.List.{map-append}
+use Rattle.std.proofs.Common.{refl, sym, ap, ◌∙◌, arith, ◌<◌, ◌^◌, length}
 use Rattle.weave_entries.specs.declared.gate_log.GateDeed.TheVariants.{BeganProgram}
 use Rattle.gatekeeper.specs.Gates.{GateView}
-use Rattle.gatekeeper.specs.Opened.{as_begun}
-use Rattle.gatekeeper.proofs.Keeping.{keeps_still}
+use Rattle.gatekeeper.proofs.Keeping.{keeps_still, keeps_programs}
 use Rattle.gatekeeper.proofs.Begins.{own_fits, begun_at, begun_after}
 use Rattle.gatekeeper.proofs.gate.Gate.begin_program.Goals as goal
 
@@ -15,7 +13,7 @@ begin-stamp-requires-clause-room c =
 pub invariant_of-self-2 : goal.invariant_of-self-2
 invariant_of-self-2 c =
     let begun = begun_at _ _ _ _ _ _ _ c.self.invariant c.args.last c.begin-stamp.result c.begin-stamp.ensures.eight c.begin-stamp.ensures.stamp in
-    let run = ap (map as_begun) (rw c.reserve.ensures.items at c.put.ensures.items) ∙ map-append as_begun c.self.inside.running.items _ in
+    let run = c.start.ensures _ (λ q. c.reserve.ensures.entries.2 q ∙ c.self.invariant.running_is q) in
     keeps_still _ _ _ _ _ _ _ c.args.author (BeganProgram c.args.request c.begin-stamp.result) _ _ _ _ c.self.invariant
     begun refl (rw c.reserve-2.ensures.items at c.add.ensures.items) c.begin-stamp.ensures.clock refl run
 
@@ -23,3 +21,6 @@ pub returns-clause-after : goal.returns-clause-after
 returns-clause-after c =
     begun_after _ _ _ _ _ _ _ c.self.invariant c.args.self.now c.args.last c.begin-stamp.result
     (ap (λ (v : GateView). v.home) (sym c.self.view_is)) (ap (λ (v : GateView). v.log) (sym c.self.view_is)) c.begin-stamp.ensures.eight c.begin-stamp.ensures.stamp
+
+pub invariant_of-self-in_err-reserve-2 : goal.invariant_of-self-in_err-reserve-2
+invariant_of-self-in_err-reserve-2 c = keeps_programs _ _ _ _ _ _ _ _ _ c.self.invariant (λ q. c.reserve.ensures.entries.2 q ∙ c.self.invariant.running_is q) c.reserve-2.ensures.items

@@ -15,7 +15,7 @@ invariant_of-self-2 c =
     let alone = none_flies _ _ c.self.invariant.flight_is (sym c.is_some.ensures ∙ c.if-is_some.false) in
     let begun = begun_at _ _ _ _ _ _ _ c.self.invariant c.args.last c.begin-stamp.result c.begin-stamp.ensures.eight c.begin-stamp.ensures.stamp in
     keeps_still _ _ _ _ _ _ _ c.args.author (BeganTx c.args.request c.begin-stamp.result) _ _ _ _ c.self.invariant
-    (record { alone = alone; begun = begun }) refl (rw c.reserve.ensures.items at c.add.ensures.items) c.begin-stamp.ensures.clock refl refl
+    (record { alone = alone; begun = begun }) refl (rw c.reserve.ensures.items at c.add.ensures.items) c.begin-stamp.ensures.clock refl c.self.invariant.running_is
 
 pub returns-clause-after : goal.returns-clause-after
 returns-clause-after c =

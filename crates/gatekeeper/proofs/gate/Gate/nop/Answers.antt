@@ -1,14 +1,12 @@
-use Rattle.std.proofs.Common.{refl, sym, ap, subst, ◌∙◌, arith, ◌≡◌, ◌<◌, ◌^◌, List, length, map, None}
+use Rattle.std.proofs.Common.{refl, sym, ap, subst, ◌∙◌, arith, ◌≡◌, ◌<◌, ◌^◌, List, length, None}
 use Rattle.vector_stamp.specs.declared.clock.Clock.{Clock}
 use Rattle.vector_stamp.specs.declared.clock.Stamp.{Stamp}
 use Rattle.graph_ops.specs.declared.part.Part.{Part}
 use Rattle.weave_entries.specs.declared.message.Addressed.{Addressed}
 use Rattle.weave_entries.specs.declared.gate_log.GateDeed.TheVariants.{Nop}
-use Rattle.weave_entries.specs.GateReplay.{next_stamp, nop_message, low_mark}
+use Rattle.weave_entries.specs.GateReplay.{next_stamp, nop_message}
 use Rattle.weave_entries.specs.GateRules.{SendsNop}
-use Rattle.gatekeeper.specs.declared.begun.Open.{Open}
 use Rattle.gatekeeper.specs.Gates.{GateView}
-use Rattle.gatekeeper.specs.Opened.{as_begun}
 use Rattle.gatekeeper.specs.Messages.{IsSentOn}
 use Rattle.gatekeeper.proofs.Keeping.{keeps_on}
 use Rattle.gatekeeper.proofs.Begins.{no_flight, none_flies, own_fits}
@@ -41,7 +39,7 @@ invariant_of-self-2 c =
     subst (λ (ps : List Part). IsSentOn c.make_room.new.channels.items c.send_one-number.new.channels.items shard (record { request = None; stamp = c.tick-stamp.result; low = c.low_mark-low.result; parts = ps })) c.new.ensures c.send_one-number.ensures.sent in
     let one : Addressed = record { shard = shard; number = c.send_one-number.result; message = nop_message c.tick-stamp.result c.low_mark-low.result } in
     let all = one_sent c.make_room.new.channels.items c.send_one-number.new.channels.items one can sent in
-    let low = c.low_mark-low.ensures ∙ ap (λ (os : List Open). low_mark c.tick-stamp.result (map as_begun os)) c.as_slice.ensures.value ∙ ap (low_mark c.tick-stamp.result) c.self.invariant.running_is in
+    let low = c.low_mark-low.ensures _ c.self.invariant.running_is in
     let fits : SendsNop home c.self.inside.shards c.self.inside.log.items shard c.send_one-number.result c.tick-stamp.result c.low_mark-low.result = record {
       alone = none_flies _ _ c.self.invariant.flight_is (sym c.is_some-busy.ensures ∙ c.if-busy.false);
       shard_is = subst (λ (v : GateView). shard < v.shards) (sym c.self.view_is) c.requires;
@@ -50,5 +48,5 @@ invariant_of-self-2 c =
       low_is = low;
     } in
     keeps_on _ _ _ _ _ _ _ c.args.author (Nop shard c.send_one-number.result c.tick-stamp.result c.low_mark-low.result) _ _ _ _ _ c.self.invariant fits
-    (rw c.reserve.ensures.items at c.add.ensures.items) (sym (ap (λ (s : Stamp). s.clock) c.tick-stamp.ensures.stamp)) refl refl
+    (rw c.reserve.ensures.items at c.add.ensures.items) (sym (ap (λ (s : Stamp). s.clock) c.tick-stamp.ensures.stamp)) refl c.self.invariant.running_is
     (all_then _ _ _ _ _ _ _ c.self.invariant _ _ _ keeps all) (sent_then _ _ _ _ _ _ _ c.self.invariant _ _ _ keeps all)
