@@ -35,5 +35,7 @@ pub mod ReportRead
 pub mod ReportAgain
 pub mod FewOps
 pub mod ReportClean
+pub mod ReportComesBack
+pub mod FirstRefused
 pub mod ReadAnswersLaws
 pub mod VerdictForms

@@ -1,5 +1,5 @@
 -- What a reader's answer tells of a text.
-use Rattle.std.proofs.Common.{◌≡◌, ℕ, sym, ◌∙◌, refl}
+use Rattle.std.proofs.Common.{◌≡◌, ℕ, sym, ◌∙◌}
 use Rattle.std.specs.Prelude.{Result, Ok, Err, IfOk}
 use Rattle.weave_text.specs.Lines.{Bytes}
 use Rattle.program_defs.specs.declared.script.Script.{Script}
@@ -7,7 +7,7 @@ use Rattle.weave_report.specs.declared.fault.ReportCause.{ReportCause}
 use Rattle.weave_report.specs.declared.fault.ReportFault.{ReportFault}
 use Rattle.weave_report.specs.declared.fault.ReportFault.TheVariants.{Refused, Memory}
 use Rattle.weave_report.specs.declared.report.Report.{Report}
-use Rattle.weave_report.specs.ReadAnswers.{Answers, IfRefused, IsReadAs}
+use Rattle.weave_report.specs.ReadAnswers.{Answers, IfRefused, IfRefusedAs, IsReadAs}
 use Rattle.weave_report.specs.TextOf.{IsReportTextOf}
 
 -- what reading a text gives
@@ -36,3 +36,14 @@ module _ (script : Script) (bytes : Bytes) (given : Given) where
   no_text_of_refused (Ok other) law h = tt
   no_text_of_refused (Err (Refused line cause)) law h = λ report text. no_report (line, cause) report (sym h ∙ law report text)
   no_text_of_refused (Err Memory) law h = tt
+
+module _ (given : Given) where
+  pub told_of_refused : (P : ℕ × ReportCause → Type 0) (result : Result Report ReportFault) → ((refusal : ℕ × ReportCause) → given ≡ Err refusal → P refusal) → Answers result given → IfRefusedAs result P
+  told_of_refused P (Ok other) law h = tt
+  told_of_refused P (Err (Refused line cause)) law h = law (line, cause) h
+  told_of_refused P (Err Memory) law h = tt
+
+  pub read_of_given : (report : Report) (result : Result Report ReportFault) → given ≡ Ok report → Answers result given → IsReadAs report result
+  read_of_given report (Ok other) law h = same_report other report (sym h ∙ law)
+  read_of_given report (Err (Refused line cause)) law h = no_report (line, cause) report (sym h ∙ law)
+  read_of_given report (Err Memory) law h = tt

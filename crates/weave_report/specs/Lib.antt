@@ -11,6 +11,7 @@ pub mod ReadingFields
 pub mod ReadingStates
 pub mod ReadingReplies
 pub mod Reading
+pub mod FirstRefusal
 pub mod TextOf
 pub mod ReadAnswers
 pub mod Named

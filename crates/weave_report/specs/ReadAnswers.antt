@@ -41,3 +41,8 @@ IsReadAs report (Err Memory) = ⊤
 abbrev pub IfRefused : Result Report ReportFault → Type 0 → Type 0
 IfRefused (Err (Refused line cause)) P = P
 IfRefused _ P = ⊤
+
+-- where a line was refused, this is true of its number with the cause
+abbrev pub IfRefusedAs : Result Report ReportFault → (ℕ × ReportCause → Type 0) → Type 0
+IfRefusedAs (Err (Refused line cause)) P = P (line, cause)
+IfRefusedAs _ P = ⊤

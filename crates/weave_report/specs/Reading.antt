@@ -28,16 +28,19 @@ use Rattle.weave_report.specs.ReadingReplies.{any_named, named_from, got_in, pro
 abbrev pub reading : Report → Place → Reading
 reading report place = record { report = report; place = place }
 
--- a report with one more reply, pair or answer of a step, or with its order
+-- a report with one more reply
 abbrev pub with_reply : Report → Reply → Report
 with_reply report reply = record { replies = report.replies ++ reply ∷ []; pairs = report.pairs; order = report.order; answers = report.answers }
 
+-- with one more pair
 abbrev pub with_pair : Report → Pair → Report
 with_pair report pair = record { replies = report.replies; pairs = report.pairs ++ pair ∷ []; order = report.order; answers = report.answers }
 
+-- with its order
 abbrev pub with_order : Report → List ℕ → Report
 with_order report order = record { replies = report.replies; pairs = report.pairs; order = order; answers = report.answers }
 
+-- with one more answer of a step
 abbrev pub with_answer : Report → StepAnswer → Report
 with_answer report answer = record { replies = report.replies; pairs = report.pairs; order = report.order; answers = report.answers ++ answer ∷ [] }
 
@@ -119,6 +122,7 @@ after_line_at script Pairs report line = after_pairs script report line
 after_line_at script Answers report line = after_answers report line
 after_line_at script Ended report line = Err cause.Line
 
+-- a line behind a reading
 abbrev pub after_line : Script → Reading → Line → Read Reading
 after_line script before line = after_line_at script before.place before.report line
 

@@ -162,5 +162,6 @@ report_lines script report =
     ++ map did_line (enumerate_from 1 report.answers)
     ++ (codes "end" ∷ []) ∷ []
 
+-- its text
 abbrev pub report_text : Script → Report → Bytes
 report_text script report = lines_text (report_lines script report)

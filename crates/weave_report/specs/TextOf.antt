@@ -1,5 +1,5 @@
 -- What it is to be a text of a report for a script.
-use Rattle.std.specs.Prelude.{◌≡◌, ◌<◌, ◌^◌, ℕ, IsTrue, List, length, map, Option, Some, None, ⊤}
+use Rattle.std.specs.Prelude.{◌≡◌, ◌<◌, ◌^◌, IsTrue, List, [], length, map, Some, None, ⊤}
 use Rattle.std.specs.List.{AllByRecursion, IsDistinct}
 use Rattle.weave_data.specs.Names.{is_name, same_name}
 use Rattle.weave_data.specs.Pairs.{IsRising}
@@ -36,18 +36,22 @@ pub record IsTypedMap {X : Type 0} (IsTyped : X → Type 0) (pairs : List (Name 
   pub rising : IsRising pairs
   pub each : AllByRecursion (λ (pair : Name × X). IsName pair.0 × IsTyped pair.1) pairs
 
+-- its target is a name, and so are its tags' keys and values
 pub record IsTypedEdge (edge : Edge) : Type 0 where
   pub target : IsName edge.target
   pub tags : IsTypedMap IsName edge.tags
 
+-- keys and values of properties are names, and edges are as types say
 pub record IsTypedRecord (held : Record) : Type 0 where
   pub props : IsTypedMap IsName held.props
   pub edges : IsTypedMap IsTypedEdge held.edges
 
+-- a record, where there is one, is as types say
 abbrev pub IsTypedState : State → Type 0
 IsTypedState None = ⊤
 IsTypedState (Some held) = IsTypedRecord held
 
+-- the states and names in a program's answer are
 abbrev pub IsTypedAnswer : Answer → Type 0
 IsTypedAnswer (Shown state) = IsTypedState state
 IsTypedAnswer (Reached reached) = ⊤
@@ -55,10 +59,17 @@ IsTypedAnswer (Found vertices) = AllByRecursion IsName vertices
 IsTypedAnswer (Walk None) = ⊤
 IsTypedAnswer (Walk (Some vertices)) = AllByRecursion IsName vertices
 
+-- what a `get` read is, and the operation's number has 32 bits
 pub record IsTypedGot (got : Got) : Type 0 where
   pub op : got.op < 2 ^ 32
   pub state : IsTypedState got.state
 
+-- what a commit's `get`s read
+abbrev pub gots_of : ReplyState → List Got
+gots_of (Committed number answers) = answers
+gots_of _ = []
+
+-- what stands in a reply is
 abbrev pub IsTypedReplyState : ReplyState → Type 0
 IsTypedReplyState Unbegun = ⊤
 IsTypedReplyState Begun = ⊤
@@ -67,11 +78,13 @@ IsTypedReplyState (Conflict vertex newer) = IsName vertex
 IsTypedReplyState (Refused op reason at) = (op < 2 ^ 32) × (at < 2 ^ 64)
 IsTypedReplyState (Finished answer) = IsTypedAnswer answer
 
+-- what stands in a step's answer is
 abbrev pub IsTypedStepAnswer : StepAnswer → Type 0
 IsTypedStepAnswer (step.Waits vertex) = IsName vertex
 IsTypedStepAnswer (step.Again shard gate) = (shard < 2 ^ 32) × (gate < 2 ^ 32)
 IsTypedStepAnswer _ = ⊤
 
+-- all that stands in a report is
 pub record IsTypedReport (report : Report) : Type 0 where
   pub replies : AllByRecursion (λ (reply : Reply). IsTypedReplyState reply.state) report.replies
   pub pairs : AllByRecursion (λ (pair : Pair). IsName pair.vertex) report.pairs

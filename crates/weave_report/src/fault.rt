@@ -5,8 +5,9 @@ use std::alloc::{AllocError, AllocFailed};
 /// What is wrong with a line.
 #[derive(Clone, Copy, PartialEq, Eq, Debug)]
 pub enum ReportCause {
-    /// The first word is none that may stand there, the number of words is not that of the form, a word that the form
-    /// fixes is not in its place, or what stands in a record is out of order.
+    /// The first word is none that may stand there, the number of words is not that of the form, or a word that the form
+    /// fixes is not in its place; a reason of refusal is none; an answer hasn't the form of the script's program; an item
+    /// of a record has no `=` or `>`, or its key is out of order or repeated.
     Line,
     /// A field that is to be a name is none.
     Name,

@@ -1,8 +1,10 @@
 //! The text of a report.
 ghost use Rattle.std.specs.Prelude.{◌≡◌, ◌++◌, OnOk, IfOk};
-ghost use Rattle.std.specs.List.{flat_map};
+ghost use Rattle.std.specs.List.{AllByRecursion, flat_map};
 ghost use Rattle.weave_text.specs.Lines.{lines_text};
+ghost use Rattle.weave_report.specs.declared.report.Reply.{Reply};
 ghost use Rattle.weave_report.specs.ReportText.{reply_lines, report_text};
+ghost use Rattle.weave_report.specs.TextOf.{IsTypedReplyState, IsTypedReport};
 
 mod lines;
 mod reply;
@@ -19,6 +21,9 @@ use weave_text::Text;
 /// The text of a report of this script. The one error is want of memory.
 pub fn print_report(alloc: Global, script: &Script, report: &Report) -> Result<Vec<u8>, AllocError>
     ensures text { IfOk result (λ text. text.items ≡ report_text script.now report.now) }
+
+    // Its names are names, its keys rise, and its numbers are within their ranges.
+    ensures typed { OnOk result (IsTypedReport report.now) }
 {
     let mut text = Text::new(alloc);
     text.push(b"report 1\n")?;
@@ -31,7 +36,8 @@ pub fn print_report(alloc: Global, script: &Script, report: &Report) -> Result<V
 }
 
 fn print_replies(text: &mut Text, script: &Script, replies: &[Reply]) -> Result<(), AllocError>
-    ensures { OnOk result (text.new ≡ text.old ++ lines_text (flat_map (reply_lines script.now) replies.now)) }
+    ensures text { OnOk result (text.new ≡ text.old ++ lines_text (flat_map (reply_lines script.now) replies.now)) }
+    ensures typed { OnOk result (AllByRecursion (λ (reply : Reply). IsTypedReplyState reply.state) replies.now) }
 {
     for reply in replies {
         print_reply(text, script, reply)?;

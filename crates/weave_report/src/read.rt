@@ -1,10 +1,13 @@
 //! Reports read from their texts.
-ghost use Rattle.std.specs.Prelude.{◌≡◌, ◌≤◌, ◌<◌, ◌+◌, ◌^◌, length, IfOk, OnOk};
+ghost use Rattle.std.specs.Prelude.{◌≡◌, ◌≤◌, ◌<◌, ◌+◌, ◌^◌, length, IfOk};
 ghost use Rattle.program_defs.specs.declared.script.Script.{Script};
 ghost use Rattle.weave_report.specs.declared.report.Report.{Report};
-ghost use Rattle.weave_report.specs.ReadAnswers.{Answers, GivesAt, IfRefused, IsReadAs};
+ghost use Rattle.weave_report.specs.FirstRefusal.{IsFirstRefusal};
+ghost use Rattle.weave_report.specs.ReadAnswers.{Answers, GivesAt, IfRefused, IfRefusedAs, IsReadAs};
 ghost use Rattle.weave_report.specs.Reading.{after_any_line, after_lines, report_in, start, whole_report};
-ghost use Rattle.weave_report.specs.TextOf.{IsReportTextOf, TellsByName};
+ghost use Rattle.weave_report.specs.ReportOf.{IsReportOf};
+ghost use Rattle.weave_report.specs.ReportText.{report_text};
+ghost use Rattle.weave_report.specs.TextOf.{IsReportTextOf, IsTypedReport, TellsByName};
 ghost use Rattle.weave_text.specs.Cutting.{lines_of};
 
 mod fields;
@@ -20,7 +23,7 @@ use crate::fault::{LineFault, ReportCause, ReportFault};
 use crate::read::lines::after_line;
 use crate::read::named::Named;
 use crate::read::parts::{Place, Reading};
-use crate::reading_laws::read_texts_are_texts;
+use crate::reading_laws::{printed_reports_come_back, read_texts_are_texts, refusals_are_first};
 use crate::report::Report;
 use program_defs::Script;
 use std::alloc::Global;
@@ -47,11 +50,17 @@ pub fn read_report(
     ensures read { IfOk result (λ report. IsReportTextOf script.now bytes.now report) }
     ensures complete { (report : Report) → IsReportTextOf script.now bytes.now report → IsReadAs report result }
     ensures refused { IfRefused result ((report : Report) → ¬ IsReportTextOf script.now bytes.now report) }
+
+    // The lines before the one that is told are accepted, and what was printed of a report is read as that report.
+    ensures first { IfRefusedAs result (IsFirstRefusal script.now first_line start (lines_of bytes.now)) }
+    ensures printed { (report : Report) → IsReportOf script.now report → IsTypedReport report → bytes.now ≡ report_text script.now report → IsReadAs report result }
 {
     let Ok(named) = Named::new(alloc, script) else {
         return Err(ReportFault::Memory);
     };
     read_texts_are_texts();
+    refusals_are_first();
+    printed_reports_come_back();
     read_named(alloc, &named, bytes, first_line)
 }
 

@@ -1,7 +1,9 @@
 //! The lines after the replies.
-ghost use Rattle.std.specs.Prelude.{◌≡◌, ◌++◌, map, OnOk};
-ghost use Rattle.std.specs.List.{enumerate_from};
+ghost use Rattle.std.specs.Prelude.{◌≡◌, ◌++◌, ◌<◌, ◌^◌, length, map, OnOk};
+ghost use Rattle.std.specs.List.{AllByRecursion, enumerate_from};
 ghost use Rattle.weave_text.specs.Lines.{line_text, lines_text, spaced_words};
+ghost use Rattle.weave_report.specs.declared.report.Pair.{Pair};
+ghost use Rattle.weave_report.specs.TextOf.{IsName, IsTypedStepAnswer};
 ghost use Rattle.weave_report.specs.ReportText.{did_line, name_at, order_line, pair_line, step_answer_words};
 
 use crate::print::words::name_at;
@@ -12,7 +14,8 @@ use weave_text::Text;
 
 /// A line for each pair.
 pub fn print_pairs(text: &mut Text, script: &Script, pairs: &[Pair]) -> Result<(), AllocError>
-    ensures { OnOk result (text.new ≡ text.old ++ lines_text (map (pair_line script.now) pairs.now)) }
+    ensures text { OnOk result (text.new ≡ text.old ++ lines_text (map (pair_line script.now) pairs.now)) }
+    ensures typed { OnOk result (AllByRecursion (λ (pair : Pair). IsName pair.vertex) pairs.now) }
 {
     for pair in pairs {
         print_pair(text, script, pair)?;
@@ -21,7 +24,8 @@ pub fn print_pairs(text: &mut Text, script: &Script, pairs: &[Pair]) -> Result<(
 }
 
 fn print_pair(text: &mut Text, script: &Script, pair: &Pair) -> Result<(), AllocError>
-    ensures { OnOk result (text.new ≡ text.old ++ line_text (pair_line script.now pair.now)) }
+    ensures text { OnOk result (text.new ≡ text.old ++ line_text (pair_line script.now pair.now)) }
+    ensures typed { OnOk result (IsName pair.now.vertex) }
 {
     text.push(b"settled")?;
     text.word(pair.vertex.bytes())?;
@@ -51,7 +55,9 @@ fn print_requests(text: &mut Text, script: &Script, requests: &[u32]) -> Result<
 
 /// A line for each step's answer, numbered from 1.
 pub fn print_answers(text: &mut Text, answers: &[StepAnswer]) -> Result<(), AllocError>
-    ensures { OnOk result (text.new ≡ text.old ++ lines_text (map did_line (enumerate_from 1 answers.now))) }
+    ensures text { OnOk result (text.new ≡ text.old ++ lines_text (map did_line (enumerate_from 1 answers.now))) }
+    ensures typed { OnOk result (AllByRecursion IsTypedStepAnswer answers.now) }
+    ensures few { length answers.now < 2 ^ 64 }
 {
     for (index, answer) in answers.iter().enumerate() {
         print_did(text, index as u64 + 1, answer)?;
@@ -60,7 +66,8 @@ pub fn print_answers(text: &mut Text, answers: &[StepAnswer]) -> Result<(), Allo
 }
 
 fn print_did(text: &mut Text, number: u64, answer: &StepAnswer) -> Result<(), AllocError>
-    ensures { OnOk result (text.new ≡ text.old ++ line_text (did_line (number, answer.now))) }
+    ensures text { OnOk result (text.new ≡ text.old ++ line_text (did_line (number, answer.now))) }
+    ensures typed { OnOk result (IsTypedStepAnswer answer.now) }
 {
     text.push(b"did")?;
     text.number_word(number)?;
@@ -70,7 +77,8 @@ fn print_did(text: &mut Text, number: u64, answer: &StepAnswer) -> Result<(), Al
 
 // The words of a step's answer, with a space before each.
 fn print_step_answer(text: &mut Text, answer: &StepAnswer) -> Result<(), AllocError>
-    ensures { OnOk result (text.new ≡ text.old ++ spaced_words (step_answer_words answer.now)) }
+    ensures text { OnOk result (text.new ≡ text.old ++ spaced_words (step_answer_words answer.now)) }
+    ensures typed { OnOk result (IsTypedStepAnswer answer.now) }
 {
     match answer {
         StepAnswer::Ok => text.word(b"ok"),

@@ -1,7 +1,9 @@
 //! The lines of a reply.
 ghost use Rattle.std.specs.Prelude.{◌≡◌, ◌++◌, map, take, OnOk, codes};
 ghost use Rattle.std.specs.Fmt.{decimal};
+ghost use Rattle.std.specs.List.{AllByRecursion};
 ghost use Rattle.weave_text.specs.Lines.{joined_texts, line_text, lines_text, marked_texts, spaced_words};
+ghost use Rattle.weave_report.specs.TextOf.{IsTypedGot, IsTypedReplyState, gots_of};
 ghost use Rattle.weave_report.specs.ReportText.{got_line, got_lines, reply_line, reply_lines, stamp_text, stamp_word, verdict_words};
 
 use crate::print::state::print_state;
@@ -15,14 +17,16 @@ use weave_text::Text;
 
 /// A reply's line, and those of its `get`s.
 pub fn print_reply(text: &mut Text, script: &Script, reply: &Reply) -> Result<(), AllocError>
-    ensures { OnOk result (text.new ≡ text.old ++ lines_text (reply_lines script.now reply.now)) }
+    ensures text { OnOk result (text.new ≡ text.old ++ lines_text (reply_lines script.now reply.now)) }
+    ensures typed { OnOk result (IsTypedReplyState reply.now.state) }
 {
     print_reply_line(text, script, reply)?;
     print_gots(text, &reply.state)
 }
 
 fn print_reply_line(text: &mut Text, script: &Script, reply: &Reply) -> Result<(), AllocError>
-    ensures { OnOk result (text.new ≡ text.old ++ line_text (reply_line script.now reply.now)) }
+    ensures text { OnOk result (text.new ≡ text.old ++ line_text (reply_line script.now reply.now)) }
+    ensures typed { OnOk result (AllByRecursion IsTypedGot (gots_of reply.now.state) → IsTypedReplyState reply.now.state) }
 {
     text.push(kind_text(is_program(script, reply.request)))?;
     text.word(name_at(script, reply.request))?;
@@ -92,7 +96,8 @@ fn print_verdict(
     request: u32,
     state: &ReplyState,
 ) -> Result<(), AllocError>
-    ensures { OnOk result (text.new ≡ text.old ++ spaced_words (verdict_words script.now request state.now)) }
+    ensures text { OnOk result (text.new ≡ text.old ++ spaced_words (verdict_words script.now request state.now)) }
+    ensures typed { OnOk result (AllByRecursion IsTypedGot (gots_of state.now) → IsTypedReplyState state.now) }
 {
     match state {
         ReplyState::Unbegun => Ok(()),
@@ -121,7 +126,8 @@ fn print_verdict(
 }
 
 fn print_gots(text: &mut Text, state: &ReplyState) -> Result<(), AllocError>
-    ensures { OnOk result (text.new ≡ text.old ++ lines_text (got_lines state.now)) }
+    ensures text { OnOk result (text.new ≡ text.old ++ lines_text (got_lines state.now)) }
+    ensures typed { OnOk result (AllByRecursion IsTypedGot (gots_of state.now)) }
 {
     match state {
         ReplyState::Committed { answers, .. } => print_got_lines(text, answers.as_slice()),
@@ -130,7 +136,8 @@ fn print_gots(text: &mut Text, state: &ReplyState) -> Result<(), AllocError>
 }
 
 fn print_got_lines(text: &mut Text, gots: &[Got]) -> Result<(), AllocError>
-    ensures { OnOk result (text.new ≡ text.old ++ lines_text (map got_line gots.now)) }
+    ensures text { OnOk result (text.new ≡ text.old ++ lines_text (map got_line gots.now)) }
+    ensures typed { OnOk result (AllByRecursion IsTypedGot gots.now) }
 {
     for got in gots {
         print_got(text, got)?;
@@ -139,7 +146,8 @@ fn print_got_lines(text: &mut Text, gots: &[Got]) -> Result<(), AllocError>
 }
 
 fn print_got(text: &mut Text, got: &Got) -> Result<(), AllocError>
-    ensures { OnOk result (text.new ≡ text.old ++ line_text (got_line got.now)) }
+    ensures text { OnOk result (text.new ≡ text.old ++ line_text (got_line got.now)) }
+    ensures typed { OnOk result (IsTypedGot got.now) }
 {
     text.push(b"got")?;
     text.number_word(u64::from(got.op))?;

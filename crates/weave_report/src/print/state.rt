@@ -2,6 +2,7 @@
 ghost use Rattle.std.specs.Prelude.{◌≡◌, ◌++◌, map, OnOk, codes};
 ghost use Rattle.weave_text.specs.Lines.{marked_texts, spaced_words};
 ghost use Rattle.weave_report.specs.ReportText.{content_words, edge_text, property_text, state_words};
+ghost use Rattle.weave_report.specs.TextOf.{IsName, IsTypedEdge, IsTypedMap, IsTypedRecord, IsTypedState};
 
 use graph_ops::{Edge, Record};
 use std::alloc::AllocError;
@@ -10,7 +11,8 @@ use weave_text::Text;
 
 /// The words of a state, with a space before each.
 pub fn print_state(text: &mut Text, state: &Option<Record>) -> Result<(), AllocError>
-    ensures { OnOk result (text.new ≡ text.old ++ spaced_words (state_words state.now)) }
+    ensures text { OnOk result (text.new ≡ text.old ++ spaced_words (state_words state.now)) }
+    ensures typed { OnOk result (IsTypedState state.now) }
 {
     match state {
         None => text.word(b"absent"),
@@ -23,7 +25,8 @@ pub fn print_state(text: &mut Text, state: &Option<Record>) -> Result<(), AllocE
 
 // The properties and the edges of a record.
 fn print_contents(text: &mut Text, held: &Record) -> Result<(), AllocError>
-    ensures { OnOk result (text.new ≡ text.old ++ spaced_words (content_words held.now)) }
+    ensures text { OnOk result (text.new ≡ text.old ++ spaced_words (content_words held.now)) }
+    ensures typed { OnOk result (IsTypedRecord held.now) }
 {
     print_properties(text, b" ", &held.props)?;
     print_edges(text, &held.edges)
@@ -35,7 +38,8 @@ fn print_properties(
     mark: &[u8],
     properties: &NameMap<Name>,
 ) -> Result<(), AllocError>
-    ensures { OnOk result (text.new ≡ text.old ++ marked_texts mark.now (map property_text properties.now)) }
+    ensures text { OnOk result (text.new ≡ text.old ++ marked_texts mark.now (map property_text properties.now)) }
+    ensures typed { OnOk result (IsTypedMap IsName properties.now) }
 {
     for (key, value) in properties.iter() {
         print_property(text, mark, key, value)?;
@@ -44,7 +48,8 @@ fn print_properties(
 }
 
 fn print_property(text: &mut Text, mark: &[u8], key: &Name, value: &Name) -> Result<(), AllocError>
-    ensures { OnOk result (text.new ≡ text.old ++ (mark.now ++ property_text (key.now, value.now))) }
+    ensures text { OnOk result (text.new ≡ text.old ++ (mark.now ++ property_text (key.now, value.now))) }
+    ensures typed { OnOk result (IsName key.now × IsName value.now) }
 {
     text.push(mark)?;
     text.push(key.bytes())?;
@@ -54,7 +59,8 @@ fn print_property(text: &mut Text, mark: &[u8], key: &Name, value: &Name) -> Res
 
 // The edges, with a space before each.
 fn print_edges(text: &mut Text, edges: &NameMap<Edge>) -> Result<(), AllocError>
-    ensures { OnOk result (text.new ≡ text.old ++ spaced_words (map edge_text edges.now)) }
+    ensures text { OnOk result (text.new ≡ text.old ++ spaced_words (map edge_text edges.now)) }
+    ensures typed { OnOk result (IsTypedMap IsTypedEdge edges.now) }
 {
     for (name, edge) in edges.iter() {
         print_edge(text, name, edge)?;
@@ -63,7 +69,8 @@ fn print_edges(text: &mut Text, edges: &NameMap<Edge>) -> Result<(), AllocError>
 }
 
 fn print_edge(text: &mut Text, name: &Name, edge: &Edge) -> Result<(), AllocError>
-    ensures { OnOk result (text.new ≡ text.old ++ (codes " " ++ edge_text (name.now, edge.now))) }
+    ensures text { OnOk result (text.new ≡ text.old ++ (codes " " ++ edge_text (name.now, edge.now))) }
+    ensures typed { OnOk result (IsName name.now × IsTypedEdge edge.now) }
 {
     text.word(name.bytes())?;
     text.push(b">")?;

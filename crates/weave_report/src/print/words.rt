@@ -1,7 +1,9 @@
 //! Words of a report.
 ghost use Rattle.std.specs.Prelude.{◌≡◌, ◌++◌, OnOk};
+ghost use Rattle.std.specs.List.{AllByRecursion};
 ghost use Rattle.weave_text.specs.Lines.{spaced_words};
 ghost use Rattle.weave_report.specs.ReportText.{answer_words, begun_text, is_program, kind_text, name_at, reason_text};
+ghost use Rattle.weave_report.specs.TextOf.{IsName, IsTypedAnswer};
 
 use crate::print::state::print_state;
 use graph_ops::{Name, Reason};
@@ -59,7 +61,8 @@ pub fn reason_text(reason: Reason) -> &'static [u8]
 
 /// The words of a program's answer, with a space before each.
 pub fn print_answer(text: &mut Text, answer: &Answer) -> Result<(), AllocError>
-    ensures { OnOk result (text.new ≡ text.old ++ spaced_words (answer_words answer.now)) }
+    ensures text { OnOk result (text.new ≡ text.old ++ spaced_words (answer_words answer.now)) }
+    ensures typed { OnOk result (IsTypedAnswer answer.now) }
 {
     match answer {
         Answer::Shown(state) => print_state(text, state),
@@ -79,7 +82,8 @@ pub fn print_answer(text: &mut Text, answer: &Answer) -> Result<(), AllocError>
 
 // The names, with a space before each.
 fn print_names(text: &mut Text, names: &[Name]) -> Result<(), AllocError>
-    ensures { OnOk result (text.new ≡ text.old ++ spaced_words names.now) }
+    ensures text { OnOk result (text.new ≡ text.old ++ spaced_words names.now) }
+    ensures typed { OnOk result (AllByRecursion IsName names.now) }
 {
     for name in names {
         text.word(name.bytes())?;
