@@ -14,7 +14,7 @@ use Rattle.weave_report.specs.Reading.{Refusal, after_lines, start, report_in}
 use Rattle.weave_report.specs.TextOf.{IsReportTextOf, TellsByName}
 use Rattle.weave_text.specs.Cutting.{lines_of}
 use Rattle.weave_text.specs.Lines.{Bytes}
-use Rattle.weave_script.specs.CheckText.{IsHead, IsCheckTextOf, behind, cause_of, check_text}
+use Rattle.weave_script.specs.CheckText.{IsHead, IsCheckTextOf, behind, check_text}
 use Rattle.weave_script.specs.Fields.{◌>>=◌}
 use Rattle.weave_script.specs.ReadText.{Fault, Head, head_of}
 use Rattle.weave_script.specs.Scripts.{IsScript}

@@ -13,19 +13,19 @@ use Rattle.weave_script.specs.Faults.{IsRefusedAt, IsFirstFault}
 use Rattle.weave_script.specs.ReadText.{Fault, Part, at_line, read_on, read_text, script_at}
 use Rattle.weave_script.specs.Reading.{start, after_line}
 
-abbrev err : {A E : Type 0} → E → Result A E
+abbrev pub err : {A E : Type 0} → E → Result A E
 err e = Err e
 
-same_fault : {A : Type 0} (a b : Fault) → err {A = A} a ≡ err b → a ≡ b
+pub same_fault : {A : Type 0} (a b : Fault) → err {A = A} a ≡ err b → a ≡ b
 same_fault a b e = cc
 
 -- what ends with the script that is read
 abbrev finish : Part → Result Script Fault
 finish part = at_line part.line (script_at part.reading.place part.reading)
 
-told_at : (n : ℕ) (cause : Cause) (fault : Fault) → err {A = Script} (record { line = n; cause = cause }) ≡ Err fault → (cause ≡ fault.cause) × (fault.line ≡ n)
-told_at n cause fault e =
-    let same : record { line = n; cause = cause } ≡ fault = same_fault {A = Script} (record { line = n; cause = cause }) fault e in
+pub told_at : {A : Type 0} (n : ℕ) (cause : Cause) (fault : Fault) → err {A = A} (record { line = n; cause = cause }) ≡ Err fault → (cause ≡ fault.cause) × (fault.line ≡ n)
+told_at {A} n cause fault e =
+    let same : record { line = n; cause = cause } ≡ fault = same_fault {A = A} (record { line = n; cause = cause }) fault e in
     (ap (λ (f : Fault). f.cause) same, sym (ap (λ (f : Fault). f.line) same))
 
 fault_at : (n : ℕ) (read : Read Script) (fault : Fault) → at_line n read ≡ Err fault → (read ≡ Err fault.cause) × (fault.line ≡ n)
@@ -33,7 +33,7 @@ fault_at n (Ok value) fault e = absurd cc
 fault_at n (Err cause) fault e = let h = told_at n cause fault e in (ap (λ c. Err c) h.0, h.1)
 
 -- one line that was accepted stands before
-further : (n : ℕ) (from next : Reading) (line : Bytes) (lines : List Bytes) (fault : Fault) → ((more : List Bytes) → read_on false n from (line ∷ more) ≡ read_on false (suc n) next more)
+unfoldable pub further : (n : ℕ) (from next : Reading) (line : Bytes) (lines : List Bytes) (fault : Fault) → ((more : List Bytes) → read_on false n from (line ∷ more) ≡ read_on false (suc n) next more)
     → IsFirstFault (suc n) next lines fault → IsFirstFault n from (line ∷ lines) fault
 further n from next line lines fault step first =
     let count : suc n + length first.before ≡ n + length (line ∷ first.before) = omega arith in
@@ -48,7 +48,7 @@ further n from next line lines fault step first =
     }
 
 -- nothing stands before it
-at_once : (n : ℕ) (from : Reading) (lines : List Bytes) (fault : Fault) → fault.line ≡ n → IsRefusedAt from lines fault.cause → IsFirstFault n from lines fault
+unfoldable pub at_once : (n : ℕ) (from : Reading) (lines : List Bytes) (fault : Fault) → fault.line ≡ n → IsRefusedAt from lines fault.cause → IsFirstFault n from lines fault
 at_once n from lines fault number refused =
     let none : n ≡ n + 0 = omega arith in
     record {

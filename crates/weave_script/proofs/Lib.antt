@@ -23,3 +23,7 @@ pub mod Indexing
 pub mod Items
 pub mod HeadTexts
 pub mod CheckTexts
+pub mod CheckReading
+pub mod CheckLaws
+pub mod CheckFaults
+pub mod CheckTold

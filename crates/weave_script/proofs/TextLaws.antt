@@ -24,7 +24,7 @@ at_line_ok n (Ok other) value e = ap (λ v. Ok v) (ok_is {E = Fault} other value
 at_line_ok n (Err cause) value e = absurd cc
 
 -- the lines that are kept lead where reading on leads
-read_on-kept : (n : ℕ) (reading : Reading) (lines : List Bytes) (part : Part) → read_on false n reading lines ≡ Ok part → after_lines reading (kept_lines lines) ≡ Ok part.reading
+pub read_on-kept : (n : ℕ) (reading : Reading) (lines : List Bytes) (part : Part) → read_on false n reading lines ≡ Ok part → after_lines reading (kept_lines lines) ≡ Ok part.reading
 read_on-kept n reading [] part e = ap (λ (p : Part). Ok p.reading) (ok_is {E = Fault} (record { reading = reading; line = n; left = [] }) part e)
 read_on-kept n reading (line ∷ lines) part e = go (λ next e. read_on-kept (suc n) next lines part e) (is_skipped line) e
   where
@@ -70,7 +70,7 @@ module _ (laws : NumberLaws) where
       script_reached part.reading (kept_lines (lines_of bytes)) script led (at_line_ok part.line (script_at part.reading.place part.reading) script step.2)
 
   -- the lines of a text of a script lead to it
-  text_leads : (bytes : Bytes) (script : Script) → IsTextOf bytes script → after_lines start (kept_lines (lines_of bytes)) ≡ Ok (last_reading laws script)
+  pub text_leads : (bytes : Bytes) (script : Script) → IsTextOf bytes script → after_lines start (kept_lines (lines_of bytes)) ≡ Ok (last_reading laws script)
   unfolding IsTextOf
   text_leads bytes script text = ap (after_lines start) text.1 ∙ script_again laws script text.0
 
@@ -98,7 +98,7 @@ pub script-from_text : (bytes : Bytes) (script : Script) → IsTextOf bytes scri
 unfolding IsTextOf
 script-from_text bytes script text = text.0
 
-long : (b : Bool) (fault : Fault) (rest : Result Part Fault) {A : Type 0} (f : Part → Result A Fault) (value : A) → (cond b (Err fault) rest >>= f) ≡ Ok value → b ≡ false
+pub long : (b : Bool) (fault : Fault) (rest : Result Part Fault) {A : Type 0} (f : Part → Result A Fault) (value : A) → (cond b (Err fault) rest >>= f) ≡ Ok value → b ≡ false
 long true fault rest f value e = absurd cc
 long false fault rest f value e = refl
 

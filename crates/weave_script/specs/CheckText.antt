@@ -1,5 +1,5 @@
 -- Texts of a script that a report's text follows.
-use Rattle.std.specs.Prelude.{◌≡◌, ℕ, List, ◌++◌, Result, Ok, Err}
+use Rattle.std.specs.Prelude.{◌≡◌, List, ◌++◌, Result, Ok, Err}
 use Rattle.program_defs.specs.declared.script.Script.{Script}
 use Rattle.weave_report.specs.declared.fault.ReportCause.{ReportCause}
 use Rattle.weave_report.specs.declared.fault.ReportCause.TheVariants as report
@@ -13,7 +13,7 @@ use Rattle.weave_text.specs.Lines.{Bytes}
 use Rattle.weave_script.specs.declared.fault.Cause.{Cause}
 use Rattle.weave_script.specs.declared.fault.Cause.TheVariants as causes
 use Rattle.weave_script.specs.Fields.{◌>>=◌}
-use Rattle.weave_script.specs.ReadText.{Fault, Head, head_of}
+use Rattle.weave_script.specs.ReadText.{Fault, head_of}
 use Rattle.weave_script.specs.ScriptLines.{script_lines}
 use Rattle.weave_script.specs.Scripts.{IsScript}
 

@@ -1,5 +1,6 @@
 pub mod Answers
 pub mod CauseTexts
+pub mod CheckFaults
 pub mod CheckText
 pub mod Faults
 pub mod Fields

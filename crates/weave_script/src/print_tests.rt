@@ -1,9 +1,11 @@
-use crate::print_script;
+use crate::{print_script, read_script};
 use graph_ops::Op;
 use program_defs::{Filter, Program, Request, Script, Step, Work};
-use std::alloc::Global;
+use std::alloc::{AllocError, Global};
 use std::process::Abort;
+use std::test::Fail;
 use weave_data::{Items, Name};
+use weave_text::Text;
 
 fn name(rt: &impl Abort, text: &str) -> Name {
     Name::parse(text.as_bytes()).expect(rt, "a name")
@@ -195,4 +197,28 @@ fn a_script_without_steps(rt: HostRuntime) {
     script.steps = Some(Items::new(alloc));
     let text = print_script(alloc, &script).expect(&rt, "memory");
     assert_eq!(rt; text.as_slice(), b"weaver 1 1 1\nsteps\n".as_slice());
+}
+
+// A transaction of 64 operations and a program, each number the largest and the names as long as names can be.
+fn at_its_limits(alloc: Global) -> Result<Vec<u8>, AllocError> {
+    let mut text = Text::new(alloc);
+    text.push(b"weaver 1 8 16\ntx abcdefghijklmnopqrstuvwxyz_01234 63 7\n")?;
+    for _ in 0..64 {
+        text.push(b"tag abcdefghijklmnopqrstuvwxyz_56789 e k x\n")?;
+    }
+    text.push(b"end\nprog p 63 7 path abcdefghijklmnopqrstuvwxyz_56789 b 1000 where k x\nphase\n")?;
+    text.push(b"steps\nhear 7 100000\ndeliver 7 15 100000\nepoch 7 1000000\n")?;
+    Ok(text.into_bytes())
+}
+
+#[test]
+fn a_script_at_its_limits_is_printed_back(rt: HostRuntime) -> Result<(), Fail> {
+    let alloc = rt.alloc();
+    let text = at_its_limits(alloc)?;
+    let Ok(script) = read_script(alloc, &text) else {
+        return Err(Fail::from("not read"));
+    };
+    let printed = print_script(alloc, &script)?;
+    assert!(rt; printed.as_slice() == text.as_slice());
+    Ok(())
 }

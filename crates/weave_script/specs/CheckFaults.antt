@@ -1,0 +1,26 @@
+-- Where the first fault of a text stands that is to be a script's and then a report's.
+use Rattle.std.specs.Prelude.{◌≡◌, ◌+◌, ℕ, Bool, true, false, ◌&&◌, List, [], ◌∷◌, length}
+use Rattle.program_defs.specs.declared.script.Script.{Script}
+use Rattle.weave_report.specs.FirstRefusal.{IsFirstRefusal}
+use Rattle.weave_report.specs.Reading as report
+use Rattle.weave_report.specs.declared.fault.ReportCause.{ReportCause}
+use Rattle.weave_text.specs.Cutting.{lines_of, words_of}
+use Rattle.weave_text.specs.Lines.{Bytes}
+use Rattle.weave_script.specs.CheckText.{IsHead, cause_of}
+use Rattle.weave_script.specs.Faults.{IsFirstFault}
+use Rattle.weave_script.specs.ReadText.{Fault, is_open, is_report}
+use Rattle.weave_script.specs.Reading.{start}
+use Rattle.weave_script.specs.Texts.{IsTextOf}
+use Rattle.weave_script.specs.declared.fault.Cause.TheVariants as causes
+
+-- the first of the lines has the first word of a report
+abbrev pub begins_report : List Bytes → Bool
+begins_report [] = false
+begins_report (line ∷ lines) = is_report (words_of line)
+
+-- The first fault is the script's, and its line begins no report where one may begin; or the text is one of a script alone, and lacks the report behind its last line; or it is the first one of the report that begins behind the script, with lines counted from the first one of all.
+pub data IsFirstCheckFault (bytes : Bytes) : Fault → Type 0 where
+  InScript : (fault : Fault) (first : IsFirstFault 1 start (lines_of bytes) fault) → (is_open first.reading.place && begins_report first.rest) ≡ false → IsFirstCheckFault bytes fault
+  NoReport : (script : Script) → IsTextOf bytes script → IsFirstCheckFault bytes (record { line = 1 + length (lines_of bytes); cause = causes.End })
+  InReport : (script : Script) (left : List Bytes) (line : ℕ) (cause : ReportCause) (head : IsHead bytes script left) → begins_report left ≡ true
+      → IsFirstRefusal script (1 + length head.front) report.start left (line, cause) → IsFirstCheckFault bytes (record { line = line; cause = cause_of cause })
