@@ -1,49 +1,109 @@
 -- What was read, and what was delivered of an answer to it.
-use Rattle.std.proofs.Common.{◌≡◌, ◌⊎◌, ℕ, List, Some, None, IfSome, inl, inr, refl, sym, ◌∙◌, subst}
+use Rattle.std.proofs.Common.{◌≡◌, ◌⊎◌, ℕ, ◌<◌, ◌≤◌, List, length, true, IsTrue, Option, Some, None, IfSome, inl, inr, refl, sym, ap, ◌∙◌, subst, arith}
 use Rattle.weave_io.specs.Told.{Told, Tells, AppendsPrefix}
 use Rattle.weaver_top.specs.declared.answer.Answer.{Answer}
-use Rattle.weaver_top.specs.declared.answer.Answer.TheVariants.{Report, Refusal}
 use Rattle.weaver_top.specs.declared.status.Status.{Status}
-use Rattle.weaver_top.specs.declared.status.Status.TheVariants.{Done, Refused, Write, Memory}
-use Rattle.weaver_top.specs.Answers.{IsAnswerTo, status_of, text_of, Delivers}
-use Rattle.weaver_top.specs.Endings.{TellsAnswer, TellsRefusal, Writes, WritesPrefix, CanBeRun}
+use Rattle.weaver_top.specs.declared.status.Status.TheVariants.{Done, Read, Refused, Write, Memory, Words, NotRight}
+use Rattle.weaver_top.specs.declared.words.Command.{Command}
+use Rattle.weaver_top.specs.declared.words.Command.TheVariants.{Run, Check}
+use Rattle.weaver_top.specs.Answers.{IsAnswerTo, TellsAt, TellsAnswer, can_end, Delivers}
+use Rattle.weaver_top.specs.Endings.{TellsRefusal, Writes, WritesPrefix, CanBeRun}
+use Rattle.weaver_top.specs.Verdicts.{TellsCheckRefusal, CanBeJudged}
 
 -- an answer to what was read is one to what the source told
-pub fits_told : (left : Told) (read bytes : List ℕ) (answer : Answer) → Tells left read → bytes ≡ read → IsAnswerTo bytes answer → IfSome left (λ input. IsAnswerTo input answer)
-fits_told None read bytes answer tells same fits = tt
-fits_told (Some told) read bytes answer tells same fits = let P : List ℕ → Type 0 = λ input. IsAnswerTo input answer in subst P (same ∙ sym tells) fits
+pub fits_told : (command : Command) (left : Told) (read bytes : List ℕ) (answer : Answer) → Tells left read → bytes ≡ read → IsAnswerTo command bytes answer → IfSome left (λ input. IsAnswerTo command input answer)
+fits_told command None read bytes answer tells same fits = tt
+fits_told command (Some told) read bytes answer tells same fits = let P : List ℕ → Type 0 = λ input. IsAnswerTo command input answer in subst P (same ∙ sym tells) fits
 
--- its text is one that `run` has to write
-is_told : (input : List ℕ) (answer : Answer) → IsAnswerTo input answer → TellsAnswer input (text_of answer)
-is_told input (Report text) fits = inl fits
-is_told input (Refusal text) fits = inr fits
+-- and so is one to an input that is too long
+pub too_long_told : (command : Command) (left : Told) (answer : Answer) → IfSome left (λ input. 4194305 ≤ length input) → ((input : List ℕ) → 4194304 < length input → IsAnswerTo command input answer) → IfSome left (λ input. IsAnswerTo command input answer)
+too_long_told command None answer long fits = tt
+too_long_told command (Some input) answer long fits = fits input (omega (arith, long))
 
--- no answer has the status of a failed write
-not_write : (answer : Answer) (status : Status) → status ≡ status_of answer → status ≡ Write → ⊥
-not_write (Report text) status is failed = cc
-not_write (Refusal text) status is failed = cc
+-- no command ends as a failed write does
+no_write : (command : Command) → IsTrue (can_end command Write) → ⊥
+no_write Run ends = cc
+no_write Check ends = cc
+
+not_write : (command : Command) (status : Status) → IsTrue (can_end command status) → status ≡ Write → ⊥
+not_write command status ends failed = let P : Status → Type 0 = λ status. IsTrue (can_end command status) in no_write command (subst P failed ends)
+
+-- where a command ended with another status than that, its text was written whole
+pub text_written : (command : Command) (left before after : Told) (answer : Answer) (status : Status) (Failed : Type 0) → IfSome left (λ input. IsAnswerTo command input answer) → Delivers answer status before after Failed → IsTrue (can_end command status) → Writes (TellsAt command status) left before after
+text_written command None before after answer status Failed fits ends can = tt
+text_written command (Some input) before after answer status Failed fits (inl (is, appended)) can =
+    let P : Status → Type 0 = λ status. TellsAt command status input answer.text.items in
+    (answer.text.items, subst P (sym is) fits.tells, appended)
+text_written command (Some input) before after answer status Failed fits (inr (is, failure, prefix)) can = absurd (not_write command status can is)
+
+-- the command that the words ask for is this one, and the status this one
+pub ended_so : (command : Command) (end : Status) (asked : Option Command) (other : Command) (left before after : Told) (answer : Answer) (status : Status) (Failed : Type 0) → can_end command end ≡ true → Some other ≡ asked → asked ≡ Some command → status ≡ end → IfSome left (λ input. IsAnswerTo other input answer) → Delivers answer status before after Failed → Writes (TellsAt command end) left before after
+ended_so command end asked other left before after answer status Failed can other_is asks is fits ends =
+    let same : other ≡ command = cc in
+    let P : Command → Type 0 = λ one. IfSome left (λ input. IsAnswerTo one input answer) in
+    let Q : Status → Type 0 = λ one. Writes (TellsAt command one) left before after in
+    let R : Status → Type 0 = λ one. can_end command one ≡ true in
+    subst Q is (text_written command left before after answer status Failed (subst P same fits) ends (subst R (sym is) can))
+
+-- `check` alone says that a report isn't right
+only_check : (command : Command) → can_end command NotRight ≡ true → command ≡ Check
+only_check Run can = absurd (cc)
+only_check Check can = refl
+
+pub not_right : (asked : Option Command) (command : Command) (left before after : Told) (answer : Answer) (status : Status) (Failed : Type 0) → Some command ≡ asked → status ≡ NotRight → can_end command answer.status ≡ true → IfSome left (λ input. IsAnswerTo command input answer) → Delivers answer status before after Failed → (asked ≡ Some Check) × Writes (TellsAt Check NotRight) left before after
+not_right asked command left before after answer status Failed asked_is is can fits ends =
+    let R : Status → Type 0 = λ one. can_end command one ≡ true in
+    let as_answered : answer.status ≡ NotRight = answered ends in
+    let same : command ≡ Check = only_check command (subst R as_answered can) in
+    let asks : asked ≡ Some Check = sym asked_is ∙ ap Some same in
+    (asks, ended_so Check NotRight asked command left before after answer status Failed refl asked_is asks is fits ends)
+  where
+    answered : Delivers answer status before after Failed → answer.status ≡ NotRight
+    answered (inl (same, appended)) = sym same ∙ is
+    answered (inr (same, failure, prefix)) = absurd (cc)
 
 -- where the writing failed, some of such a text was written
-pub some_written : (left before after : Told) (answer : Answer) (status : Status) (Failed : Type 0) → IfSome left (λ input. IsAnswerTo input answer) → Delivers answer status before after Failed → status ≡ Write → WritesPrefix TellsAnswer left before after
-some_written left before after answer status Failed fits (inl (is, appended)) failed = absurd (not_write answer status is failed)
-some_written None before after answer status Failed fits (inr (is, failure, prefix)) failed = tt
-some_written (Some input) before after answer status Failed fits (inr (is, failure, prefix)) failed = (text_of answer, is_told input answer fits, prefix)
+pub some_written : (command : Command) (left before after : Told) (answer : Answer) (status : Status) (Failed : Type 0) → IfSome left (λ input. IsAnswerTo command input answer) → IsTrue (can_end command answer.status) → Delivers answer status before after Failed → status ≡ Write → WritesPrefix (TellsAnswer command) left before after
+some_written command left before after answer status Failed fits ends (inl (is, appended)) failed = absurd (not_write command answer.status ends (sym is ∙ failed))
+some_written command None before after answer status Failed fits ends (inr (is, failure, prefix)) failed = tt
+some_written command (Some input) before after answer status Failed fits ends (inr (is, failure, prefix)) failed = (answer.text.items, (answer.status, fits.tells), prefix)
 
 -- an input that can be run has a report
-done : (input : List ℕ) (answer : Answer) → IsAnswerTo input answer → CanBeRun input → status_of answer ≡ Done
-done input (Report text) fits run = refl
-done input (Refusal text) fits run = absurd (elim fits [ inl fault ↦ fault.not_run run | inr unbuilt ↦ unbuilt.not_run run ])
+run_done : (status : Status) (input text : List ℕ) → TellsAt Run status input text → CanBeRun input → status ≡ Done
+run_done Done input text tells run = refl
+run_done Refused input text tells run = absurd (elim tells [ inl fault ↦ fault.not_run run | inr unbuilt ↦ unbuilt.not_run run ])
+run_done Read input text tells run = absurd tells
+run_done Write input text tells run = absurd tells
+run_done Memory input text tells run = absurd tells
+run_done Words input text tells run = absurd tells
+run_done NotRight input text tells run = absurd tells
 
--- and where nothing fails it is written
-pub completed : (left before after : Told) (answer : Answer) (status : Status) (Faults Stalls : Type 0) → IfSome left (λ input. IsAnswerTo input answer) → Delivers answer status before after (Faults ⊎ Stalls) → ¬ Faults → ¬ Stalls → IfSome left (λ input. CanBeRun input → (status ≡ Done) ⊎ (status ≡ Memory))
-completed None before after answer status Faults Stalls fits ends no_fault no_stall = tt
-completed (Some input) before after answer status Faults Stalls fits (inl (is, appended)) no_fault no_stall = λ run. inl (is ∙ done input answer fits run)
-completed (Some input) before after answer status Faults Stalls fits (inr (is, failure, prefix)) no_fault no_stall = λ run. absurd (elim failure [ inl fault ↦ no_fault fault | inr stall ↦ no_stall stall ])
+-- and one that can be judged a verdict
+judged_done : (status : Status) (input text : List ℕ) → TellsAt Check status input text → CanBeJudged input → (status ≡ Done) ⊎ (status ≡ NotRight)
+judged_done Done input text tells judged = inl refl
+judged_done NotRight input text tells judged = inr refl
+judged_done Refused input text tells judged = absurd (elim tells [ inl fault ↦ fault.not_judged judged | inr unbuilt ↦ unbuilt.not_judged judged ])
+judged_done Read input text tells judged = absurd tells
+judged_done Write input text tells judged = absurd tells
+judged_done Memory input text tells judged = absurd tells
+judged_done Words input text tells judged = absurd tells
 
--- where the input was refused, the line that says why was written
-pub refusal_written : (left before after : Told) (answer : Answer) (status : Status) (Failed : Type 0) → IfSome left (λ input. IsAnswerTo input answer) → Delivers answer status before after Failed → status ≡ Refused → Writes TellsRefusal left before after
-refusal_written None before after answer status Failed fits ends refused = tt
-refusal_written (Some input) before after (Report text) status Failed fits (inl (is, appended)) refused = absurd (cc)
-refusal_written (Some input) before after (Refusal text) status Failed fits (inl (is, appended)) refused = (text.items, fits, appended)
-refusal_written (Some input) before after (Report text) status Failed fits (inr (is, failure, prefix)) refused = absurd (cc)
-refusal_written (Some input) before after (Refusal text) status Failed fits (inr (is, failure, prefix)) refused = absurd (cc)
+-- where nothing fails the status is the answer's
+module _ (before after : Told) (answer : Answer) (status : Status) (Faults Stalls : Type 0) (ends : Delivers answer status before after (Faults ⊎ Stalls)) (no_fault : ¬ Faults) (no_stall : ¬ Stalls) where
+  as_answered : status ≡ answer.status
+  as_answered = elim ends [
+    | inl (is, appended) ↦ is
+    | inr (is, failure, prefix) ↦ absurd (elim failure [ inl fault ↦ no_fault fault | inr stall ↦ no_stall stall ])
+  ]
+
+  pub all_run : (left : Told) → IfSome left (λ input. IsAnswerTo Run input answer) → IfSome left (λ input. CanBeRun input → (status ≡ Done) ⊎ (status ≡ Memory))
+  all_run None fits = tt
+  all_run (Some input) fits = λ run. inl (as_answered ∙ run_done answer.status input answer.text.items fits.tells run)
+
+  verdict : (answer.status ≡ Done) ⊎ (answer.status ≡ NotRight) → (status ≡ Done) ⊎ (status ≡ NotRight)
+  verdict (inl done) = inl (as_answered ∙ done)
+  verdict (inr not_right) = inr (as_answered ∙ not_right)
+
+  pub all_judged : (left : Told) → IfSome left (λ input. IsAnswerTo Check input answer) → IfSome left (λ input. CanBeJudged input → ((status ≡ Done) ⊎ (status ≡ NotRight)) ⊎ (status ≡ Memory))
+  all_judged None fits = tt
+  all_judged (Some input) fits = λ judged. inl (verdict (judged_done answer.status input answer.text.items fits.tells judged))

@@ -1,5 +1,8 @@
-pub mod Running
+pub mod OneByOne
 pub mod Deliveries
 pub mod Plain
 pub mod Headline
+pub mod Refused
 pub mod Refusals
+pub mod TooLong
+pub mod Verdicts

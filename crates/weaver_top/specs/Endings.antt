@@ -1,4 +1,4 @@
--- What `run` writes for an input, from bytes to bytes.
+-- What `run` writes for an input, from bytes to bytes, and how reading and writing end.
 use Rattle.std.specs.Prelude.{◌≡◌, ◌≤◌, ◌⊎◌, ℕ, true, false, List, [], ◌∷◌, ◌++◌, length, codes, IfSome, Err}
 use Rattle.std.specs.Fmt.{decimal}
 use Rattle.weave_io.specs.Told.{Told, Tells, TakesCount, Appends, AppendsPrefix}
@@ -61,10 +61,6 @@ pub record TellsUnbuilt (input text : List ℕ) : Type 0 where
 -- the text tells why the input is refused
 abbrev pub TellsRefusal : List ℕ → List ℕ → Type 0
 TellsRefusal input text = TellsFault input text ⊎ TellsUnbuilt input text
-
--- the text is what `run` has to write for the input
-abbrev pub TellsAnswer : List ℕ → List ℕ → Type 0
-TellsAnswer input text = TellsRightReport input text ⊎ TellsRefusal input text
 
 -- the input was read whole, or as far as shows that it is too long
 abbrev pub IsReadWhole : Told → Told → Type 0

@@ -7,22 +7,22 @@ use std::test::Fail;
 use std::thread::Threads;
 use weave_io::{MemorySink, MemorySource};
 
-const FIRST: &[u8] =
+pub(crate) const FIRST: &[u8] =
     b"weaver 1 1 1\ntx t1 0 0\ncreate v\nset v color red\nend\ntx t2 0 0\nget v\nend\n";
 
-const FIRST_REPORT: &[u8] =
+pub(crate) const FIRST_REPORT: &[u8] =
     b"report 1\ntx t1 0:0:1 committed 1\ntx t2 0:0:2 committed 2\ngot 1 record color=red\norder t1 t2\nend\n";
 
 // The calls of a source and a sink that fail, and the most bytes that a call moves.
 #[derive(Clone, Copy)]
-struct Outside {
-    source_fails: u64,
-    source_piece: usize,
-    sink_fails: u64,
-    sink_piece: usize,
+pub(crate) struct Outside {
+    pub(crate) source_fails: u64,
+    pub(crate) source_piece: usize,
+    pub(crate) sink_fails: u64,
+    pub(crate) sink_piece: usize,
 }
 
-const HONEST: Outside = Outside {
+pub(crate) const HONEST: Outside = Outside {
     source_fails: 0,
     source_piece: 65_536,
     sink_fails: 0,
@@ -30,7 +30,7 @@ const HONEST: Outside = Outside {
 };
 
 // Calls `weave`, and gives the status and what was written.
-fn call<R: Threads + Wait + Sync>(
+pub(crate) fn call<R: Threads + Wait + Sync>(
     rt: &R,
     alloc: Global,
     words: &[&str],
@@ -237,7 +237,9 @@ fn words_that_are_no_command(rt: HostRuntime) -> Result<(), Fail> {
     assert!(rt; refuses_words(&rt, rt.alloc(), &[])?);
     assert!(rt; refuses_words(&rt, rt.alloc(), &["run", "now"])?);
     assert!(rt; refuses_words(&rt, rt.alloc(), &["Run"])?);
-    assert!(rt; refuses_words(&rt, rt.alloc(), &["check"])?);
+    assert!(rt; refuses_words(&rt, rt.alloc(), &["check", "now"])?);
+    assert!(rt; refuses_words(&rt, rt.alloc(), &["checks"])?);
+    assert!(rt; refuses_words(&rt, rt.alloc(), &["trace"])?);
     assert!(rt; refuses_words(&rt, rt.alloc(), &["load", "7", "0"])?);
     Ok(())
 }

@@ -1,7 +1,8 @@
 use Rattle.std.proofs.Common.{ap, ◌∙◌}
 use Rattle.weaver_top.specs.Endings.{refusal_line}
-use Rattle.weaver_top.proofs.Refusals.{too_long}
+use Rattle.weaver_top.proofs.Refused.{refused}
+use Rattle.weaver_top.proofs.TooLong.{too_long}
 use Rattle.weaver_top.proofs.answer.too_long.Goals as goal
 
-pub returns : goal.returns
-returns c input long = too_long input _ long (c.in_ok-refusal.ensures ∙ ap (refusal_line 0) c.text.ensures)
+pub returns-clause-answer : goal.returns-clause-answer
+returns-clause-answer c = refused _ _ _ c.refusal.ensures.status c.refusal.ensures.text (λ answer status text. too_long answer status (text ∙ ap (refusal_line 0) c.text.ensures))

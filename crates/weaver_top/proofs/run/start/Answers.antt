@@ -1,4 +1,4 @@
-use Rattle.weaver_top.proofs.Running.{started}
+use Rattle.weaver_top.proofs.OneByOne.{started}
 use Rattle.weaver_top.proofs.run.start.Goals as goal
 
 pub returns : goal.returns

@@ -1,7 +1,7 @@
 use Rattle.std.proofs.Common.{refl}
 use Rattle.weaver_top.proofs.Headline.{tells}
 use Rattle.weaver_top.proofs.Plain.{few_requests_of, some_gate, runnable, built_parts}
-use Rattle.weaver_top.proofs.answer.report_of.Goals as goal
+use Rattle.weaver_top.proofs.running.report_of.Goals as goal
 
 pub run-requires : goal.run-requires
 run-requires c =

@@ -1,0 +1,61 @@
+-- The choice of the next request, and the printed order.
+use Rattle.std.proofs.Common.{◌≡◌, ℕ, ◌+◌, ◌<◌, ◌≤◌, Bool, true, false, ◌&&◌, IsTrue, List, [], ◌∷◌, ◌++◌, length, take, get_or, Option, Some, None, inl, inr, refl, sym, ap, ◌∙◌, subst, arith}
+use Rattle.std.specs.Prelude.{nat_eq}
+use Rattle.std.proofs.lemmas.Bool.{and_parts, and_from, both_ways, or_cases, or_left, or_right, eq-eqb, ltb-true, ltb-false}
+use Rattle.std.proofs.lemmas.List.{take_more}
+use Rattle.weave_report.specs.declared.report.Report.{Report}
+use Rattle.weave_report.specs.Words.{is_in}
+use Rattle.weave_report.proofs.Lists.{all-append, all-map}
+use Rattle.order_witness.specs.Closure.{Test}
+use Rattle.order_witness.specs.Choices.{IsBest, is_better, is_free, home_at}
+
+is_in-append : (r : ℕ) (xs ys : List ℕ) → IsTrue (is_in r xs) → IsTrue (is_in r (xs ++ ys))
+is_in-append r [] ys h = cc
+is_in-append r (x ∷ xs) ys h = elim (or_cases (nat_eq r x) _ h) [ inl here ↦ or_left _ _ here | inr later ↦ or_right (nat_eq r x) _ (is_in-append r xs ys later) ]
+
+is_in-last : (r : ℕ) (xs : List ℕ) → IsTrue (is_in r (xs ++ r ∷ []))
+is_in-last r [] = or_left _ _ (eq-eqb r r refl)
+is_in-last r (x ∷ xs) = or_right (nat_eq r x) _ (is_in-last r xs)
+
+module _ (report : Report) (precedence : Test) (remaining : List ℕ) where
+  abbrev free : ℕ → Bool
+  free = is_free precedence remaining
+
+  -- one request more, which is chosen
+  chosen_one : (best : Option ℕ) (xs : List ℕ) (r : ℕ) → IsBest report precedence remaining xs best → IsTrue (is_better report best r) → IsTrue (free r) → IsBest report precedence remaining (xs ++ r ∷ []) (Some r)
+  chosen_one None xs r h better is = (
+    is_in-last r xs,
+    is,
+    all-append _ xs (r ∷ []) (all-map _ _ (λ x none it_is. absurd (both_ways _ none it_is)) xs h) (λ _. omega arith, tt),
+  )
+  chosen_one (Some best) xs r h better is =
+      let less : home_at report r < home_at report best = ltb-true _ _ better in (
+        is_in-last r xs,
+        is,
+        all-append _ xs (r ∷ []) (all-map _ _ (λ x at_least it_is. omega (arith, less, at_least it_is)) xs h.2) (λ _. omega arith, tt),
+      )
+
+  -- one request more, which isn't
+  kept_one : (best : Option ℕ) (xs : List ℕ) (r : ℕ) → IsBest report precedence remaining xs best → (is_better report best r && free r) ≡ false → IsBest report precedence remaining (xs ++ r ∷ []) best
+  kept_one None xs r h none = all-append _ xs (r ∷ []) h (none, tt)
+  kept_one (Some best) xs r h none = (
+    is_in-append best xs (r ∷ []) h.0,
+    h.1,
+    all-append _ xs (r ∷ []) h.2 (λ it_is. at_least (is_better report (Some best) r) refl it_is, tt),
+  )
+    where
+      at_least : (b : Bool) → is_better report (Some best) r ≡ b → IsTrue (free r) → home_at report best ≤ home_at report r
+      at_least true e it_is = absurd (both_ways _ none (and_from _ _ e it_is))
+      at_least false e it_is = ltb-false _ _ e
+
+  module _ (i r : ℕ) (lt : i < length remaining) (is : get_or remaining i 0 ≡ r) where
+    more : take (i + 1) remaining ≡ take i remaining ++ r ∷ []
+    more = take_more remaining i 0 lt ∙ ap (λ x. take i remaining ++ x ∷ []) is
+
+    pub chosen : (best : Option ℕ) → IsBest report precedence remaining (take i remaining) best → (is_better report best r && free r) ≡ true → IsBest report precedence remaining (take (i + 1) remaining) (Some r)
+    chosen best h it_is =
+        let parts = and_parts (is_better report best r) (free r) it_is in
+        subst (λ (xs : List ℕ). IsBest report precedence remaining xs (Some r)) (sym more) (chosen_one best (take i remaining) r h parts.0 parts.1)
+
+    pub kept : (best : Option ℕ) → IsBest report precedence remaining (take i remaining) best → (is_better report best r && free r) ≡ false → IsBest report precedence remaining (take (i + 1) remaining) best
+    kept best h not_so = subst (λ (xs : List ℕ). IsBest report precedence remaining xs best) (sym more) (kept_one best (take i remaining) r h not_so)

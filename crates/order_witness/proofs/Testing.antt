@@ -1,0 +1,156 @@
+-- What the code tests, and what the clauses say.
+use Rattle.std.proofs.Common.{◌≡◌, ℕ, zero, suc, Bool, not, ◌||◌, ◌&&◌, IsTrue, List, [], ◌∷◌, Option, Some, None, refl, sym, ◌∙◌, subst}
+use Rattle.std.specs.Prelude.{slice_get, is_some, nat_lt}
+use Rattle.std.specs.List.{list_all, AllByRecursion}
+use Rattle.std.proofs.lemmas.Bool.{and_parts, and_from, both_ways, not-true, not_from_false, false_from_ne_true}
+use Rattle.vector_stamp.specs.declared.clock.Stamp.{Stamp}
+use Rattle.vector_stamp.specs.Order.{unordered}
+use Rattle.vector_stamp.specs.Precedence.{Given, Precedes, precedes}
+use Rattle.vector_stamp.proofs.Closure.{passes_test, test_precedes}
+use Rattle.weave_data.specs.declared.name.Name.{Name}
+use Rattle.program_defs.specs.declared.script.Script.{Script}
+use Rattle.program_defs.specs.declared.script.Request.{Request}
+use Rattle.program_defs.specs.declared.script.Work.{Work}
+use Rattle.program_defs.specs.declared.script.Work.TheVariants.{Change, Look}
+use Rattle.weave_report.specs.declared.report.Report.{Report}
+use Rattle.weave_report.specs.declared.report.Reply.{Reply}
+use Rattle.weave_report.specs.declared.report.Pair.{Pair}
+use Rattle.weave_report.specs.declared.report.ReplyState.{ReplyState}
+use Rattle.weave_report.specs.declared.report.ReplyState.TheVariants.{Unbegun, Begun, Committed, Conflict, Refused, Finished}
+use Rattle.weave_report.specs.Meetings.{is_change}
+use Rattle.weave_report.specs.Words.{is_some_and, are_both, AreBoth, request_at, reply_at, stamp_at, same_session, names_vertex, work_names, number_of, is_committed, given_pairs, RequestPrecedes}
+use Rattle.weave_report.specs.RightReport.{IsListedInOrder, IsConflictInPlace, IsPairInPlace, MayBeLaterAt, is_committed_and_names}
+use Rattle.order_witness.specs.Closure.{Test}
+use Rattle.order_witness.specs.Begun.{request_precedes, is_listed_in_order, is_conflict_in_place}
+use Rattle.order_witness.specs.Judgement.{has_no_program, has_few_operations, has_short_transactions}
+
+-- Precedence
+
+way_of : (pairs : List Given) (a b : Option Stamp) → IsTrue (are_both (precedes pairs) a b) → AreBoth (Precedes pairs) a b
+way_of pairs None b h = cc
+way_of pairs (Some x) None h = cc
+way_of pairs (Some x) (Some y) h = test_precedes pairs x y h
+
+test_of : (pairs : List Given) (a b : Option Stamp) → AreBoth (Precedes pairs) a b → IsTrue (are_both (precedes pairs) a b)
+test_of pairs None b h = absurd h
+test_of pairs (Some x) None h = absurd h
+test_of pairs (Some x) (Some y) h = passes_test pairs x y h
+
+-- Lists
+
+module _ {A : Type 0} (test : A → Bool) (P : A → Type 0) where
+  pub each_from : ((x : A) → IsTrue (test x) → P x) → (xs : List A) → IsTrue (list_all test xs) → AllByRecursion P xs
+  each_from f [] h = tt
+  each_from f (x ∷ xs) h = let parts = and_parts (test x) (list_all test xs) h in (f x parts.0, each_from f xs parts.1)
+
+  pub each_to : ((x : A) → P x → IsTrue (test x)) → (xs : List A) → AllByRecursion P xs → IsTrue (list_all test xs)
+  each_to f [] h = refl
+  each_to f (x ∷ xs) h = and_from _ _ (f x h.0) (each_to f xs h.1)
+
+module _ {A : Type 0} (test : A → Bool) where
+  pub passes_at : (xs : List A) (n : ℕ) (x : A) → IsTrue (list_all test xs) → slice_get xs n ≡ Some x → IsTrue (test x)
+  passes_at [] n x h at = cc
+  passes_at (y ∷ xs) zero x h at = subst (λ z. IsTrue (test z)) (one_value y x at) (and_parts (test y) (list_all test xs) h).0
+    where
+      one_value : (y x : A) → Some y ≡ Some x → y ≡ x
+      one_value y x e = cc
+  passes_at (y ∷ xs) (suc n) x h at = passes_at xs n x (and_parts (test y) (list_all test xs) h).1 at
+
+module _ (script : Script) (report : Report) (precedence : Test) (same : (a b : ℕ) → precedence a b ≡ request_precedes report a b) where
+  pub way : (a b : ℕ) → IsTrue (precedence a b) → RequestPrecedes report a b
+  way a b h = way_of (given_pairs report) (stamp_at report a) (stamp_at report b) (sym (same a b) ∙ h)
+
+  pub tested : (a b : ℕ) → RequestPrecedes report a b → IsTrue (precedence a b)
+  tested a b h = same a b ∙ test_of (given_pairs report) (stamp_at report a) (stamp_at report b) h
+
+  no_way : (a b : ℕ) → IsTrue (not (precedence a b)) → ¬ RequestPrecedes report a b
+  no_way a b h leads = both_ways _ (not-true _ h) (tested a b leads)
+
+  not_tested : (a b : ℕ) → ¬ RequestPrecedes report a b → IsTrue (not (precedence a b))
+  not_tested a b none = not_from_false _ (false_from_ne_true _ (λ h. none (way a b h)))
+
+  -- Order
+
+  sessions : List ℕ → ℕ → Bool
+  sessions before r = list_all (λ earlier. not (same_session script earlier r) || nat_lt earlier r) before
+
+  pub listed_fact : (before : List ℕ) (r : ℕ) → IsTrue (is_listed_in_order script precedence before r) → IsListedInOrder script report before r
+  listed_fact before r h =
+      let parts = and_parts (not (precedence r r) && list_all (λ earlier. not (precedence r earlier)) before) _ h in
+      let first = and_parts (not (precedence r r)) (list_all (λ earlier. not (precedence r earlier)) before) parts.0 in
+      ((no_way r r first.0, each_from (λ earlier. not (precedence r earlier)) (λ earlier. ¬ RequestPrecedes report r earlier) (λ earlier. no_way r earlier) before first.1), parts.1)
+
+  pub listed_test : (before : List ℕ) (r : ℕ) → IsListedInOrder script report before r → IsTrue (is_listed_in_order script precedence before r)
+  listed_test before r h =
+      and_from _ _
+      (and_from _ _ (not_tested r r h.0.0) (each_to (λ earlier. not (precedence r earlier)) (λ earlier. ¬ RequestPrecedes report r earlier) (λ earlier. not_tested r earlier) before h.0.1))
+      h.1
+
+  -- Conflicts
+
+  pub conflict_fact : (r : ℕ) (state : ReplyState) → IsTrue (is_conflict_in_place script report precedence r state) → IsConflictInPlace script report r state
+  conflict_fact r Unbegun h = tt
+  conflict_fact r Begun h = tt
+  conflict_fact r (Committed number answers) h = tt
+  conflict_fact r (Conflict v newer) h =
+      let parts = and_parts (is_committed_and_names script report v newer && not (same_session script r newer) && names_vertex script r v) (precedence r newer) h in
+      (parts.0, way r newer parts.1)
+  conflict_fact r (Refused op reason at) h = tt
+  conflict_fact r (Finished answer) h = tt
+
+  pub conflict_test : (r : ℕ) (state : ReplyState) → IsConflictInPlace script report r state → IsTrue (is_conflict_in_place script report precedence r state)
+  conflict_test r Unbegun h = refl
+  conflict_test r Begun h = refl
+  conflict_test r (Committed number answers) h = refl
+  conflict_test r (Conflict v newer) h = and_from _ _ h.0 (tested r newer h.1)
+  conflict_test r (Refused op reason at) h = refl
+  conflict_test r (Finished answer) h = refl
+
+-- each request of a script without programs is a transaction
+pub is_changes : (script : Script) → IsTrue (has_no_program script) → (r : ℕ) (request : Request) → request_at script r ≡ Some request → IsTrue (is_change request.work)
+is_changes script none r request at = passes_at (λ (x : Request). is_change x.work) script.requests r request none at
+
+-- Pairs
+
+module _ (script : Script) (report : Report) where
+  -- the test of a pair, for a script without programs
+  abbrev pub is_pair_in_place : Pair → Bool
+  is_pair_in_place pair =
+      are_both unordered (stamp_at report pair.earlier) (stamp_at report pair.later)
+      && is_committed_and_names script report pair.vertex pair.earlier
+      && is_committed_and_names script report pair.vertex pair.later
+
+  named_later : (v : Name) (r : ℕ) (work : Work) (state : ReplyState) → IsTrue (is_committed_and_names script report v r) → IsTrue (work_names v work) → MayBeLaterAt script report v r work state
+  named_later v r (Change ops) state h names = h
+  named_later v r (Look program) state h names = cc
+
+  both_later : (v : Name) (r : ℕ) (request : Option Request) (reply : Option Reply) → IsTrue (is_committed_and_names script report v r) → IsTrue (is_some_and (λ (x : Request). work_names v x.work) request) → IsTrue (is_some_and (λ (x : Reply). is_some (number_of x.state)) reply)
+      → AreBoth (λ (request : Request) (reply : Reply). MayBeLaterAt script report v r request.work reply.state) request reply
+  both_later v r None reply h names is = cc
+  both_later v r (Some request) None h names is = cc
+  both_later v r (Some request) (Some reply) h names is = named_later v r request.work reply.state h names
+
+  pub pair_fact : (pair : Pair) → IsTrue (is_pair_in_place pair) → IsPairInPlace script report pair
+  pair_fact pair h =
+      let parts = and_parts (are_both unordered (stamp_at report pair.earlier) (stamp_at report pair.later) && is_committed_and_names script report pair.vertex pair.earlier) _ h in
+      let first = and_parts (are_both unordered (stamp_at report pair.earlier) (stamp_at report pair.later)) _ parts.0 in
+      let later = and_parts (is_committed report pair.later) (names_vertex script pair.later pair.vertex) parts.1 in
+      (first.0, first.1, both_later pair.vertex pair.later (request_at script pair.later) (reply_at report pair.later) parts.1 later.1 later.0)
+
+  changed_later : (v : Name) (r : ℕ) (work : Work) (state : ReplyState) → IsTrue (is_change work) → MayBeLaterAt script report v r work state → IsTrue (is_committed_and_names script report v r)
+  changed_later v r (Change ops) state change h = h
+  changed_later v r (Look program) state change h = cc
+
+  later_test : (v : Name) (r : ℕ) (request : Option Request) (reply : Option Reply) → ((x : Request) → request ≡ Some x → IsTrue (is_change x.work))
+      → AreBoth (λ (request : Request) (reply : Reply). MayBeLaterAt script report v r request.work reply.state) request reply → IsTrue (is_committed_and_names script report v r)
+  later_test v r None reply change h = absurd h
+  later_test v r (Some request) None change h = absurd h
+  later_test v r (Some request) (Some reply) change h = changed_later v r request.work reply.state (change request refl) h
+
+  pub pair_test : IsTrue (has_no_program script) → (pair : Pair) → IsPairInPlace script report pair → IsTrue (is_pair_in_place pair)
+  pair_test none pair h =
+      and_from _ _ (and_from _ _ h.0 h.1) (later_test pair.vertex pair.later (request_at script pair.later) (reply_at report pair.later) (is_changes script none pair.later) h.2)
+
+-- each transaction of a script of short ones is short
+pub is_short : (script : Script) → IsTrue (has_short_transactions script) → (r : ℕ) (request : Request) → request_at script r ≡ Some request → IsTrue (has_few_operations request.work)
+is_short script short r request at = passes_at (λ (x : Request). has_few_operations x.work) script.requests r request short at

@@ -1,0 +1,8 @@
+use Rattle.std.proofs.Common.{take}
+use Rattle.weave_report.specs.declared.report.Reply.{Reply}
+use Rattle.weave_report.specs.Facts.{AllHold, facts_of_each}
+use Rattle.weave_report.specs.RightReport.{IsConflictInPlace}
+use Rattle.order_witness.proofs.conflicts.first_fault.Given as goal
+
+abbrev pub invariant-loop-place : goal.invariant-loop-place
+invariant-loop-place l = AllHold (facts_of_each (λ (reply : Reply). IsConflictInPlace l.script l.report reply.request reply.state) (take l.place l.reply-items))

@@ -1,0 +1,33 @@
+use Rattle.std.proofs.Common.{IsTrue, not, ◌&&◌, ◌+◌, List, [], ◌∷◌, ◌++◌, ℕ, length, sym, ◌∙◌, subst}
+use Rattle.std.proofs.lemmas.Bool.{both_ways}
+use Rattle.weave_report.specs.declared.report.Report.{Report}
+use Rattle.weave_report.specs.Facts.{Facts, AllHold, BreaksFirstAt, facts_in_turn}
+use Rattle.weave_report.specs.Words.{is_in, may_be_listed}
+use Rattle.weave_report.specs.RightReport.{all_are_listed}
+use Rattle.order_witness.proofs.Loops.{within_breaks, end_breaks, all_hold}
+use Rattle.order_witness.proofs.listing.first_fault.Goals as goal
+
+-- what is said of each place
+abbrev IsListed : Report → List ℕ → ℕ → Type 0
+IsListed report before r = IsTrue (not (is_in r before) && may_be_listed report r)
+
+-- the clause over a list of requests
+abbrev facts : Report → List ℕ → Facts
+facts report order = facts_in_turn (IsListed report) order ++ IsTrue (all_are_listed report) ∷ []
+
+pub returns-in-Some : goal.returns-in-Some
+returns-in-Some c =
+    subst (λ (order : List ℕ). BreaksFirstAt (facts c.args.report.now order) c.in-Some.place) c.as_slice-order.ensures
+    (within_breaks (IsListed c.args.report.now) (IsTrue (all_are_listed c.args.report.now)) c.as_slice-order.result.now c.in-Some.place c.in-Some.ensures)
+
+pub returns-then-not-all_are_listed : goal.returns-then-not-all_are_listed
+returns-then-not-all_are_listed c =
+    subst (λ (order : List ℕ). BreaksFirstAt (facts c.args.report.now order) (length c.as_slice-order.result.now + 1)) c.as_slice-order.ensures
+    (end_breaks (IsListed c.args.report.now) (IsTrue (all_are_listed c.args.report.now)) c.as_slice-order.result.now c.in_default.ensures
+    (both_ways _ (sym c.all_are_listed.ensures ∙ c.if-not-all_are_listed.true)))
+
+pub returns : goal.returns
+returns c =
+    subst (λ (order : List ℕ). AllHold (facts c.args.report.now order)) c.as_slice-order.ensures
+    (all_hold (IsListed c.args.report.now) (IsTrue (all_are_listed c.args.report.now)) c.as_slice-order.result.now c.in_default.ensures
+    (sym c.all_are_listed.ensures ∙ c.if-not-all_are_listed.false))

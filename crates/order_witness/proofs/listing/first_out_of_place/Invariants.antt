@@ -1,0 +1,7 @@
+use Rattle.std.proofs.Common.{IsTrue, not, ◌&&◌, take}
+use Rattle.weave_report.specs.Facts.{AllHold, facts_in_turn}
+use Rattle.weave_report.specs.Words.{is_in, may_be_listed}
+use Rattle.order_witness.proofs.listing.first_out_of_place.Given as goal
+
+abbrev pub invariant-loop-place : goal.invariant-loop-place
+invariant-loop-place l = AllHold (facts_in_turn (λ before r. IsTrue (not (is_in r before) && may_be_listed l.report r)) (take l.place l.order))

@@ -1,0 +1,16 @@
+use Rattle.std.proofs.Common.{IsTrue, sym, ◌∙◌}
+use Rattle.std.proofs.lemmas.Bool.{both_ways}
+use Rattle.weave_report.specs.declared.report.Reply.{Reply}
+use Rattle.weave_report.specs.RightReport.{is_reply_in_place}
+use Rattle.order_witness.proofs.Loops.{turn_step, turn_breaks}
+use Rattle.order_witness.proofs.replies.first_out_of_place.Goals as goal
+
+pub returns-then-not-holds : goal.returns-then-not-holds
+returns-then-not-holds c =
+    turn_breaks (λ before (reply : Reply). IsTrue (is_reply_in_place c.args.script.now before reply)) c.args.replies.now c.loop-place.place c.index-replies-place.result
+    c.loop-place-test.true c.loop-place.invariant c.index-replies-place.is (both_ways _ (sym c.is_in_place-holds.ensures ∙ c.if-not-holds.true))
+
+pub loop-place-preserved : goal.loop-place-preserved
+loop-place-preserved c =
+    turn_step (λ before (reply : Reply). IsTrue (is_reply_in_place c.args.script.now before reply)) c.args.replies.now c.loop-place.place c.index-replies-place.result
+    c.loop-place-test.true c.loop-place.invariant c.index-replies-place.is (sym c.is_in_place-holds.ensures ∙ c.if-not-holds.false)

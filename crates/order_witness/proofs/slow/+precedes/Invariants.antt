@@ -1,0 +1,5 @@
+use Rattle.order_witness.proofs.slow.+precedes.Given as goal
+
+-- the steps that are left become fewer
+abbrev pub decreases-precedes : goal.decreases-precedes
+decreases-precedes l = l.steps

@@ -1,0 +1,67 @@
+-- Precedence between the begun requests of a report, as a test.
+use Rattle.std.specs.Prelude.{◌≡◌, ℕ, Bool, true, ◌&&◌, ◌||◌, not, nat_lt, ◌==◌, List, Option, Some, is_some, slice_get}
+use Rattle.std.specs.List.{list_any, list_all, filter_map}
+use Rattle.std.specs.Option.{option_and_then}
+use Rattle.vector_stamp.specs.declared.clock.Stamp.{Stamp}
+use Rattle.vector_stamp.specs.Order.{stamp_before}
+use Rattle.vector_stamp.specs.Precedence.{precedes}
+use Rattle.weave_report.specs.declared.report.Report.{Report}
+use Rattle.weave_report.specs.declared.report.Reply.{Reply}
+use Rattle.weave_report.specs.declared.report.Pair.{Pair}
+use Rattle.weave_report.specs.declared.report.ReplyState.{ReplyState}
+use Rattle.weave_report.specs.declared.report.ReplyState.TheVariants.{Conflict}
+use Rattle.program_defs.specs.declared.script.Script.{Script}
+use Rattle.weave_report.specs.RightReport.{is_committed_and_names}
+use Rattle.weave_report.specs.Words.{is_some_and, are_both, number_of, same_session, names_vertex, stamp_at, given_pairs, RequestPrecedes}
+
+-- one request precedes another, both begun
+abbrev pub request_precedes : Report → ℕ → ℕ → Bool
+request_precedes report a b = are_both (precedes (given_pairs report)) (stamp_at report a) (stamp_at report b)
+
+-- no two begun requests have one stamp
+abbrev pub StampsDiffer : Report → Type 0
+StampsDiffer report = (a b : ℕ) (s : Stamp) → stamp_at report a ≡ Some s → stamp_at report b ≡ Some s → a ≡ b
+
+-- no begun request precedes itself
+abbrev pub NonePrecedesItself : Report → Type 0
+NonePrecedesItself report = (r : ℕ) → ¬ RequestPrecedes report r r
+
+-- the stamp of a reply of the list
+abbrev pub stamp_in : List Reply → ℕ → Option Stamp
+stamp_in replies r = option_and_then (λ (reply : Reply). reply.stamp) (slice_get replies r)
+
+-- the stamp is before that of the reply
+abbrev pub is_before_reply : Stamp → Reply → Bool
+is_before_reply stamp reply = is_some_and (stamp_before stamp) reply.stamp
+
+-- the stamp is before that of reply r of the list
+abbrev pub is_before_in : List Reply → Stamp → ℕ → Bool
+is_before_in replies stamp r = is_some_and (is_before_reply stamp) (slice_get replies r)
+
+-- the one reply of a list has a stamp before that of one of another list
+abbrev pub stamps_lead : List Reply → List Reply → ℕ → ℕ → Bool
+stamps_lead replies others a b = is_some_and (λ (reply : Reply). is_some_and (λ stamp. is_before_in others stamp b) reply.stamp) (slice_get replies a)
+
+-- the pair joins these two, and both its ends are begun
+abbrev pub joins : List Reply → ℕ → ℕ → Pair → Bool
+joins replies a b pair = (a == pair.earlier && b == pair.later) && (is_some (stamp_in replies pair.earlier) && is_some (stamp_in replies pair.later))
+
+-- a pair of the list joins these two
+abbrev pub pairs_lead : List Reply → List Pair → ℕ → ℕ → Bool
+pairs_lead replies pairs a b = list_any (joins replies a b) pairs
+
+-- the commit numbers that replies tell
+abbrev pub numbers_in : List Reply → List ℕ
+numbers_in replies = filter_map (λ (reply : Reply). number_of reply.state) replies
+
+-- by this precedence, a listed request precedes neither itself nor one listed before it, and the listed requests of its session before it are earlier ones
+abbrev pub is_listed_in_order : Script → (ℕ → ℕ → Bool) → List ℕ → ℕ → Bool
+is_listed_in_order script precedence before r =
+    not (precedence r r) && list_all (λ earlier. not (precedence r earlier)) before
+    && list_all (λ earlier. not (same_session script earlier r) || nat_lt earlier r) before
+
+-- by this precedence, the newer request of a conflict is a committed transaction of another session, both name the vertex, and the aborted one precedes it
+abbrev pub is_conflict_in_place : Script → Report → (ℕ → ℕ → Bool) → ℕ → ReplyState → Bool
+is_conflict_in_place script report precedence r (Conflict v newer) =
+    is_committed_and_names script report v newer && not (same_session script r newer) && names_vertex script r v && precedence r newer
+is_conflict_in_place script report precedence r _ = true

@@ -1,0 +1,65 @@
+-- Refusals: which replies are refused as they say, after as many commits as they say.
+use Rattle.std.specs.Prelude.{◌≡◌, ◌≤◌, ℕ, Bool, true, false, ◌&&◌, ◌==◌, List, Option, Some, None, ⊤, MatchBool, slice_get, slice_index_or, map}
+use Rattle.std.specs.List.{filter}
+use Rattle.graph_ops.specs.PlainGraph.{PlainGraph}
+use Rattle.graph_ops.specs.declared.op.Reason.{Reason}
+use Rattle.program_defs.specs.declared.script.Script.{Script}
+use Rattle.program_defs.specs.declared.script.Request.{Request}
+use Rattle.weave_report.specs.declared.report.Report.{Report}
+use Rattle.weave_report.specs.declared.report.Reply.{Reply}
+use Rattle.weave_report.specs.declared.report.ReplyState.{ReplyState}
+use Rattle.weave_report.specs.declared.report.ReplyState.TheVariants.{Refused}
+use Rattle.weave_report.specs.Words.{AreBoth, is_some_and, request_at, number_of, commits}
+use Rattle.weave_report.specs.Replay.{IsWorkRefused, graph_of_commits}
+use Rattle.weave_report.specs.RightReport.{stands_among_commits}
+
+-- on this graph, where it is there, the request is refused at this operation for this reason
+abbrev pub IsRefusedOn : Option PlainGraph → Option Request → ℕ → Reason → Type 0
+IsRefusedOn graph request op reason = AreBoth (λ g (r : Request). IsWorkRefused g r.work op reason) graph request
+
+-- a request that is refused is so on this graph
+abbrev pub IsRefusedSo : Script → Option PlainGraph → ℕ → ReplyState → Type 0
+IsRefusedSo script graph r (Refused op reason at) = IsRefusedOn graph (request_at script r) op reason
+IsRefusedSo script graph r _ = ⊤
+
+-- a mark says whether this is so
+abbrev pub Marks : Bool → Type 0 → Type 0
+Marks mark Fact = MatchBool mark Fact (¬ Fact)
+
+-- of a request that is refused after so many commits the new mark says whether it is so on this graph; another one's stays
+abbrev pub IsMarkedOn : Script → PlainGraph → ℕ → ℕ → ReplyState → Bool → Bool → Type 0
+IsMarkedOn script graph after r (Refused op reason at) old new = MatchBool (at == after) (Marks new (IsRefusedOn (Some graph) (request_at script r) op reason)) (new ≡ old)
+IsMarkedOn script graph after r _ old new = new ≡ old
+
+-- and so for each reply
+abbrev pub AreMarkedOn : Script → PlainGraph → ℕ → List Reply → List Bool → List Bool → Type 0
+AreMarkedOn script graph after replies old new =
+    (place : ℕ) (reply : Reply) → slice_get replies place ≡ Some reply → IsMarkedOn script graph after reply.request reply.state (slice_index_or old place false) (slice_index_or new place false)
+
+-- after how many commits a request is refused
+abbrev pub refused_after : ReplyState → Option ℕ
+refused_after (Refused op reason at) = Some at
+refused_after _ = None
+
+-- the marks of those that are refused after so many commits at most say whether they are so
+abbrev pub AreMarkedUpTo : ℕ → Script → Report → List Bool → Type 0
+AreMarkedUpTo most script report marks =
+    (place at : ℕ) (reply : Reply) → slice_get report.replies place ≡ Some reply → refused_after reply.state ≡ Some at → at ≤ most
+    → Marks (slice_index_or marks place false) (IsRefusedSo script (graph_of_commits script report at) reply.request reply.state)
+
+-- the marks of those that are refused after some of the commits
+abbrev pub AreMarked : Script → Report → List Bool → Type 0
+AreMarked script report marks = AreMarkedUpTo (commits report) script report marks
+
+-- by its mark, a request that is refused stands well among the commits, and is so after them
+abbrev pub is_refusal_in_place : Script → Report → ℕ → ReplyState → Bool → Bool
+is_refusal_in_place script report r (Refused op reason at) mark = stands_among_commits script report r at && mark
+is_refusal_in_place script report r _ mark = true
+
+-- the requests of a list of replies with this commit number
+abbrev pub numbered_in : ℕ → List Reply → List ℕ
+numbered_in number replies = map (λ (reply : Reply). reply.request) (filter (λ (reply : Reply). is_some_and (λ n. n == number) (number_of reply.state)) replies)
+
+-- the graph that was to come is there, and is this one; or there is none
+abbrev pub IsThere : Option PlainGraph → PlainGraph → Bool → Type 0
+IsThere expected now there = MatchBool there (expected ≡ Some now) (expected ≡ None)

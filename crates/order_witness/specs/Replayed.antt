@@ -1,0 +1,23 @@
+-- What a request comes to when it is replayed.
+use Rattle.std.specs.Prelude.{◌≡◌, ℕ, Bool, List, Ok, Err, MatchBool}
+use Rattle.graph_ops.specs.PlainGraph.{PlainGraph, TxOutcome}
+use Rattle.graph_ops.specs.declared.tx.Got.{Got}
+use Rattle.program_defs.specs.declared.script.Script.{Script}
+use Rattle.program_defs.specs.declared.script.Request.{Request}
+use Rattle.weave_report.specs.declared.report.Report.{Report}
+use Rattle.weave_report.specs.declared.report.Reply.{Reply}
+use Rattle.weave_report.specs.Words.{AreBoth, request_at, reply_at}
+use Rattle.weave_report.specs.Replay.{ComesTo}
+
+-- on this graph a request comes to what its reply says
+abbrev pub ComesToReply : PlainGraph → Script → Report → ℕ → Type 0
+ComesToReply graph script report r = AreBoth (λ (request : Request) (reply : Reply). ComesTo graph request.work reply.state) (request_at script r) (reply_at report r)
+
+-- a transaction passed, and its `get`s read these states
+abbrev pub GivesAnswers : TxOutcome → List Got → Type 0
+GivesAnswers (Ok passed) answers = passed.gots ≡ answers
+GivesAnswers (Err stopped) answers = ⊥
+
+-- a test tells whether a replay came to what was said, and where it did, the graph is as it should be
+abbrev pub TellsOf : Type 0 → PlainGraph → PlainGraph → Bool → Type 0
+TellsOf Said now after holds = MatchBool holds (Said × (now ≡ after)) (¬ Said)

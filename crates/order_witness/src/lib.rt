@@ -1,0 +1,37 @@
+//! The judge of reports: whether a report is right for its script; and the printed order.
+//!
+//! `judge_report` answers `Yes` exactly for right reports, and else the first clause in order that breaks, with the first place at which it does. `order_of` gives the report's one printed order; `has_order` says whether its conditions hold. Precedence is found by a closure over all begun requests, with a bit for each two of them, so a report whose pairs form a cycle is judged as any other. The script that is judged has no program and no long transaction, which `has_no_program` and `has_short_transactions` say.
+#![tactic(auto)]
+
+mod bits;
+#[cfg(test)]
+mod cases;
+#[cfg(test)]
+mod clause_tests;
+mod conflicts;
+mod judge;
+mod listing;
+mod marks;
+mod numbers;
+mod order;
+mod pairs;
+mod precedence;
+mod printed;
+mod records;
+mod refusals;
+mod relation;
+mod replay;
+mod replies;
+#[cfg(test)]
+mod slow;
+mod stamps;
+#[cfg(test)]
+mod tables;
+#[cfg(test)]
+mod tests;
+mod trial;
+mod words;
+
+pub use judge::{Judged, has_no_program, has_short_transactions, judge_report};
+pub use printed::{has_order, order_of};
+pub use weave_report::Clause;

@@ -1,0 +1,49 @@
+//! The clause on order: no listed request precedes itself or one listed before it, and those of a session stand in its
+//! order.
+ghost use Rattle.std.specs.Prelude.{◌≡◌, ◌||◌, ℕ, not, nat_lt};
+ghost use Rattle.std.specs.List.{list_all};
+ghost use Rattle.weave_report.specs.RightReport as right;
+ghost use Rattle.weave_report.specs.Words as told;
+ghost use Rattle.order_witness.specs.Bits.{leads};
+ghost use Rattle.order_witness.specs.Begun.{request_precedes, is_listed_in_order};
+ghost use Rattle.order_witness.specs.Judgement.{IsFirstFault};
+
+use crate::relation::Relation;
+use crate::words::same_session;
+use program_defs::Script;
+use weave_report::Report;
+
+/// The first place in the order that breaks the clause with itself or an earlier place, from 1.
+pub fn first_fault(script: &Script, report: &Report, precedence: &Relation) -> Option<u64>
+    requires { (a b : ℕ) → leads precedence.now a b ≡ request_precedes report.now a b }
+    ensures { IsFirstFault (right.order_clause script.now report.now) result }
+{
+    let order = report.order.as_slice();
+    for (place, request) in order.iter().enumerate() {
+        let holds = is_listed_in_order(script, precedence, &order[..place], *request);
+        if !holds {
+            return Some(place as u64 + 1);
+        }
+    }
+    None
+}
+
+fn is_listed_in_order(script: &Script, precedence: &Relation, before: &[u32], request: u32) -> bool
+    ensures { result ≡ is_listed_in_order script.now (leads precedence.now) before.now request }
+{
+    !precedence.leads(request as usize, request as usize)
+        && precedes_none(precedence, before, request)
+        && stands_in_session(script, before, request)
+}
+
+fn precedes_none(precedence: &Relation, before: &[u32], request: u32) -> bool
+    ensures { result ≡ list_all (λ earlier. not (leads precedence.now request earlier)) before.now }
+{
+    before.iter().all(|earlier| !precedence.leads(request as usize, *earlier as usize))
+}
+
+fn stands_in_session(script: &Script, before: &[u32], request: u32) -> bool
+    ensures { result ≡ list_all (λ earlier. not (told.same_session script.now earlier request) || nat_lt earlier request) before.now }
+{
+    before.iter().all(|earlier| !same_session(script, *earlier, request) || *earlier < request)
+}

@@ -1,0 +1,255 @@
+ghost use Rattle.std.specs.Prelude.{◌<◌};
+
+use crate::Status;
+use crate::tests::{FIRST, HONEST, Outside, call};
+use std::alloc::{AllocError, Global};
+use std::sync::Wait;
+use std::test::Fail;
+use std::thread::Threads;
+
+// Two transactions of two sessions at two gatekeepers.
+const TWO: &str =
+    "weaver 1 2 1\ntx t1 0 0\ncreate v\nend\ntx t2 1 1\nset v k x\nend\nsteps\nbegin t1\njudge 0\nsend 0\nbegin t2\njudge 1\nsend 1\n";
+
+// A right report of it.
+const TWO_REPORT: &str =
+    "report 1\ntx t1 0:0:1,0 committed 1\ntx t2 0:1:0,1 committed 2\nsettled v t1 t2\norder t1 t2\nend\n";
+
+// Two transactions of one session.
+const ONE: &str =
+    "weaver 1 1 1\ntx t1 0 0\ncreate v\nset v color red\nend\ntx t2 0 0\nget v\nend\n";
+
+// Whether `check` writes this line for a script and what follows it, and ends so.
+fn writes<R: Threads + Wait + Sync>(
+    rt: &R,
+    alloc: Global,
+    script: &str,
+    report: &str,
+    status: Status,
+    line: &str,
+) -> Result<bool, AllocError> {
+    let input = format!(in alloc; "{script}{report}")?;
+    let wanted = format!(in alloc; "{line}\n")?;
+    let (ended, written) = call(rt, alloc, &["check"], input.as_str().as_bytes(), HONEST)?;
+    Ok(ended == status && written.as_slice() == wanted.as_str().as_bytes())
+}
+
+#[test]
+fn reports_that_are_right(rt: HostRuntime) -> Result<(), Fail> {
+    let unsettled =
+        "report 1\ntx t1 0:0:1,0 committed 1\ntx t2 0:1:0,1 committed 2\norder t1 t2\nend\n";
+    let first_report =
+        "report 1\ntx t1 0:0:1 committed 1\ntx t2 0:0:2 committed 2\ngot 1 record color=red\norder t1 t2\nend\n";
+    let cases = [
+        ("weaver 1 1 1\n", "report 1\norder\nend\n"),
+        (TWO, TWO_REPORT),
+        (TWO, unsettled),
+        (ONE, first_report),
+    ];
+    for (script, report) in cases.iter() {
+        assert!(rt;
+            writes(&rt, rt.alloc(), script, report, Status::Done, "yes")?,
+            "{report}"
+        );
+    }
+    Ok(())
+}
+
+#[test]
+fn reports_that_are_not_right(rt: HostRuntime) -> Result<(), Fail> {
+    let cases = [
+        (
+            "report 1\ntx t1 0:0:1,0 committed 1\ntx t2 0:1:0,1 committed 2\nsettled v t1 t2\norder t2 t1\nend\n",
+            "no iii 2",
+        ),
+        (
+            "report 1\ntx t1 0:0:1,0 committed 1\ntx t2 0:1:0,1 committed 2\nsettled w t1 t2\norder t1 t2\nend\n",
+            "no v 1",
+        ),
+        (
+            "report 1\ntx t1 0:0:1,0 committed 1\ntx t2 0:0:0,1 committed 2\nsettled v t1 t2\norder t1 t2\nend\n",
+            "no i 2",
+        ),
+        (
+            "report 1\ntx t1 0:0:1,0 committed 1\ntx t2 0:1:0,1 committed 1\nsettled v t1 t2\norder t1 t2\nend\n",
+            "no viii 2",
+        ),
+        (
+            "report 1\ntx t1 0:0:1,0 committed 1\ntx t2 0:1:0,1 refused 1 missing at 0\norder t1 t2\nend\n",
+            "no ii 2",
+        ),
+        (
+            "report 1\ntx t1 0:0:1,1 committed 1\ntx t2 0:1:0,1 conflict v t2\norder t1\nend\n",
+            "no vi 2",
+        ),
+        (
+            "report 1\ntx t1 0:0:1,0 committed 1\ntx t2 0:1:0,1 refused 1 missing at 1\norder t1\nend\n",
+            "no vii 2",
+        ),
+        ("report 1\norder\nend\n", "no i 1"),
+    ];
+    for (report, line) in cases.iter() {
+        assert!(rt;
+            writes(&rt, rt.alloc(), TWO, report, Status::NotRight, line)?,
+            "{line}"
+        );
+    }
+    Ok(())
+}
+
+#[test]
+fn reports_of_one_session_that_are_not_right(rt: HostRuntime) -> Result<(), Fail> {
+    let cases = [
+        (
+            "report 1\ntx t1 0:0:1 committed 1\ntx t2 0:0:2 committed 2\ngot 1 absent\norder t1 t2\nend\n",
+            "no iv 2",
+        ),
+        (
+            "report 1\ntx t1 0:0:2 committed 1\ntx t2 0:0:1 committed 2\ngot 1 record color=red\norder t1 t2\nend\n",
+            "no i 2",
+        ),
+        (
+            "report 1\ntx t1 0:0:1 conflict v t2\ntx t2 0:0:2 committed 1\ngot 1 absent\norder t2\nend\n",
+            "no vi 1",
+        ),
+    ];
+    for (report, line) in cases.iter() {
+        assert!(rt;
+            writes(&rt, rt.alloc(), ONE, report, Status::NotRight, line)?,
+            "{line}"
+        );
+    }
+    Ok(())
+}
+
+#[test]
+fn inputs_that_are_not_judged(rt: HostRuntime) -> Result<(), Fail> {
+    let program = "weaver 1 1 1\nprog p 0 0 show v\n";
+    let cases = [
+        ("", "", "refused 1 header"),
+        ("weaver 1 9 1\n", TWO_REPORT, "refused 1 gatekeepers"),
+        ("weaver 1 1 1\n", "", "refused 2 end"),
+        (TWO, "", "refused 15 end"),
+        ("weaver 1 1 1\n", "report 1\norder\n", "refused 4 end"),
+        ("weaver 1 1 1\n", "report 2\norder\nend\n", "refused 2 line"),
+        (
+            "weaver 1 1 1\n",
+            "report 1\norder t\nend\n",
+            "refused 3 request",
+        ),
+        (
+            "weaver 1 1 1\n",
+            "report 1\norder\nend\nend\n",
+            "refused 5 line",
+        ),
+        (
+            "weaver 1 1 1\ntx t 0 0\ncreate v\n",
+            "report 1\norder\nend\n",
+            "refused 4 line",
+        ),
+        (
+            TWO,
+            "report 1\ntx t1 0:0:1 committed 1\norder\nend\n",
+            "refused 16 stamp",
+        ),
+        (
+            program,
+            "report 1\nprog p 0:0:1 done absent\norder p\nend\n",
+            "refused 0 unbuilt",
+        ),
+        (
+            program,
+            "report 1\nprog p unbegun\norder\nend\n",
+            "refused 0 unbuilt",
+        ),
+        (
+            program,
+            "report 1\nprog p 0:0:1 done yes\norder p\nend\n",
+            "refused 4 line",
+        ),
+        (program, "", "refused 3 end"),
+    ];
+    for (script, report, line) in cases.iter() {
+        assert!(rt;
+            writes(&rt, rt.alloc(), script, report, Status::Refused, line)?,
+            "{line}"
+        );
+    }
+    Ok(())
+}
+
+#[test]
+fn an_input_too_long_to_be_judged(rt: HostRuntime) -> Result<(), Fail> {
+    let spaces = vec![in rt.alloc(); b' '; 4_194_305]?;
+    let (status, written) = call(&rt, rt.alloc(), &["check"], spaces.as_slice(), HONEST)?;
+    assert_eq!(rt; status, Status::Refused);
+    assert_eq!(rt; written.as_slice(), b"refused 0 too_long\n".as_slice());
+    Ok(())
+}
+
+// Transactions that are refused, and some that read, more than once in one.
+const SOME: &[u8] =
+    b"weaver 1 1 4\ntx a 3 0\ncreate v\nget w\nlink v e w\nget v\nget v\nend\nphase\ntx b 7 0\nget v\ncreate v\nend\ntx c 3 0\ndelete v\nget v\nend\n";
+
+#[test]
+fn what_run_writes_is_right(rt: HostRuntime) -> Result<(), Fail> {
+    let alloc = rt.alloc();
+    for script in [FIRST, SOME] {
+        let (status, report) = call(&rt, alloc, &["run"], script, HONEST)?;
+        assert_eq!(rt; status, Status::Done);
+        let mut input = Vec::from_slice(alloc, script)?;
+        input.extend_from_slice(report.as_slice())?;
+        let (status, written) = call(&rt, alloc, &["check"], input.as_slice(), HONEST)?;
+        assert_eq!(rt; status, Status::Done);
+        assert_eq!(rt; written.as_slice(), b"yes\n".as_slice());
+    }
+    Ok(())
+}
+
+// Whether `check` ends so, and writes so much, where a call of the source or the sink fails.
+fn fails<R: Threads + Wait + Sync>(
+    rt: &R,
+    alloc: Global,
+    input: &[u8],
+    outside: Outside,
+    status: Status,
+    text: &[u8],
+) -> Result<bool, AllocError>
+    requires { 0 < outside.source_piece }
+{
+    let (ended, written) = call(rt, alloc, &["check"], input, outside)?;
+    Ok(ended == status && written.as_slice() == text)
+}
+
+// A right report, one that isn't, and an input that ends too soon, with what is written of them before the sink fails.
+const THREE: [(&[u8], &[u8]); 3] = [
+    (b"weaver 1 1 1\nreport 1\norder\nend\n", b"yes"),
+    (
+        b"weaver 1 1 1\ntx t 0 0\nend\nreport 1\norder\nend\n",
+        b"no ",
+    ),
+    (b"weaver 1 1 1\n", b"ref"),
+];
+
+#[test]
+fn faults_of_source_and_sink(rt: HostRuntime) -> Result<(), Fail> {
+    let source = Outside {
+        source_fails: 1,
+        ..HONEST
+    };
+    let sink = Outside {
+        sink_fails: 2,
+        sink_piece: 3,
+        ..HONEST
+    };
+    let stalls = Outside {
+        sink_piece: 0,
+        ..HONEST
+    };
+    for (input, start) in THREE.iter() {
+        assert!(rt; fails(&rt, rt.alloc(), input, source, Status::Read, b"")?);
+        assert!(rt; fails(&rt, rt.alloc(), input, sink, Status::Write, start)?);
+        assert!(rt; fails(&rt, rt.alloc(), input, stalls, Status::Write, b"")?);
+    }
+    Ok(())
+}
