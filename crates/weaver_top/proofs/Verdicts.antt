@@ -1,5 +1,5 @@
 -- What `check` tells of an input.
-use Rattle.std.proofs.Common.{◌≡◌, ℕ, ◌<◌, ◌≤◌, Bool, true, false, ◌||◌, ◌&&◌, List, [], ◌∷◌, length, IsTrue, nat_lt, Ok, Err, codes, inl, inr, refl, sym, ap, ◌∙◌, subst, arith}
+use Rattle.std.proofs.Common.{◌≡◌, ℕ, ◌<◌, ◌≤◌, Bool, true, false, ◌&&◌, List, [], ◌∷◌, length, IsTrue, nat_lt, Ok, Err, codes, inl, inr, refl, sym, ap, ◌∙◌, subst, arith}
 use Rattle.std.specs.List.{AllByRecursion, list_all, list_any}
 use Rattle.std.proofs.lemmas.Bool.{lt-ltb, le-leb, both_ways}
 use Rattle.program_defs.specs.declared.script.Request.{Request}
@@ -24,12 +24,8 @@ use Rattle.weaver_top.specs.declared.status.Status.TheVariants.{Refused}
 use Rattle.weaver_top.specs.declared.words.Command.TheVariants.{Check}
 use Rattle.weaver_top.specs.Answers.{IsCheckAnswer, TellsAt, can_end}
 use Rattle.weaver_top.specs.Endings.{refusal_line}
+use Rattle.weaver_top.proofs.Plain.{built_parts}
 use Rattle.weaver_top.specs.Verdicts.{CanBeJudged, TellsYes, TellsNo, TellsCheckRefusal, yes_line, no_line}
-
--- neither of two tests
-either_none : (a b : Bool) → (a || b) ≡ false → (a ≡ false) × (b ≡ false)
-either_none true b none = absurd (cc)
-either_none false b none = (refl, none)
 
 -- both of two tests
 and_both : (a b : Bool) → a ≡ true → b ≡ true → (a && b) ≡ true
@@ -90,7 +86,7 @@ change (Look program) none = absurd (cc)
 changes : (requests : List Request) → list_any (λ request. is_program request.work) requests ≡ false → list_all (λ (request : Request). is_change request.work) requests ≡ true
 changes [] none = refl
 changes (request ∷ requests) none =
-    let parts = either_none (is_program request.work) _ none in
+    let parts = built_parts (is_program request.work) _ none in
     and_both (is_change request.work) _ (change request.work parts.0) (changes requests parts.1)
 
 pub no_program : (script : Script) → has_program script ≡ false → IsTrue (judgement.has_no_program script)

@@ -122,54 +122,58 @@ fn reports_of_one_session_that_are_not_right(rt: HostRuntime) -> Result<(), Fail
     Ok(())
 }
 
+// A script with a program.
+const PROGRAM: &str = "weaver 1 1 1\nprog p 0 0 show v\n";
+
+// Scripts, what follows them, and why they are refused.
+const REFUSED: [(&str, &str, &str); 14] = [
+    ("", "", "refused 1 header"),
+    ("weaver 1 9 1\n", TWO_REPORT, "refused 1 gatekeepers"),
+    ("weaver 1 1 1\n", "", "refused 2 end"),
+    (TWO, "", "refused 15 end"),
+    ("weaver 1 1 1\n", "report 1\norder\n", "refused 4 end"),
+    ("weaver 1 1 1\n", "report 2\norder\nend\n", "refused 2 line"),
+    (
+        "weaver 1 1 1\n",
+        "report 1\norder t\nend\n",
+        "refused 3 request",
+    ),
+    (
+        "weaver 1 1 1\n",
+        "report 1\norder\nend\nend\n",
+        "refused 5 line",
+    ),
+    (
+        "weaver 1 1 1\ntx t 0 0\ncreate v\n",
+        "report 1\norder\nend\n",
+        "refused 4 line",
+    ),
+    (
+        TWO,
+        "report 1\ntx t1 0:0:1 committed 1\norder\nend\n",
+        "refused 16 stamp",
+    ),
+    (
+        PROGRAM,
+        "report 1\nprog p 0:0:1 done absent\norder p\nend\n",
+        "refused 0 unbuilt",
+    ),
+    (
+        PROGRAM,
+        "report 1\nprog p unbegun\norder\nend\n",
+        "refused 0 unbuilt",
+    ),
+    (
+        PROGRAM,
+        "report 1\nprog p 0:0:1 done yes\norder p\nend\n",
+        "refused 4 line",
+    ),
+    (PROGRAM, "", "refused 3 end"),
+];
+
 #[test]
 fn inputs_that_are_not_judged(rt: HostRuntime) -> Result<(), Fail> {
-    let program = "weaver 1 1 1\nprog p 0 0 show v\n";
-    let cases = [
-        ("", "", "refused 1 header"),
-        ("weaver 1 9 1\n", TWO_REPORT, "refused 1 gatekeepers"),
-        ("weaver 1 1 1\n", "", "refused 2 end"),
-        (TWO, "", "refused 15 end"),
-        ("weaver 1 1 1\n", "report 1\norder\n", "refused 4 end"),
-        ("weaver 1 1 1\n", "report 2\norder\nend\n", "refused 2 line"),
-        (
-            "weaver 1 1 1\n",
-            "report 1\norder t\nend\n",
-            "refused 3 request",
-        ),
-        (
-            "weaver 1 1 1\n",
-            "report 1\norder\nend\nend\n",
-            "refused 5 line",
-        ),
-        (
-            "weaver 1 1 1\ntx t 0 0\ncreate v\n",
-            "report 1\norder\nend\n",
-            "refused 4 line",
-        ),
-        (
-            TWO,
-            "report 1\ntx t1 0:0:1 committed 1\norder\nend\n",
-            "refused 16 stamp",
-        ),
-        (
-            program,
-            "report 1\nprog p 0:0:1 done absent\norder p\nend\n",
-            "refused 0 unbuilt",
-        ),
-        (
-            program,
-            "report 1\nprog p unbegun\norder\nend\n",
-            "refused 0 unbuilt",
-        ),
-        (
-            program,
-            "report 1\nprog p 0:0:1 done yes\norder p\nend\n",
-            "refused 4 line",
-        ),
-        (program, "", "refused 3 end"),
-    ];
-    for (script, report, line) in cases.iter() {
+    for (script, report, line) in REFUSED.iter() {
         assert!(rt;
             writes(&rt, rt.alloc(), script, report, Status::Refused, line)?,
             "{line}"
