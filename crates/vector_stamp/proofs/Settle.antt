@@ -1,6 +1,6 @@
 -- Earlier events are put before a later one.
-use Rattle.std.proofs.Common.{◌≡◌, ℕ, zero, suc, ◌+◌, ◌<◌, ◌≤◌, Bool, true, false, nat_lt, List, [], ◌∷◌, ◌++◌, length, map, Contains, IsTrue, ◌⊎◌, inl, inr, refl, sym, ap, subst, ◌∙◌, add-zero, None, Some, slice_get, slice_index, arith}
-use Rattle.std.proofs.lemmas.Bool.{cases_Bool, cases_lt, both_ways, lt-ltb, cond-true, cond-false}
+use Rattle.std.proofs.Common.{◌≡◌, ℕ, zero, suc, ◌+◌, ◌<◌, ◌≤◌, Bool, true, false, cond, nat_lt, List, [], ◌∷◌, ◌++◌, length, map, Contains, IsTrue, ◌⊎◌, inl, inr, refl, sym, ap, subst, ◌∙◌, add-zero, None, Some, slice_get, slice_index, arith}
+use Rattle.std.proofs.lemmas.Bool.{cases_Bool, cases_lt, both_ways, lt-ltb, cond-true, cond-false, and_from, not_from_false, false_from_ne_true}
 use Rattle.std.proofs.lemmas.List.{append_assoc, append-nil}
 use Rattle.std.proofs.lemmas.List.Elements.{Contains-get_or}
 use Rattle.std.proofs.lemmas.List.Sums.{fails_before_first}
@@ -8,12 +8,12 @@ use Rattle.std.proofs.lemmas.Option.{none-some, slice_get_within, get_or_from_sl
 use Rattle.std.specs.List.{position_or_len}
 use Rattle.std.specs.List.Sorted.{IsStrictlyIncreasing}
 use Rattle.vector_stamp.specs.declared.clock.Stamp.{Stamp}
-use Rattle.vector_stamp.specs.Order.{same_stamp}
+use Rattle.vector_stamp.specs.Order.{same_stamp, stamp_before, unordered}
 use Rattle.vector_stamp.specs.Precedence.{Given, precedes, IsAcyclic}
 use Rattle.vector_stamp.specs.Settling.{refused_place, additions_from, places_of, pairs_of}
 use Rattle.vector_stamp.proofs.Orders.{same_stamp-is}
 use Rattle.vector_stamp.proofs.Pairs.{precedes_append, push_read, pushed_precedes, no_way_back, acyclic_push}
-use Rattle.vector_stamp.proofs.Closure.{contained_read, contained_head, contained_tail}
+use Rattle.vector_stamp.proofs.Closure.{contained_read, contained_head, contained_tail, precedes_stamps}
 
 -- the pairs after all of them were put
 abbrev pub pairs_after : ℕ → List Given → List Stamp → Stamp → List Given
@@ -174,3 +174,24 @@ places_rise place pairs (first ∷ events) later =
           let more = pairs ++ (first, later) ∷ [] in
           rw (additions-put place pairs first events later put) (rising_cons place (places_of (additions_from (suc place) more events later)) (above_place place more events later) (places_rise (suc place) more events later))
     ]
+
+-- what is added for doesn't yet precede, so it is not before
+not-before : (place : ℕ) (pairs : List Given) (events : List Stamp) (later a b : Stamp) → Contains (pairs_of (additions_from place pairs events later) later) (a, b) → ¬ IsTrue (stamp_before a b)
+not-before place pairs [] later a b h t = absurd (omega (arith, h.1))
+not-before place pairs (event ∷ events) later a b h t = at (precedes pairs event later) refl h (λ more k. not-before (suc place) more events later a b k t)
+  where
+    at : (x : Bool) → precedes pairs event later ≡ x → Contains (pairs_of (cond x (additions_from (suc place) pairs events later) ((place, event) ∷ additions_from (suc place) (pairs ++ (event, later) ∷ []) events later)) later) (a, b) → ((more : List Given) → Contains (pairs_of (additions_from (suc place) more events later) later) (a, b) → ⊥) → ⊥
+    at true e g rest = rest pairs g
+    at false e g rest = elim (contained_read (event, later) _ (a, b) g) [
+      | inl same ↦ (let first : event ≡ a = ap (λ (q : Given). q.0) same in let second : later ≡ b = ap (λ (q : Given). q.1) same in
+          both_ways _ e (precedes_stamps pairs event later (subst (λ s. IsTrue (stamp_before s later)) (sym first) (subst (λ s. IsTrue (stamp_before a s)) (sym second) t))))
+      | inr more ↦ rest (pairs ++ (event, later) ∷ []) more
+    ]
+
+-- the stamps of what is added are unordered
+pub added-open : (pairs : List Given) (earlier : List Stamp) (later a b : Stamp) → refused_place pairs earlier later ≡ None → Contains (pairs_of (additions_from 0 pairs earlier later) later) (a, b) → IsTrue (unordered a b)
+added-open pairs earlier later a b permitted h =
+    let from = pairs_of_earlier 0 pairs earlier later a b h in
+    let forward : ¬ IsTrue (stamp_before a b) = not-before 0 pairs earlier later a b h in
+    let back : ¬ IsTrue (stamp_before b a) = λ t. permitted_none pairs earlier later permitted a from.0 (precedes_stamps pairs later a (subst (λ s. IsTrue (stamp_before s a)) from.1 t)) in
+    and_from _ _ (not_from_false _ (false_from_ne_true _ forward)) (not_from_false _ (false_from_ne_true _ back))

@@ -1,5 +1,5 @@
 -- How clocks change (vector clocks, Fidge and Mattern 1988; epochs, Weaver, PVLDB 9(11) 2016).
-use Rattle.std.specs.Prelude.{ℕ, ◌+◌, Bool, true, ◌==◌, List, [], ◌∷◌, map, max, min, nat_lt, nat_le, slice_set, if◌then◌else◌}
+use Rattle.std.specs.Prelude.{ℕ, ◌+◌, Bool, true, ◌==◌, List, [], ◌∷◌, map, fold, max, min, nat_lt, nat_le, slice_set, if◌then◌else◌}
 use Rattle.std.specs.List.{zip}
 use Rattle.vector_stamp.specs.declared.clock.Clock.{Clock}
 use Rattle.vector_stamp.specs.Order.{count_of}
@@ -44,3 +44,7 @@ meet_of a b =
     if nat_lt a.epoch b.epoch then a
     else if nat_lt b.epoch a.epoch then b
     else record a { counts = lesser_counts a.counts b.counts }
+
+-- the meet of a clock and of each one of a list
+abbrev pub meet_with : Clock → List Clock → Clock
+meet_with first rest = fold meet_of first rest

@@ -3,3 +3,5 @@ pub mod Clocks
 pub mod Coherence
 pub mod Precedence
 pub mod Settling
+pub mod Seeing
+pub mod ClockLaws

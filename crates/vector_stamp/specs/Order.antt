@@ -1,6 +1,7 @@
 -- The order of stamps: refinable timestamps of Weaver (PVLDB 9(11) 2016), which are vector clocks (Fidge and Mattern 1988) under an epoch.
-use Rattle.std.specs.Prelude.{◌≡◌, ℕ, Bool, ◌&&◌, ◌||◌, not, nat_eq, nat_lt, nat_le, ◌==◌, List, length, slice_index}
+use Rattle.std.specs.Prelude.{◌≡◌, ℕ, ◌≤◌, ◌^◌, Bool, ◌&&◌, ◌||◌, not, nat_eq, nat_lt, nat_le, ◌==◌, List, length, slice_index, AllPairs, Contains, IsTrue}
 use Rattle.std.specs.Cmp.Lexicographic.{pointwise}
+use Rattle.std.specs.List.{list_all}
 use Rattle.vector_stamp.specs.declared.clock.Clock.{Clock}
 use Rattle.vector_stamp.specs.declared.clock.Stamp.{Stamp}
 use Rattle.vector_stamp.specs.declared.clock.EventId.{EventId}
@@ -41,6 +42,18 @@ count_of gate clock = slice_index clock.counts gate
 abbrev pub HasEightCounts : Clock → Type 0
 HasEightCounts clock = length clock.counts ≡ 8
 
+-- and in each of these clocks
+abbrev pub HaveEightCounts : List Clock → Type 0
+HaveEightCounts clocks = (clock : Clock) → Contains clocks clock → HasEightCounts clock
+
+-- the epoch and the counts have 64 bits
+abbrev pub has_64_bits : Clock → Bool
+has_64_bits clock = nat_lt clock.epoch (2 ^ 64) && list_all (λ count. nat_lt count (2 ^ 64)) clock.counts
+
+-- no event of a gatekeeper past the first `gates` is counted, as in every clock of a program with that many gatekeepers
+abbrev pub CountsNonePast : ℕ → Clock → Type 0
+CountsNonePast gates clock = (gate : ℕ) → gates ≤ gate → count_of gate clock ≡ 0
+
 -- Stamps
 
 -- stamps compare by their clocks
@@ -54,6 +67,10 @@ unordered a b = clocks_unordered a.clock b.clock
 -- the stamps are equal
 abbrev pub same_stamp : Stamp → Stamp → Bool
 same_stamp a b = (a.home == b.home) && same_clock a.clock b.clock
+
+-- each stamp is before each later one of the list
+abbrev pub StampsRise : List Stamp → Type 0
+StampsRise stamps = AllPairs (λ a b. IsTrue (stamp_before a b)) stamps
 
 -- Events
 

@@ -1,5 +1,6 @@
 //! Clocks, stamps and their order (Weaver, PVLDB 9(11) 2016; vector clocks, Fidge and Mattern 1988).
-ghost use Rattle.std.specs.Prelude.{◌≡◌, ◌<◌, ◌↔◌, IsTrue};
+ghost use Rattle.std.specs.Prelude.{◌≡◌, ◌<◌, ◌↔◌, ◌^◌, ◌&&◌, nat_lt, IsTrue};
+ghost use Rattle.std.specs.List.{list_all};
 ghost use Rattle.vector_stamp.specs.Order.{counts_at_most};
 ghost use Rattle.vector_stamp.specs.Clocks.{greater_counts, lesser_counts};
 
@@ -14,7 +15,7 @@ pub struct Clock {
     pub counts: [u64; 8],
 }
 
-/// A clock with its home gatekeeper, below 8. It stands for one event: a transaction, a program or an empty message.
+/// A clock with its home gatekeeper, below 8. It is of one event: a transaction, a program or an empty message.
 #[derive(Clone, Copy, Debug, PartialEq, Eq)]
 pub struct Stamp {
     pub home: u32,
@@ -29,7 +30,7 @@ pub struct EventId {
     pub count: u64,
 }
 
-/// How one clock stands to another.
+/// How one clock compares to another.
 #[derive(Clone, Copy, Debug, PartialEq, Eq)]
 pub enum Relation {
     Before,
@@ -61,7 +62,7 @@ impl Copied for Stamp {
 }
 
 impl Clock {
-    ghost use Rattle.vector_stamp.specs.Order.{is_before, is_at_most, clocks_unordered, count_of};
+    ghost use Rattle.vector_stamp.specs.Order.{is_before, is_at_most, clocks_unordered, count_of, has_64_bits};
     ghost use Rattle.vector_stamp.specs.Clocks.{start_clock, first_clock, clock_after_tick, clock_after_hearing, meet_of};
 
     /// The clock of a gatekeeper that has made no event: epoch 0, and all counts 0.
@@ -74,8 +75,8 @@ impl Clock {
         }
     }
 
-    /// How it stands to the other clock. It is before each clock of a higher epoch.
-    /// It is before one of its epoch where each of its counts is at most the other's and the counts differ.
+    /// How it compares to the other clock. It is before each clock of a higher epoch.
+    /// It is before one of its epoch if each of its counts is at most the other's and the counts differ.
     #[tactic(auto, using(crate::proofs::Counts::same_from_both))]
     pub fn compare(&self, other: &Clock) -> Relation
         ensures before { (result ≡ Relation.Before) ↔ IsTrue (is_before self.now other.now) }
@@ -139,6 +140,14 @@ impl Clock {
         }
     }
 
+    /// Its epoch and its counts have 64 bits. The call does nothing: the type says it, and contracts see it by this clause.
+    pub fn shows_64_bits(self)
+        ensures { IsTrue (has_64_bits self) }
+    {
+        let Clock { epoch, counts } = self;
+        show_64_bits(epoch, counts.as_slice());
+    }
+
     /// Begins a later epoch, in which nothing is counted yet.
     pub fn raise(&mut self, epoch: u64)
         requires { self.old.epoch < epoch }
@@ -161,7 +170,7 @@ impl Clock {
 }
 
 impl Stamp {
-    ghost use Rattle.vector_stamp.specs.Order.{id_of};
+    ghost use Rattle.vector_stamp.specs.Order.{id_of, own_count, stamp_before, unordered, are_apart, id_before};
 
     /// What identifies its event.
     pub fn id(&self) -> EventId
@@ -173,6 +182,47 @@ impl Stamp {
             epoch: self.clock.epoch,
             count: self.clock.counts[self.home as usize],
         }
+    }
+
+    /// Its home's own count; 0 if the home is not below 8.
+    pub fn own_count(&self) -> u64
+        ensures { result ≡ own_count self.now }
+    {
+        match self.clock.counts.get(self.home as usize) {
+            Some(count) => *count,
+            None => 0,
+        }
+    }
+
+    /// Whether it is before the other stamp. Stamps compare by their clocks.
+    pub fn is_before(&self, other: &Stamp) -> bool
+        ensures { result ≡ stamp_before self.now other.now }
+    {
+        self.clock.compare(&other.clock) == Relation::Before
+    }
+
+    /// Whether neither stamp is before the other, as of equal clocks.
+    pub fn is_unordered(&self, other: &Stamp) -> bool
+        ensures { result ≡ unordered self.now other.now }
+    {
+        self.clock.compare(&other.clock) == Relation::Unordered
+    }
+
+    /// Whether the stamps can be of two events: those of one home are ordered as their epochs, then their own counts.
+    pub fn is_apart(&self, other: &Stamp) -> bool
+        ensures { result ≡ are_apart self.now other.now }
+    {
+        self.home != other.home
+            || (self.has_lesser_id(other) && self.is_before(other))
+            || (other.has_lesser_id(self) && other.is_before(self))
+    }
+
+    // Whether its epoch, then its own count, is below the other's.
+    pub(crate) fn has_lesser_id(&self, other: &Stamp) -> bool
+        ensures { result ≡ id_before self.now other.now }
+    {
+        self.clock.epoch < other.clock.epoch
+            || (self.clock.epoch == other.clock.epoch && self.own_count() < other.own_count())
     }
 }
 
@@ -206,4 +256,12 @@ fn lesser_of(counts: &[u64; 8], others: &[u64; 8]) -> [u64; 8]
         lesser[gate] = counts[gate].min(others[gate]);
     }
     lesser
+}
+
+// The numbers of a clock have 64 bits.
+fn show_64_bits(epoch: u64, counts: &[u64])
+    ensures { IsTrue (nat_lt epoch (2 ^ 64) && list_all (λ count. nat_lt count (2 ^ 64)) counts.now) }
+{
+    let _ = epoch;
+    let _ = counts;
 }

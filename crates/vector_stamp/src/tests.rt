@@ -1,6 +1,6 @@
 ghost use Rattle.std.specs.Prelude.{◌≡◌, [], ◌∷◌};
 
-use crate::{Clock, EventId, Relation, Settled, Stamp};
+use crate::{Clock, EventId, Relation, Settled, Stamp, are_coherent};
 use std::test::Fail;
 use weave_data::{Copied, Items};
 
@@ -151,4 +151,46 @@ fn copies(rt: HostRuntime) -> Result<(), Fail> {
     let copied = Settled { places }.copy(alloc)?;
     assert_eq!(rt; copied.places.as_slice(), [1, 4].as_slice());
     Ok(())
+}
+
+fn stamp(home: u32, clock: Clock) -> Stamp
+    ensures { result ≡ record { home = home; clock = clock } }
+{
+    Stamp { home, clock }
+}
+
+// Each two stamps, whether the first is before the second, whether they are unordered, and whether they can be of two events.
+#[test]
+fn compares_stamps(rt: HostRuntime) {
+    let first = stamp(0, clock(0, 1, 0));
+    let second = stamp(0, clock(0, 2, 0));
+    let other = stamp(1, clock(0, 0, 1));
+    let raised = stamp(1, clock(1, 0, 1));
+    let cases = [
+        (first, second, true, false, true),
+        (second, first, false, false, true),
+        (first, other, false, true, true),
+        (second, raised, true, false, true),
+        (first, first, false, true, false),
+        (stamp(0, clock(0, 1, 7)), first, false, false, false),
+    ];
+    for (one, two, before, unordered, apart) in cases.iter() {
+        assert_eq!(rt; one.is_before(two), *before);
+        assert_eq!(rt; one.is_unordered(two), *unordered);
+        assert_eq!(rt; one.is_apart(two), *apart);
+    }
+    assert_eq!(rt; second.own_count(), 2);
+    assert_eq!(rt; stamp(9, clock(0, 1, 0)).own_count(), 0);
+}
+
+#[test]
+fn coherent_stamps(rt: HostRuntime) {
+    let first = stamp(0, clock(0, 1, 0));
+    let second = stamp(0, clock(0, 2, 4));
+    let other = stamp(1, clock(0, 3, 1));
+    assert!(rt; are_coherent(&[]));
+    assert!(rt; are_coherent(&[first, second, other, first]));
+    assert!(rt; !are_coherent(&[first, stamp(8, clock(0, 1, 0))]));
+    assert!(rt; !are_coherent(&[second, stamp(0, clock(0, 2, 5))]));
+    assert!(rt; !are_coherent(&[second, other, stamp(0, clock(0, 3, 3))]));
 }

@@ -1,6 +1,6 @@
 use Rattle.std.proofs.Common.{zero-add, ◌≡◌, ◌++◌, ◌∷◌, [], length, Some, slice_get, subst, ◌∙◌, sym}
 use Rattle.vector_stamp.specs.Settling.{additions_from}
-use Rattle.vector_stamp.proofs.Settle.{after_precedes, additions-push, pairs_after, additions_read, places_rise, pairs_of_earlier, permitted_none, permitted_after}
+use Rattle.vector_stamp.proofs.Settle.{after_precedes, additions-push, pairs_after, additions_read, places_rise, pairs_of_earlier, permitted_none, permitted_after, added-open}
 use Rattle.vector_stamp.proofs.laws.settling_puts_all_before.Goals as goal
 
 pub returns : goal.returns
@@ -12,4 +12,5 @@ returns c =
       rising = places_rise 0;
       still_permitted = λ pairs earlier later event others permitted still. permitted_after 0 pairs earlier later event (λ other h. (others other h, permitted_none pairs earlier later permitted other h)) still;
       of_earlier = pairs_of_earlier 0;
+      left_open = added-open;
     }

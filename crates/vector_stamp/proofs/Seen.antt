@@ -1,0 +1,46 @@
+-- How many of a vertex's updates a program sees.
+use Rattle.std.proofs.Common.{◌≡◌, ℕ, zero, suc, ◌+◌, ◌≤◌, Bool, true, false, List, [], ◌∷◌, length, slice_get, IsTrue, Some, refl, sym, ap, subst, ◌∙◌, add-one, arith}
+use Rattle.vector_stamp.specs.declared.clock.Stamp.{Stamp}
+use Rattle.vector_stamp.specs.Seeing.{with_front, last_place, last_seen}
+
+module _ {A : Type 0} (test : A → Bool) where
+  front-within : (b : Bool) (place many : ℕ) → place ≤ many → with_front b place ≤ many + 1
+  front-within true zero many h = omega arith
+  front-within false zero many h = omega arith
+  front-within b (suc place) many h = omega arith
+
+  pub place-within : (xs : List A) → last_place test xs ≤ length xs
+  place-within [] = omega arith
+  place-within (x ∷ xs) = let h = front-within (test x) (last_place test xs) (length xs) (place-within xs) in omega arith
+
+  -- the element at the place passes
+  pub place-passes : (xs : List A) (before : ℕ) (x : A) → last_place test xs ≡ suc before → slice_get xs before ≡ Some x → IsTrue (test x)
+  place-passes [] before x is at = absurd (cc)
+  place-passes (y ∷ ys) before x is at = from (last_place test ys) (test y) refl (λ earlier e. place-passes ys earlier x e) before is at refl
+    where
+      from : (place : ℕ) (b : Bool) → last_place test ys ≡ place → ((earlier : ℕ) → last_place test ys ≡ suc earlier → slice_get ys earlier ≡ Some x → IsTrue (test x))
+          → (before : ℕ) → with_front b place ≡ suc before → slice_get (y ∷ ys) before ≡ Some x → test y ≡ b → IsTrue (test x)
+      from zero true e rest zero is at b_is = let same : y ≡ x = cc in subst (λ z. test z ≡ true) same b_is
+      from zero true e rest (suc before) is at b_is = absurd (omega (arith, is))
+      from zero false e rest before is at b_is = absurd (omega (arith, is))
+      from (suc place) b e rest zero is at b_is = absurd (omega (arith, is))
+      from (suc place) b e rest (suc before) is at b_is = rest before (e ∙ omega (arith, is)) at
+
+  -- and none after it does
+  pub none-after : (xs : List A) (place : ℕ) (x : A) → last_place test xs ≤ place → slice_get xs place ≡ Some x → test x ≡ false
+  none-after [] place x past at = absurd (cc)
+  none-after (y ∷ ys) place x past at = from (last_place test ys) (test y) refl (λ earlier. none-after ys earlier x) place past at refl
+    where
+      from : (seen : ℕ) (b : Bool) → last_place test ys ≡ seen → ((earlier : ℕ) → last_place test ys ≤ earlier → slice_get ys earlier ≡ Some x → test x ≡ false)
+          → (place : ℕ) → with_front b seen ≤ place → slice_get (y ∷ ys) place ≡ Some x → test y ≡ b → test x ≡ false
+      from zero true e rest zero past at b_is = absurd (omega (arith, past))
+      from zero false e rest zero past at b_is = let same : y ≡ x = cc in subst (λ z. test z ≡ false) same b_is
+      from zero b e rest (suc place) past at b_is = rest place (omega (arith, e)) at
+      from (suc seen) b e rest zero past at b_is = absurd (omega (arith, past))
+      from (suc seen) b e rest (suc place) past at b_is = rest place (omega (arith, e, past)) at
+
+-- the last of the first so many
+pub last-is : (n : ℕ) (updates : List Stamp) (update : Stamp) → slice_get updates n ≡ Some update → last_seen (suc n) updates ≡ update ∷ []
+last-is n [] update at = absurd (cc)
+last-is zero (first ∷ updates) update at = let same : first ≡ update = cc in ap (λ (s : Stamp). s ∷ []) same
+last-is (suc n) (first ∷ updates) update at = last-is n updates update at
