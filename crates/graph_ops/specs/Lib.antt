@@ -4,3 +4,5 @@ pub mod Mentions
 pub mod Operations
 pub mod PlainGraph
 pub mod Slots
+pub mod VertexOps
+pub mod Alike

@@ -4,6 +4,7 @@
 #![tactic(auto)]
 
 mod graph;
+pub mod laws;
 mod mentions;
 mod op;
 mod part;

@@ -121,6 +121,32 @@ kept_joined (line ∷ lines) rest h =
     ∙ ap (λ words. words ∷ kept_lines (map joined_words lines ++ rest)) (words_come_back line parts.0)
     ∙ ap (λ more. line ∷ more) (kept_joined lines rest parts.1)
 
+-- ---- texts one after another
+
+onto-append : (byte : ℕ) (cut more : List Bytes) → 1 ≤ length cut → onto_first byte (cut ++ more) ≡ onto_first byte cut ++ more
+onto-append byte [] more some = absurd (omega (arith, some))
+onto-append byte (line ∷ cut) more some = refl
+
+-- a text that ends with a line feed has a line
+has_line : (text : Bytes) → 1 ≤ length (lines_of (text ++ 10 ∷ []))
+has_line [] = omega arith
+has_line (byte ∷ text) = go (byte == 10) (lines_of (text ++ 10 ∷ []))
+  where
+    go : (feed : Bool) (cut : List Bytes) → 1 ≤ length (cond feed ([] ∷ cut) (onto_first byte cut))
+    go true cut = omega arith
+    go false [] = omega arith
+    go false (line ∷ cut) = omega arith
+
+-- the lines of a text that ends with a line feed, and then those of what follows it
+pub lines_in_turn : (text more : Bytes) → lines_of (text ++ 10 ∷ more) ≡ lines_of (text ++ 10 ∷ []) ++ lines_of more
+lines_in_turn [] more = refl
+lines_in_turn (byte ∷ text) more = go (byte == 10) (lines_of (text ++ 10 ∷ more)) (lines_of (text ++ 10 ∷ [])) (lines_in_turn text more) (has_line text)
+  where
+    go : (feed : Bool) (all cut : List Bytes) → all ≡ cut ++ lines_of more → 1 ≤ length cut
+        → cond feed ([] ∷ all) (onto_first byte all) ≡ cond feed ([] ∷ cut) (onto_first byte cut) ++ lines_of more
+    go true all cut same some = ap (λ lines. [] ∷ lines) same
+    go false all cut same some = ap (onto_first byte) same ∙ onto-append byte cut (lines_of more) some
+
 few : (feed : Bool) (byte : ℕ) (cut : List Bytes) (n : ℕ) → length cut ≤ n → length (cond feed ([] ∷ cut) (onto_first byte cut)) ≤ suc n
 few true byte cut n h = omega arith
 few false byte [] n h = omega arith

@@ -29,6 +29,11 @@ pub fn cut_texts_are_joined()
     ensures pieces { (byte : ℕ) (text : Bytes) → joined_texts (byte ∷ []) (pieces_of byte text) ≡ text }
 {}
 
+/// The lines of a text that ends with a line feed are followed by those of what comes after it.
+pub fn lines_follow_one_another()
+    ensures { (text more : Bytes) → lines_of (text ++ 10 ∷ more) ≡ lines_of (text ++ 10 ∷ []) ++ lines_of more }
+{}
+
 /// A text has at most as many lines as bytes.
 pub fn lines_are_few()
     ensures { (text : Bytes) → length (lines_of text) ≤ length text }

@@ -13,7 +13,7 @@ mod text;
 pub use cutting::{first_line, is, is_skipped, pieces, words};
 pub use laws::{
     clean_lines_come_back, cut_texts_are_joined, joined_pieces_come_back, lines_are_few,
-    numbers_come_back, words_are_clean, words_lack_other_bytes,
+    lines_follow_one_another, numbers_come_back, words_are_clean, words_lack_other_bytes,
 };
 pub use numbers::{Numeral, number, number_up_to};
 pub use text::Text;

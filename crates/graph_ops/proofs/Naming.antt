@@ -1,0 +1,85 @@
+-- What a transaction names: the vertices of its operations, each once, and no others.
+use Rattle.std.proofs.Common.{◌≡◌, ◌≢◌, Bool, true, false, ◌||◌, not, cond, List, [], ◌∷◌, IsTrue, Contains, AllPairs, map, refl, sym, ap, subst, ◌∙◌, arith}
+use Rattle.std.specs.List.{filter}
+use Rattle.std.proofs.lemmas.Bool.{both_ways, not_from_false, or_left, or_right}
+use Rattle.std.proofs.lemmas.List.Kept.{AllPairs-filter}
+use Rattle.proof_base.proofs.Members.{filter_has, any_from, any_has}
+use Rattle.proof_base.proofs.Ordered.{pairs_none, pairs_cons}
+use Rattle.weave_data.specs.Names.{same_name, one_name}
+use Rattle.weave_data.specs.declared.name.Name.{Name}
+use Rattle.graph_ops.specs.Operations.{vertex_of}
+use Rattle.graph_ops.specs.Mentions.{first_mentions, named_by, is_among}
+use Rattle.graph_ops.specs.PlainGraph.{PlainGraph}
+use Rattle.graph_ops.specs.VertexOps.{ops_on}
+use Rattle.graph_ops.specs.declared.op.Op.{Op}
+use Rattle.graph_ops.proofs.Alike.{AgreeFor}
+use Rattle.graph_ops.proofs.Vertices.{itself}
+
+-- Each once
+
+pub mentions-distinct : (xs : List Name) → AllPairs (λ a b. a ≢ b) (first_mentions xs)
+mentions-distinct [] = pairs_none (λ (a b : Name). a ≢ b)
+mentions-distinct (x ∷ xs) =
+    pairs_cons (λ (a b : Name). a ≢ b) x (filter (λ w. not (same_name x w)) (first_mentions xs))
+    (λ y has same. differs y ((filter_has (λ w. not (same_name x w)) (first_mentions xs) y has).1) same)
+    (AllPairs-filter (λ (a b : Name). a ≢ b) (λ w. not (same_name x w)) (first_mentions xs) (mentions-distinct xs))
+  where
+    differs : (y : Name) → IsTrue (not (same_name x y)) → x ≡ y → ⊥
+    differs y h same =
+        let there : same_name x y ≡ true = subst (λ k. IsTrue (same_name x k)) same (itself x) in
+        both_ways (same_name x y) (at (same_name x y) h) there
+      where
+        at : (b : Bool) → IsTrue (not b) → b ≡ false
+        at true h = absurd (cc)
+        at false h = refl
+
+-- The same members
+
+-- to leave out one name doesn't touch another one
+others-among : (u v : Name) → same_name u v ≡ false → (xs : List Name) → is_among (filter (λ w. not (same_name u w)) xs) v ≡ is_among xs v
+others-among u v differ [] = refl
+others-among u v differ (x ∷ xs) = at (same_name u x) refl (others-among u v differ xs)
+  where
+    at : (b : Bool) → same_name u x ≡ b → is_among (filter (λ w. not (same_name u w)) xs) v ≡ is_among xs v
+        → is_among (cond (not b) (x ∷ filter (λ w. not (same_name u w)) xs) (filter (λ w. not (same_name u w)) xs)) v ≡ is_among (x ∷ xs) v
+    at true same e = e ∙ ap (λ b. b || is_among xs v) (sym (ap (λ k. same_name k v) (sym (one_name u x same)) ∙ differ))
+    at false other e = ap (λ b. same_name x v || b) e
+
+-- a name is among the first mentions exactly if it is among all
+pub mentions-among : (xs : List Name) (v : Name) → is_among (first_mentions xs) v ≡ is_among xs v
+mentions-among [] v = refl
+mentions-among (x ∷ xs) v = at (same_name x v) refl (mentions-among xs v)
+  where
+    at : (b : Bool) → same_name x v ≡ b → is_among (first_mentions xs) v ≡ is_among xs v → b || is_among (filter (λ w. not (same_name x w)) (first_mentions xs)) v ≡ b || is_among xs v
+    at true same rest = refl
+    at false other rest = others-among x v other (first_mentions xs) ∙ rest
+
+pub among-has : (xs : List Name) (v : Name) → IsTrue (is_among xs v) → Contains xs v
+among-has xs v h =
+    let found = any_has (λ other. same_name other v) xs h in
+    subst (Contains xs) (one_name found.0 v found.2) found.1
+
+pub has-among : (xs : List Name) (v : Name) → Contains xs v → IsTrue (is_among xs v)
+has-among xs v h = any_from (λ other. same_name other v) xs v h (itself v)
+
+-- Operations
+
+-- on a vertex that isn't named there is no operation
+pub none-on : (ops : List Op) (v : Name) → is_among (named_by ops) v ≡ false → ops_on v ops ≡ []
+none-on ops v e = from ops (sym (mentions-among (map vertex_of ops) v) ∙ e)
+  where
+    from : (ops : List Op) → is_among (map vertex_of ops) v ≡ false → ops_on v ops ≡ []
+    from [] e = refl
+    from (op ∷ ops) e = at (same_name (vertex_of op) v) e (from ops)
+      where
+        at : (b : Bool) → b || is_among (map vertex_of ops) v ≡ false → (is_among (map vertex_of ops) v ≡ false → ops_on v ops ≡ []) → cond b (op ∷ ops_on v ops) (ops_on v ops) ≡ []
+        at true e rest = cc
+        at false e rest = rest e
+
+-- graphs that are alike at the named vertices are alike at each operation's
+pub agree-named : (ops : List Op) (g h : PlainGraph) → ((v : Name) → IsTrue (is_among (named_by ops) v) → g v ≡ h v) → AgreeFor ops g h
+agree-named ops g h alike = from ops (λ v there. alike v (mentions-among (map vertex_of ops) v ∙ there))
+  where
+    from : (more : List Op) → ((v : Name) → IsTrue (is_among (map vertex_of more) v) → g v ≡ h v) → AgreeFor more g h
+    from [] f = tt
+    from (op ∷ more) f = (f (vertex_of op) (or_left _ _ (itself (vertex_of op))), from more (λ v there. f v (or_right _ _ there)))
