@@ -1,8 +1,9 @@
 -- Fields that are what the replay of the log gives, after one more entry.
-use Rattle.std.proofs.Common.{◌≡◌, ℕ, ◌<◌, ◌≤◌, List, [], ◌∷◌, ◌++◌, All, length, map, slice_get, Option, None, Some, refl, sym, ap, subst, ◌∙◌}
+use Rattle.std.proofs.Common.{◌≡◌, ℕ, ◌<◌, ◌≤◌, List, [], ◌∷◌, ◌++◌, All, length, map, slice_get, Contains, IsTrue, Option, None, Some, inl, inr, refl, sym, ap, subst, ◌∙◌}
 use Rattle.std.specs.Map.{lookup}
 use Rattle.std.specs.Option.{option_map}
-use Rattle.std.proofs.lemmas.List.{append-nil}
+use Rattle.std.proofs.lemmas.List.{append-nil, map-append}
+use Rattle.std.proofs.lemmas.List.Sums.{fold-append}
 use Rattle.std.proofs.lemmas.Option.{slice_get_within, get_or_from_slice_get}
 use Rattle.vector_stamp.specs.declared.clock.Clock.{Clock}
 use Rattle.vector_stamp.specs.Clocks.{start_clock}
@@ -11,18 +12,43 @@ use Rattle.weave_entries.specs.declared.message.Message.{Message}
 use Rattle.weave_entries.specs.declared.message.Addressed.{Addressed}
 use Rattle.weave_entries.specs.declared.gate_log.GateEntry.{GateEntry}
 use Rattle.weave_entries.specs.declared.gate_log.GateDeed.{GateDeed}
-use Rattle.weave_entries.specs.GateReplay.{Begun, clock_after, flight_after, running_after, messages_by, to_shard, running_of, channel_of}
+use Rattle.weave_entries.specs.GateReplay.{Begun, clock_after, clock_of, flight_after, flight_of, running_after, messages_by, to_shard, stamps_by, stamps_of, running_of, addressed_to, channel_of}
 use Rattle.weave_entries.specs.GateRules.{FitsAs}
 use Rattle.gatekeeper.specs.declared.begun.Open.{Open}
 use Rattle.gatekeeper.specs.Opened.{as_begun}
-use Rattle.gatekeeper.specs.Gates.{IsReplayOf}
+use Rattle.gatekeeper.specs.Gates.{HaveBits, IsReplayOf}
 use Rattle.gatekeeper.specs.Running.{same_program, HoldsPrograms}
-use Rattle.weave_entries.proofs.Logs.{each-none, each-push}
-use Rattle.gatekeeper.proofs.Replay.{clock-push, flight-push, running-push, channel-push}
+use Rattle.proof_base.proofs.Ends.{flat_push}
+use Rattle.proof_base.proofs.Entries.{each_none, each_push}
+use Rattle.proof_base.proofs.Members.{has_none, only}
+use Rattle.std.proofs.lemmas.List.Elements.{Contains-append_cases}
+use Rattle.vector_stamp.specs.declared.clock.Stamp.{Stamp}
+use Rattle.vector_stamp.specs.Order.{has_64_bits}
+
+-- the replay with one more entry
+module _ (log : List GateEntry) (entry : GateEntry) where
+  clock-push : (home : ℕ) → clock_of home (log ++ entry ∷ []) ≡ clock_after home (clock_of home log) entry.deed
+  clock-push home = fold-append _ _ log (entry ∷ [])
+
+  flight-push : flight_of (log ++ entry ∷ []) ≡ flight_after (flight_of log) entry.author entry.deed
+  flight-push = fold-append _ _ log (entry ∷ [])
+
+  running-push : running_of (log ++ entry ∷ []) ≡ running_after (running_of log) entry.author entry.deed
+  running-push = fold-append _ _ log (entry ∷ [])
+
+  channel-push : (shard : ℕ) → channel_of shard (log ++ entry ∷ []) ≡ channel_of shard log ++ map (λ (addressed : Addressed). addressed.message) (to_shard shard (messages_by entry.deed))
+  channel-push shard = rw (flat_push (λ (one : GateEntry). to_shard shard (messages_by one.deed)) log entry) (map-append _ (addressed_to shard log) (to_shard shard (messages_by entry.deed)))
+
+-- one stamp, and none
+pub one_bits : (stamp : Stamp) → IsTrue (has_64_bits stamp.clock) → HaveBits (stamp ∷ [])
+one_bits stamp bits one has = subst (λ (s : Stamp). IsTrue (has_64_bits s.clock)) (only stamp one has) bits
+
+pub no_bits : HaveBits []
+no_bits stamp has = absurd (has_none stamp has)
 
 -- each field goes on as the entry says
-pub keeps_on : (home shards : ℕ) (clock : Clock) (flight : Option Open) (running : List ((ℕ × ℕ) × Clock)) (channels : List (Channel Message)) (log : List GateEntry) (author : ℕ) (deed : GateDeed) (next : Clock) (flying : Option Open) (run : List ((ℕ × ℕ) × Clock)) (sent : List (Channel Message)) (longer : List GateEntry) → IsReplayOf home shards clock flight running channels log → FitsAs home shards log author deed → longer ≡ log ++ record { author = author; deed = deed } ∷ [] → next ≡ clock_after home clock deed → option_map as_begun flying ≡ flight_after (option_map as_begun flight) author deed → HoldsPrograms run (running_after (running_of log) author deed) → length sent ≡ shards → ((shard : ℕ) (channel : Channel Message) → slice_get sent shard ≡ Some channel → channel.sent ≡ channel_of shard log ++ map (λ (addressed : Addressed). addressed.message) (to_shard shard (messages_by deed))) → IsReplayOf home shards next flying run sent longer
-keeps_on home shards clock flight running channels log author deed next flying run sent longer kept fits longer_is next_is flying_is run_is all_sent sent_is =
+pub keeps_on : (home shards : ℕ) (clock : Clock) (flight : Option Open) (running : List ((ℕ × ℕ) × Clock)) (channels : List (Channel Message)) (log : List GateEntry) (author : ℕ) (deed : GateDeed) (next : Clock) (flying : Option Open) (run : List ((ℕ × ℕ) × Clock)) (sent : List (Channel Message)) (longer : List GateEntry) → IsReplayOf home shards clock flight running channels log → FitsAs home shards log author deed → HaveBits (stamps_by deed) → longer ≡ log ++ record { author = author; deed = deed } ∷ [] → next ≡ clock_after home clock deed → option_map as_begun flying ≡ flight_after (option_map as_begun flight) author deed → HoldsPrograms run (running_after (running_of log) author deed) → length sent ≡ shards → ((shard : ℕ) (channel : Channel Message) → slice_get sent shard ≡ Some channel → channel.sent ≡ channel_of shard log ++ map (λ (addressed : Addressed). addressed.message) (to_shard shard (messages_by deed))) → IsReplayOf home shards next flying run sent longer
+keeps_on home shards clock flight running channels log author deed next flying run sent longer kept fits bits longer_is next_is flying_is run_is all_sent sent_is =
     let entry : GateEntry = record { author = author; deed = deed } in
     subst (λ (l : List GateEntry). IsReplayOf home shards next flying run sent l) (sym longer_is) (record {
       clock_is = next_is ∙ ap (λ (c : Clock). clock_after home c deed) kept.clock_is ∙ sym (clock-push log entry home);
@@ -32,13 +58,17 @@ keeps_on home shards clock flight running channels log author deed next flying r
       channels_are = λ shard channel at. sent_is shard channel at ∙ sym (channel-push log entry shard);
       home_is = kept.home_is;
       some_shard = kept.some_shard;
-      rules = each-push (λ before (one : GateEntry). FitsAs home shards before one.author one.deed) log entry kept.rules fits;
+      rules = each_push (λ before (one : GateEntry). FitsAs home shards before one.author one.deed) log entry kept.rules fits;
+      bits = λ stamp has. elim (Contains-append_cases (stamps_of log) (stamps_by deed) stamp (subst (λ (ss : List Stamp). Contains ss stamp) (flat_push (λ (one : GateEntry). stamps_by one.deed) log entry) has)) [
+        | inl earlier ↦ kept.bits stamp earlier
+        | inr new ↦ bits stamp new
+      ];
     })
 
 -- and where it sends nothing, the channels stay
-pub keeps_still : (home shards : ℕ) (clock : Clock) (flight : Option Open) (running : List ((ℕ × ℕ) × Clock)) (channels : List (Channel Message)) (log : List GateEntry) (author : ℕ) (deed : GateDeed) (next : Clock) (flying : Option Open) (run : List ((ℕ × ℕ) × Clock)) (longer : List GateEntry) → IsReplayOf home shards clock flight running channels log → FitsAs home shards log author deed → messages_by deed ≡ [] → longer ≡ log ++ record { author = author; deed = deed } ∷ [] → next ≡ clock_after home clock deed → option_map as_begun flying ≡ flight_after (option_map as_begun flight) author deed → HoldsPrograms run (running_after (running_of log) author deed) → IsReplayOf home shards next flying run channels longer
-keeps_still home shards clock flight running channels log author deed next flying run longer kept fits nothing longer_is next_is flying_is run_is =
-    keeps_on home shards clock flight running channels log author deed next flying run channels longer kept fits longer_is next_is flying_is run_is kept.all_channels
+pub keeps_still : (home shards : ℕ) (clock : Clock) (flight : Option Open) (running : List ((ℕ × ℕ) × Clock)) (channels : List (Channel Message)) (log : List GateEntry) (author : ℕ) (deed : GateDeed) (next : Clock) (flying : Option Open) (run : List ((ℕ × ℕ) × Clock)) (longer : List GateEntry) → IsReplayOf home shards clock flight running channels log → FitsAs home shards log author deed → HaveBits (stamps_by deed) → messages_by deed ≡ [] → longer ≡ log ++ record { author = author; deed = deed } ∷ [] → next ≡ clock_after home clock deed → option_map as_begun flying ≡ flight_after (option_map as_begun flight) author deed → HoldsPrograms run (running_after (running_of log) author deed) → IsReplayOf home shards next flying run channels longer
+keeps_still home shards clock flight running channels log author deed next flying run longer kept fits bits nothing longer_is next_is flying_is run_is =
+    keeps_on home shards clock flight running channels log author deed next flying run channels longer kept fits bits longer_is next_is flying_is run_is kept.all_channels
     (λ shard channel at. kept.channels_are shard channel at ∙ sym (append-nil (channel_of shard log)) ∙ ap (λ (ms : List Addressed). channel_of shard log ++ map (λ (addressed : Addressed). addressed.message) (to_shard shard ms)) (sym nothing))
 
 -- the programs may stand in another table, and the log in another place
@@ -53,6 +83,7 @@ keeps_programs home shards clock flight running channels log run same kept holds
       home_is = kept.home_is;
       some_shard = kept.some_shard;
       rules = kept.rules;
+      bits = kept.bits;
     })
 
 -- before the first entry nothing is running, and nothing was sent
@@ -67,5 +98,6 @@ keeps_none home shards clock run channels log log_is clock_is run_is count empty
           subst (λ (one : Channel Message). one.sent ≡ []) (get_or_from_slice_get channels shard channel channel at) (empty shard channel (slice_get_within channels shard channel at));
       home_is = home_is;
       some_shard = some;
-      rules = each-none (λ before (one : GateEntry). FitsAs home shards before one.author one.deed);
+      bits = λ stamp has. absurd (has_none stamp has);
+      rules = each_none (λ before (one : GateEntry). FitsAs home shards before one.author one.deed);
     })

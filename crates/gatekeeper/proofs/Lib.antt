@@ -1,15 +1,7 @@
-pub mod Ends
-pub mod Replay
-pub mod Rising
-pub mod Picked
-pub mod Channels
-pub mod Small
 pub mod Keeping
 pub mod Begins
 pub mod Delivery
 pub mod Messages
-pub mod Ticks
-pub mod Once
 pub mod Sharing
 pub mod Meets
 pub mod Programs

@@ -9,8 +9,6 @@ use Rattle.std.proofs.lemmas.Option.{slice_get_within, slice_get_past, slice_get
 use Rattle.vector_stamp.specs.declared.clock.Clock.{Clock}
 use Rattle.vector_stamp.specs.declared.clock.Stamp.{Stamp}
 use Rattle.vector_stamp.specs.Order.{stamp_before}
-use Rattle.vector_stamp.proofs.Orders.{at_most-before}
-use Rattle.vector_stamp.proofs.Ticks.{tick-before}
 use Rattle.graph_ops.specs.declared.op.Op.{Op}
 use Rattle.graph_ops.specs.declared.part.Part.{Part}
 use Rattle.shard_queue.specs.Sent.{Channel}
@@ -22,16 +20,15 @@ use Rattle.weave_entries.specs.declared.verdict.Verdict.TheVariants.{Committed, 
 use Rattle.weave_entries.specs.declared.gate_log.GateEntry.{GateEntry}
 use Rattle.weave_entries.specs.GateReplay.{Begun, next_stamp, clock_of, flight_of, running_of, to_shard, channel_of, next_number, low_mark}
 use Rattle.weave_entries.specs.Sending.{keeps as keeps_of, parts_for, shards_named, message_to, messages_of, IsCountsOf}
-use Rattle.weave_entries.specs.GateRules.{Sends}
+use Rattle.weave_entries.specs.GateRules.{IsGateLog, Sends}
 use Rattle.gatekeeper.specs.declared.begun.Open.{Open}
 use Rattle.gatekeeper.specs.Opened.{as_begun}
 use Rattle.gatekeeper.specs.Gates.{IsReplayOf}
 use Rattle.gatekeeper.specs.Messages.{sent_on, sent_at, made_for, with_parted, messages_made, HasRoomAt, KeepsSent, CanGo, CanAllGo, AreSent}
-use Rattle.gatekeeper.proofs.Ends.{filter-map}
-use Rattle.gatekeeper.proofs.Channels.{range_more, StandsBefore, channels_rise}
-use Rattle.gatekeeper.proofs.Picked.{picked-below}
-use Rattle.gatekeeper.proofs.Begins.{eight_kept}
-use Rattle.gatekeeper.proofs.Small.{none_sent}
+use Rattle.proof_base.proofs.Ends.{filter_map_is}
+use Rattle.proof_base.proofs.Members.{map_has}
+use Rattle.proof_base.proofs.Ranges.{range_more, picked_below}
+use Rattle.gatekeeper.proofs.Begins.{SendsNoneBeyond}
 
 map_same : {A B : Type 0} (f g : A → B) → ((x : A) → f x ≡ g x) → (xs : List A) → map f xs ≡ map g xs
 map_same f g same [] = refl
@@ -74,14 +71,22 @@ module _ (make : ℕ → Addressed) (named : ℕ → Bool) (count : ℕ) where
       ∙ sym shards_more
       ∙ ap (λ n. map make (filter named (range_with_len 0 n))) (sym (add-one count))
 
+-- the laws on messages that are premises here: those of `messages_come_before`
+
+abbrev pub NextIsAfter : Type 0
+NextIsAfter = (home shards shard : ℕ) (log : List GateEntry) → home < 8 → IsGateLog home shards log → (message : Message) → Contains (channel_of shard log) message → IsTrue (stamp_before message.stamp (next_stamp home (clock_of home log)))
+
+abbrev pub FlightIsAfter : Type 0
+FlightIsAfter = (home shards shard : ℕ) (log : List GateEntry) → home < 8 → IsGateLog home shards log → (flight : Begun) → flight_of log ≡ Some flight → (message : Message) → Contains (channel_of shard log) message → IsTrue (stamp_before message.stamp flight.stamp)
+
 -- what is read of a channel is what was sent there
 pub read_sent : (channels : List (Channel Message)) (shard : ℕ) (channel : Channel Message) → shard < length channels → channel ≡ get_or channels shard channel → channel.sent ≡ sent_at shard channels
 read_sent channels shard channel within is = ap sent_on (sym (slice_get-get_or channels shard channel within ∙ ap Some (sym is)))
 
 module _ (home shards : ℕ) (clock : Clock) (flight : Option Open) (running : List ((ℕ × ℕ) × Clock)) (channels : List (Channel Message)) (log : List GateEntry) (kept : IsReplayOf home shards clock flight running channels log) where
   -- the channels are those of the log, and beyond the last shard nothing was sent
-  pub sent_is : (shard : ℕ) → sent_at shard channels ≡ channel_of shard log
-  sent_is shard =
+  pub sent_is : SendsNoneBeyond → (shard : ℕ) → sent_at shard channels ≡ channel_of shard log
+  sent_is none shard =
       elim (cases_lt shard (length channels)) [
         | inl within ↦
             let d : Channel Message = record { sent = []; spare = 0 } in
@@ -89,27 +94,26 @@ module _ (home shards : ℕ) (clock : Clock) (flight : Option Open) (running : L
             ap sent_on at ∙ kept.channels_are shard (get_or channels shard d) at
         | inr beyond ↦
             let long = kept.all_channels in
-            ap sent_on (slice_get_past channels shard beyond) ∙ sym (ap (map (λ (addressed : Addressed). addressed.message)) (none_sent home shards shard (omega arith) log kept.rules))
+            ap sent_on (slice_get_past channels shard beyond) ∙ sym (none home shards shard log kept.rules (omega arith))
       ]
 
   -- the messages that are made are those of the rule
-  pub made_is : (one : Open) (low : Clock) (ops : List Op) (verdict : Verdict) → low ≡ low_mark one.stamp (running_of log) → messages_made channels shards one low ops verdict ≡ messages_of shards log (as_begun one) ops verdict
-  made_is one low ops (Committed number answers counts) low_is =
+  pub made_is : SendsNoneBeyond → (one : Open) (low : Clock) (ops : List Op) (verdict : Verdict) → low ≡ low_mark one.stamp (running_of log) → messages_made channels shards one low ops verdict ≡ messages_of shards log (as_begun one) ops verdict
+  made_is none one low ops (Committed number answers counts) low_is =
       map_same (made_for channels shards one low ops counts) (message_to shards log (as_begun one) ops counts)
       (λ shard i. record {
         shard = shard;
-        number = length (sent_is shard i) + 1;
+        number = length (sent_is none shard i) + 1;
         message = record { request = Some one.request; stamp = one.stamp; low = low_is i; parts = parts_for shards shard ops counts };
       }) (shards_named shards counts)
-  made_is one low ops (Conflict vertex newer) low_is = refl
-  made_is one low ops (Refused op reason at) low_is = refl
+  made_is none one low ops (Conflict vertex newer) low_is = refl
+  made_is none one low ops (Refused op reason at) low_is = refl
 
   -- a stamp that is after all that was sent to a shard can go there
-  can_go : (now : List (Channel Message)) (shard : ℕ) (stamp : Stamp) → KeepsSent channels now → HasRoomAt now shard → ((s : Stamp) → StandsBefore clock (option_map as_begun flight) s → IsTrue (stamp_before s stamp)) → CanGo now shard stamp
+  can_go : (now : List (Channel Message)) (shard : ℕ) (stamp : Stamp) → KeepsSent channels now → HasRoomAt now shard → ((message : Message) → Contains (channel_of shard log) message → IsTrue (stamp_before message.stamp stamp)) → CanGo now shard stamp
   can_go now shard stamp keeps room later =
       let was = keeps.each shard room.channel room.at in
       let sent : room.channel.sent ≡ channel_of shard log = was.2 ∙ kept.channels_are shard was.0 was.1 in
-      let rises = channels_rise home shards shard kept.home_is log kept.rules in
       record {
         channel = room.channel;
         at = room.at;
@@ -118,37 +122,37 @@ module _ (home shards : ℕ) (clock : Clock) (flight : Option Open) (running : L
             let stamps : List Stamp = map (λ (message : Message). message.stamp) (channel_of shard log) in
             let here : slice_get stamps (length stamps - 1) ≡ Some last = subst (λ (ms : List Message). slice_get (map (λ (message : Message). message.stamp) ms) (length (map (λ (message : Message). message.stamp) ms) - 1) ≡ Some last) sent at in
             let has : Contains stamps last = (length stamps - 1, slice_get_within stamps (length stamps - 1) last here, get_or_from_slice_get stamps (length stamps - 1) last last here) in
-            let stands : StandsBefore (clock_of home log) (flight_of log) last = rises.under last has in
-            later last (subst (λ (f : Option Begun). StandsBefore clock f last) (sym kept.flight_is) (subst (λ (c : Clock). StandsBefore c (flight_of log) last) (sym kept.clock_is) stands));
+            let message = map_has (λ (message : Message). message.stamp) (channel_of shard log) last has in
+            subst (λ (s : Stamp). IsTrue (stamp_before s stamp)) message.2 (later message.0 message.1);
       }
 
-  -- the next stamp can go to a shard where no transaction is in flight
-  pub nop_can_go : (now : List (Channel Message)) (shard : ℕ) (stamp : Stamp) → KeepsSent channels now → HasRoomAt now shard → flight ≡ None → stamp ≡ next_stamp home clock → CanGo now shard stamp
-  nop_can_go now shard stamp keeps room alone is =
-      can_go now shard stamp keeps room (λ s stands.
-      let at_most = subst (λ (f : Option Open). StandsBefore clock (option_map as_begun f) s) alone stands in
-      subst (λ (t : Stamp). IsTrue (stamp_before s t)) (sym is) (at_most-before s.clock clock _ at_most (tick-before home clock kept.home_is (eight_kept home shards clock flight running channels log kept))))
+  -- the next stamp can go to a shard
+  pub nop_can_go : NextIsAfter → (now : List (Channel Message)) (shard : ℕ) (stamp : Stamp) → KeepsSent channels now → HasRoomAt now shard → stamp ≡ next_stamp home clock → CanGo now shard stamp
+  nop_can_go after now shard stamp keeps room is =
+      can_go now shard stamp keeps room (λ message has.
+      subst (λ (s : Stamp). IsTrue (stamp_before message.stamp s)) (sym (is ∙ ap (next_stamp home) kept.clock_is)) (after home shards shard log kept.home_is kept.rules message has))
 
   -- the messages of the transaction in flight can go, each to a shard of its own
-  module _ (one : Open) (flies : flight ≡ Some one) (now : List (Channel Message)) (keeps : KeepsSent channels now) (room : (shard : ℕ) → shard < length channels → HasRoomAt now shard) (ops : List Op) (counts : List Counted) where
+  module _ (after : FlightIsAfter) (one : Open) (flies : flight ≡ Some one) (now : List (Channel Message)) (keeps : KeepsSent channels now) (room : (shard : ℕ) → shard < length channels → HasRoomAt now shard) (ops : List Op) (counts : List Counted) where
     one_can_go : (shard : ℕ) → shard < shards → CanGo now shard one.stamp
     one_can_go shard within =
         let long = kept.all_channels in
-        can_go now shard one.stamp keeps (room shard (omega arith)) (λ s stands. subst (λ (f : Option Open). StandsBefore clock (option_map as_begun f) s) flies stands)
+        can_go now shard one.stamp keeps (room shard (omega arith)) (λ message has.
+        after home shards shard log kept.home_is kept.rules (as_begun one) (sym kept.flight_is ∙ ap (option_map as_begun) flies) message has)
 
     all_from : (p : ℕ → Bool) (first count : ℕ) → first + count ≤ shards → CanAllGo now (map (message_to shards log (as_begun one) ops counts) (filter p (range_with_len first count)))
     all_from p first zero within = tt
     all_from p first (suc count) within =
         let make : ℕ → Addressed = message_to shards log (as_begun one) ops counts in
         elim (cases_Bool (p first)) [
-          | inl holds ↦ rw holds (one_can_go first (omega arith), filter-map make (λ (addressed : Addressed). nat_eq addressed.shard first) (filter p (range_with_len (first + 1) count)) ∙ ap (map make) (picked-below p first (first + 1) count (omega arith)), all_from p (first + 1) count (omega arith))
+          | inl holds ↦ rw holds (one_can_go first (omega arith), filter_map_is make (λ (addressed : Addressed). nat_eq addressed.shard first) (filter p (range_with_len (first + 1) count)) ∙ ap (map make) (picked_below p first (first + 1) count (omega arith)), all_from p (first + 1) count (omega arith))
           | inr fails ↦ rw fails (all_from p (first + 1) count (omega arith))
         ]
 
-  pub all_can_go : (one : Open) → flight ≡ Some one → (now : List (Channel Message)) → KeepsSent channels now → ((shard : ℕ) → shard < length channels → HasRoomAt now shard) → (ops : List Op) (verdict : Verdict) → CanAllGo now (messages_of shards log (as_begun one) ops verdict)
-  all_can_go one flies now keeps room ops (Committed number answers counts) = all_from one flies now keeps room ops counts (λ shard. list_any (keeps_of shards shard) counts) 0 shards (omega arith)
-  all_can_go one flies now keeps room ops (Conflict vertex newer) = tt
-  all_can_go one flies now keeps room ops (Refused op reason at) = tt
+  pub all_can_go : FlightIsAfter → (one : Open) → flight ≡ Some one → (now : List (Channel Message)) → KeepsSent channels now → ((shard : ℕ) → shard < length channels → HasRoomAt now shard) → (ops : List Op) (verdict : Verdict) → CanAllGo now (messages_of shards log (as_begun one) ops verdict)
+  all_can_go after one flies now keeps room ops (Committed number answers counts) = all_from after one flies now keeps room ops counts (λ shard. list_any (keeps_of shards shard) counts) 0 shards (omega arith)
+  all_can_go after one flies now keeps room ops (Conflict vertex newer) = tt
+  all_can_go after one flies now keeps room ops (Refused op reason at) = tt
 
   -- what stands on the channels then
   pub sent_then : (now next : List (Channel Message)) (messages : List Addressed) → KeepsSent channels now → AreSent now next messages → (shard : ℕ) (channel : Channel Message) → slice_get next shard ≡ Some channel → channel.sent ≡ channel_of shard log ++ map (λ (addressed : Addressed). addressed.message) (to_shard shard messages)

@@ -15,7 +15,7 @@ use Rattle.vector_stamp.specs.Clocks.{meet_of}
 use Rattle.weave_entries.specs.GateReplay.{Begun, is_begun}
 use Rattle.gatekeeper.specs.Running.{same_program, met, met_after, HoldsPrograms}
 use Rattle.gatekeeper.proofs.Delivery.{some_is}
-use Rattle.gatekeeper.proofs.Meets.{met_with, met-late, met-parted}
+use Rattle.gatekeeper.proofs.Meets.{MeetsCommute, met_with, met-late, met-parted}
 
 abbrev stamp_clock : Begun → Clock
 stamp_clock begun = begun.stamp.clock
@@ -138,11 +138,11 @@ finished_more es fs running program holds writes q =
 
 -- The low mark
 
-met_is : (low m : Clock) (some : List Begun) → Some m ≡ met some → met_with stamp_clock low some ≡ meet_of low m
-met_is low m [] is = absurd (cc)
-met_is low m (begun ∷ some) is =
+met_is : MeetsCommute → (low m : Clock) (some : List Begun) → Some m ≡ met some → met_with stamp_clock low some ≡ meet_of low m
+met_is laws low m [] is = absurd (cc)
+met_is laws low m (begun ∷ some) is =
     let e : m ≡ met_with stamp_clock begun.stamp.clock some = some_is is in
-    met-late stamp_clock low begun.stamp.clock some ∙ ap (meet_of low) (sym e)
+    met-late laws stamp_clock low begun.stamp.clock some ∙ ap (meet_of low) (sym e)
 
 none_passes : (program : ℕ × ℕ) (es : List ((ℕ × ℕ) × Clock)) → AllByRecursion (λ y. same_program program y ≡ false) (keys_of es) → NonePasses (same_program program) es
 none_passes program [] none = tt
@@ -164,15 +164,15 @@ rest_holds e es running own holds q =
     ]
 
 -- the meet of all that the table has is that of all running programs
-pub low_told : (es : List ((ℕ × ℕ) × Clock)) (running : List Begun) (low : Clock) → IsDistinct same_program (keys_of es) → HoldsPrograms es running → fold meet_of low (values_of es) ≡ met_with stamp_clock low running
-low_told [] [] low own holds = refl
-low_told [] (begun ∷ running) low own holds =
+pub low_told : MeetsCommute → (es : List ((ℕ × ℕ) × Clock)) (running : List Begun) (low : Clock) → IsDistinct same_program (keys_of es) → HoldsPrograms es running → fold meet_of low (values_of es) ≡ met_with stamp_clock low running
+low_told laws [] [] low own holds = refl
+low_told laws [] (begun ∷ running) low own holds =
     let program : ℕ × ℕ = (begun.author, begun.request) in
     let none : None ≡ met (cond (same_program program program) (begun ∷ under program running) (under program running)) = holds program in
     let is : None ≡ met (begun ∷ under program running) = none ∙ ap (λ b. met (cond b (begun ∷ under program running) (under program running))) (itself program) in
     absurd (cc)
-low_told (e ∷ es) running low own holds =
+low_told laws (e ∷ es) running low own holds =
     let at : Some e.1 ≡ met (under e.0 running) = ap (λ b. cond b (Some e.1) (lookup (same_program e.0) es)) (sym (itself e.0)) ∙ holds e.0 in
-    low_told es (apart_from e.0 running) (meet_of low e.1) (IsDistinct-tail same_program e.0 (keys_of es) own) (rest_holds e es running own holds)
-    ∙ ap (λ k. met_with stamp_clock k (apart_from e.0 running)) (sym (met_is low e.1 (under e.0 running) at))
-    ∙ sym (met-parted stamp_clock (is_begun e.0.0 e.0.1) low running)
+    low_told laws es (apart_from e.0 running) (meet_of low e.1) (IsDistinct-tail same_program e.0 (keys_of es) own) (rest_holds e es running own holds)
+    ∙ ap (λ k. met_with stamp_clock k (apart_from e.0 running)) (sym (met_is laws low e.1 (under e.0 running) at))
+    ∙ sym (met-parted laws stamp_clock (is_begun e.0.0 e.0.1) low running)

@@ -1,7 +1,9 @@
 -- A gatekeeper as contracts see it.
-use Rattle.std.specs.Prelude.{◌≡◌, ℕ, ◌+◌, ◌≤◌, ◌<◌, List, [], ◌∷◌, ◌++◌, length, slice_get, Option, Some}
+use Rattle.std.specs.Prelude.{◌≡◌, ℕ, ◌+◌, ◌≤◌, ◌<◌, List, [], ◌∷◌, ◌++◌, length, slice_get, Contains, IsTrue, Option, Some}
 use Rattle.std.specs.Option.{option_map}
 use Rattle.vector_stamp.specs.declared.clock.Clock.{Clock}
+use Rattle.vector_stamp.specs.declared.clock.Stamp.{Stamp}
+use Rattle.vector_stamp.specs.Order.{has_64_bits}
 use Rattle.weave_entries.specs.declared.message.Message.{Message}
 use Rattle.weave_entries.specs.declared.gate_log.GateEntry.{GateEntry}
 use Rattle.weave_entries.specs.declared.gate_log.GateDeed.{GateDeed}
@@ -9,7 +11,7 @@ use Rattle.weave_entries.specs.declared.gate_log.GateDeed.TheVariants.{Sent}
 use Rattle.weave_entries.specs.declared.verdict.Verdict.{Verdict}
 use Rattle.graph_ops.specs.declared.op.Op.{Op}
 use Rattle.weave_entries.specs.Sending.{messages_of}
-use Rattle.weave_entries.specs.GateReplay.{Begun, clock_of, flight_of, running_of, channel_of}
+use Rattle.weave_entries.specs.GateReplay.{Begun, clock_of, stamps_of, flight_of, running_of, channel_of}
 use Rattle.weave_entries.specs.GateRules.{IsGateLog}
 use Rattle.shard_queue.specs.Sent.{Channel}
 use Rattle.gatekeeper.specs.Opened.{as_begun}
@@ -54,6 +56,10 @@ pub record HasRoom (old new : GateView) (entries : ℕ) : Type 0 where
   pub room : entries ≤ new.spare
   pub kept : old.spare ≤ new.spare
 
+-- the stamps have 64 bits
+abbrev pub HaveBits : List Stamp → Type 0
+HaveBits stamps = (stamp : Stamp) → Contains stamps stamp → IsTrue (has_64_bits stamp.clock)
+
 -- the fields are what the replay of the log gives
 pub record IsReplayOf (home shards : ℕ) (clock : Clock) (flight : Option Open) (running : List ((ℕ × ℕ) × Clock)) (channels : List (Channel Message)) (log : List GateEntry) : Type 0 where
   pub clock_is : clock ≡ clock_of home log
@@ -64,3 +70,4 @@ pub record IsReplayOf (home shards : ℕ) (clock : Clock) (flight : Option Open)
   pub home_is : home < 8
   pub some_shard : 1 ≤ shards
   pub rules : IsGateLog home shards log
+  pub bits : HaveBits (stamps_of log)

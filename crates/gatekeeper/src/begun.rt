@@ -1,7 +1,7 @@
 //! The transaction in flight, and how the clock goes on when a request begins or a clock is heard.
-ghost use Rattle.std.specs.Prelude.{◌≡◌, ◌<◌};
+ghost use Rattle.std.specs.Prelude.{◌≡◌, ◌<◌, IsTrue};
 ghost use Rattle.std.specs.Option.{ForSome};
-ghost use Rattle.vector_stamp.specs.Order.{count_of, HasEightCounts};
+ghost use Rattle.vector_stamp.specs.Order.{count_of, HasEightCounts, has_64_bits};
 ghost use Rattle.vector_stamp.specs.Clocks.{clock_after_hearing};
 ghost use Rattle.weave_entries.specs.GateReplay.{begun_stamp};
 
@@ -22,11 +22,14 @@ pub fn begin(clock: &mut Clock, home: u32, last: Option<Stamp>) -> Stamp
     ensures stamp { result ≡ begun_stamp home clock.old last }
     ensures clock { clock.new ≡ result.clock }
     ensures eight { ForSome last (λ heard. HasEightCounts heard.clock) }
+    ensures bits { IsTrue (has_64_bits result.clock) }
 {
     if let Some(heard) = last {
         clock.hear(home, &heard.clock);
     }
-    clock.tick(home)
+    let stamp = clock.tick(home);
+    stamp.clock.shows_64_bits();
+    stamp
 }
 
 /// Takes in a clock that the gatekeeper at home hears.

@@ -5,11 +5,11 @@ ghost use Rattle.std.specs.Option.{ForSome};
 ghost use Rattle.vector_stamp.specs.Order.{count_of, stamp_before};
 ghost use Rattle.vector_stamp.specs.Clocks.{counts_no_more};
 ghost use Rattle.shard_queue.specs.Sent.{sent_as};
-ghost use Rattle.weave_entries.specs.GateReplay.{is_begun, begun_stamp, next_stamp, next_number, clock_of, flight_of, running_of, channel_of, low_mark};
+ghost use Rattle.weave_entries.specs.GateReplay.{is_begun, stamps_of, begun_stamp, next_stamp, next_number, clock_of, flight_of, running_of, channel_of, low_mark};
 ghost use Rattle.weave_entries.specs.GateRules.{IsGateLog};
 ghost use Rattle.weave_entries.specs.Sending.{IsCountsOf};
 ghost use Rattle.gatekeeper.specs.Answers.{IsRefusedWhere};
-ghost use Rattle.gatekeeper.specs.Gates.{Adds, IsNew, HasRoom, SendsFlight};
+ghost use Rattle.gatekeeper.specs.Gates.{Adds, IsNew, HasRoom, SendsFlight, HaveBits};
 
 use crate::begun::{Open, begin, hear};
 use crate::fault::GateFault;
@@ -19,8 +19,10 @@ use graph_ops::Op;
 use shard_queue::Outbox;
 use std::alloc::{AllocError, Global};
 use std::marker::Model;
+use vector_stamp::laws::hearing_brings_order;
 use vector_stamp::{Clock, Stamp};
 use weave_data::{Copied, Items};
+use weave_entries::laws::{channels_rise, counts_are_few, messages_come_before, stamps_rise};
 use weave_entries::{GateDeed, GateEntry, Message, Verdict};
 
 /// A gatekeeper. Contracts see whose it is, of how many gatekeepers and for how many shards, its log, and `spare`: for how many more entries there is room.
@@ -42,13 +44,20 @@ impl Model for Gate {
 
     ghost Value = { GateView };
 
-    ghost view = { λ g. record { home = g.home; gates = g.gates; shards = g.shards; log = g.log.items; spare = vec_capacity g.log - vec_len g.log } };
+    ghost view = { λ g. record {
+      home = g.home;
+      gates = g.gates;
+      shards = g.shards;
+      log = g.log.items;
+      spare = vec_capacity g.log - vec_len g.log;
+    } };
 
-    ghost invariant = { λ g. IsReplayOf g.home g.shards g.clock g.flight g.running.entries g.channels.items g.log.items };
+    ghost invariant = { λ g.
+        IsReplayOf g.home g.shards g.clock g.flight g.running.entries g.channels.items g.log.items };
 }
 
 impl Gate {
-    /// The gatekeeper of this home, before its first event. The one error is want of memory.
+    /// The gatekeeper of this home, before its first event. The one error is out of memory.
     pub fn new(alloc: Global, home: u32, gates: u32, shards: u32) -> Result<Gate, AllocError>
         requires home { home < gates }
         requires gates { gates ≤ 8 }
@@ -68,7 +77,7 @@ impl Gate {
         })
     }
 
-    /// Takes the room for so many more entries. The one error is want of memory.
+    /// Takes the room for that many more entries. The one error is out of memory.
     pub fn reserve(&mut self, _alloc: Global, entries: usize) -> Result<(), AllocError>
         ensures room { OnOk result (HasRoom self.old self.new entries) }
         ensures refused { OnErr result (self.new ≡ self.old) }
@@ -85,13 +94,18 @@ impl Gate {
         request: u32,
         last: Option<Stamp>,
     ) -> Result<Stamp, GateFault>
-        ensures stamp { IfOk result (λ stamp. stamp ≡ begun_stamp self.old.home (clock_of self.old.home self.old.log) last) }
+        ensures stamp { IfOk result (λ stamp.
+            stamp ≡ begun_stamp self.old.home (clock_of self.old.home self.old.log) last) }
         ensures entry { IfOk result (λ stamp. Adds self.old self.new author (GateDeed.BeganTx request stamp)) }
         ensures after { IfOk result (λ stamp. ForSome last (λ heard.
-            IsTrue (counts_no_more self.old.home (clock_of self.old.home self.old.log) heard.clock) → IsTrue (stamp_before heard stamp))) }
+            IsTrue (counts_no_more self.old.home (clock_of self.old.home self.old.log) heard.clock)
+            → IsTrue (stamp_before heard stamp))) }
         ensures busy { IsRefusedWhere GateFault.Busy (is_some (flight_of self.old.log)) result }
         ensures refused { OnErr result (self.new ≡ self.old) }
     {
+        counts_are_few();
+        stamps_rise();
+        hearing_brings_order();
         if self.flight.is_some() {
             return Err(GateFault::Busy);
         }
@@ -114,12 +128,17 @@ impl Gate {
         request: u32,
         last: Option<Stamp>,
     ) -> Result<Stamp, AllocError>
-        ensures stamp { IfOk result (λ stamp. stamp ≡ begun_stamp self.old.home (clock_of self.old.home self.old.log) last) }
+        ensures stamp { IfOk result (λ stamp.
+            stamp ≡ begun_stamp self.old.home (clock_of self.old.home self.old.log) last) }
         ensures entry { IfOk result (λ stamp. Adds self.old self.new author (GateDeed.BeganProgram request stamp)) }
         ensures after { IfOk result (λ stamp. ForSome last (λ heard.
-            IsTrue (counts_no_more self.old.home (clock_of self.old.home self.old.log) heard.clock) → IsTrue (stamp_before heard stamp))) }
+            IsTrue (counts_no_more self.old.home (clock_of self.old.home self.old.log) heard.clock)
+            → IsTrue (stamp_before heard stamp))) }
         ensures refused { OnErr result (self.new ≡ self.old) }
     {
+        counts_are_few();
+        stamps_rise();
+        hearing_brings_order();
         self.running.reserve(1)?;
         self.log.reserve(1)?;
         let stamp = begin(&mut self.clock, self.home, last);
@@ -161,6 +180,8 @@ impl Gate {
         ensures idle { IsRefusedWhere GateFault.Idle (is_none (flight_of self.old.log)) result }
         ensures refused { OnErr result (self.new ≡ self.old) }
     {
+        channels_rise();
+        messages_come_before();
         let Some(flight) = self.flight else {
             return Err(GateFault::Idle);
         };
@@ -192,11 +213,14 @@ impl Gate {
     pub fn nop(&mut self, alloc: Global, author: u32, shard: u32) -> Result<u64, GateFault>
         requires { shard < self.old.shards }
         ensures number { IfOk result (λ number. number ≡ next_number shard self.old.log) }
-        ensures entry { IfOk result (λ number. let stamp = next_stamp self.old.home (clock_of self.old.home self.old.log) in
+        ensures entry { IfOk result (λ number.
+            let stamp = next_stamp self.old.home (clock_of self.old.home self.old.log) in
             Adds self.old self.new author (GateDeed.Nop shard number stamp (low_mark stamp (running_of self.old.log)))) }
         ensures busy { IsRefusedWhere GateFault.Busy (is_some (flight_of self.old.log)) result }
         ensures refused { OnErr result (self.new ≡ self.old) }
     {
+        counts_are_few();
+        messages_come_before();
         let busy = self.flight.is_some();
         if busy {
             return Err(GateFault::Busy);
@@ -204,6 +228,7 @@ impl Gate {
         make_room(&mut self.channels, alloc, shard)?;
         self.log.reserve(1)?;
         let stamp = self.clock.tick(self.home);
+        stamp.clock.shows_64_bits();
         let low = low_mark(&stamp, &self.running);
         let message = Message {
             request: None,
@@ -241,8 +266,10 @@ impl Gate {
     /// Raises the epoch. It takes no memory.
     pub fn epoch(&mut self, author: u32, epoch: u64) -> Result<(), GateFault>
         requires { 1 ≤ self.old.spare }
-        ensures raised { OnOk result (((clock_of self.old.home self.old.log).epoch < epoch) × Adds self.old self.new author (GateDeed.Raised epoch)) }
-        ensures old { IfErr result (λ fault. (fault ≡ GateFault.Old) × (epoch ≤ (clock_of self.old.home self.old.log).epoch)) }
+        ensures raised { OnOk result (((clock_of self.old.home self.old.log).epoch < epoch)
+            × Adds self.old self.new author (GateDeed.Raised epoch)) }
+        ensures old { IfErr result (λ fault.
+            (fault ≡ GateFault.Old) × (epoch ≤ (clock_of self.old.home self.old.log).epoch)) }
         ensures refused { OnErr result (self.new ≡ self.old) }
     {
         if epoch <= self.clock.epoch {
@@ -257,6 +284,7 @@ impl Gate {
     pub fn fetch(&self, shard: u32, number: u64) -> Option<&Message>
         ensures { option_copied result ≡ sent_as number (channel_of shard self.now.log) }
     {
+        channels_rise();
         let Some(channel) = self.channels.get(shard as usize) else {
             return None;
         };
@@ -268,6 +296,7 @@ impl Gate {
         ensures log { result.now ≡ self.now.log }
         ensures rules { IsGateLog self.now.home self.now.shards self.now.log }
         ensures home { self.now.home < 8 }
+        ensures bits { HaveBits (stamps_of self.now.log) }
     {
         self.log.as_slice()
     }

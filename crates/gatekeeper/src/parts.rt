@@ -15,7 +15,7 @@ use std::collections::HashMap;
 use weave_data::{Items, Name};
 use weave_entries::Counted;
 
-/// The parts of a commit for each shard, of so many: those of the vertices that it keeps, in the order of the counts. The one error is want of memory.
+/// The parts of a commit for each of the shards: those of the vertices that it keeps, in the order of the counts. The one error is out of memory.
 pub fn parts_by_shard(
     alloc: Global,
     shards: u32,
@@ -74,10 +74,11 @@ fn make_place(
     Ok(())
 }
 
-// Puts an operation behind those on its vertex.
+// Puts an operation after those on its vertex.
 fn put_behind(table: &mut HashMap<Name, Items<Op>>, op: &Op) -> Result<(), AllocError>
     requires { IsSome (lookup (same_name (vertex_of op.now)) table.old.entries) }
-    ensures { OnOk result ((vertex : Name) → ops_at vertex table.new.entries ≡ ops_at vertex table.old.entries ++ ops_on vertex (op.now ∷ [])) }
+    ensures { OnOk result ((vertex : Name) →
+        ops_at vertex table.new.entries ≡ ops_at vertex table.old.entries ++ ops_on vertex (op.now ∷ [])) }
 {
     let Some(behind) = table.get_mut(&op.vertex()) else {
         unreachable!()
@@ -88,8 +89,13 @@ fn put_behind(table: &mut HashMap<Name, Items<Op>>, op: &Op) -> Result<(), Alloc
 
 // Takes the operations on a counted vertex out of the table, as its part.
 fn take_part(alloc: Global, table: &mut HashMap<Name, Items<Op>>, counted: &Counted) -> Part
-    ensures part { result ≡ record { vertex = counted.now.vertex; before = counted.now.before; ops = ops_at counted.now.vertex table.old.entries } }
-    ensures others { (other : Name) → same_name counted.now.vertex other ≡ false → ops_at other table.new.entries ≡ ops_at other table.old.entries }
+    ensures part { result ≡ record {
+      vertex = counted.now.vertex;
+      before = counted.now.before;
+      ops = ops_at counted.now.vertex table.old.entries;
+    } }
+    ensures others { (other : Name) → same_name counted.now.vertex other ≡ false
+        → ops_at other table.new.entries ≡ ops_at other table.old.entries }
 {
     let ops = table.remove(&counted.vertex);
     Part {

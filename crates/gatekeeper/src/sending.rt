@@ -25,7 +25,7 @@ pub fn empty_channels(alloc: Global, shards: u32) -> Result<Vec<Outbox<Message>>
     Ok(channels)
 }
 
-/// The messages of a transaction by its verdict: of a commit one to each shard that keeps a named vertex, and else none. The one error is want of memory.
+/// The messages of a transaction by its verdict: of a commit one to each shard that keeps a named vertex, otherwise none. The one error is out of memory.
 pub fn messages_of(
     alloc: Global,
     channels: &[Outbox<Message>],
@@ -38,7 +38,8 @@ pub fn messages_of(
     requires shards { length channels.now ≡ shards }
     requires one_shard { 1 ≤ shards }
     requires counts { IsCountsOf ops.now verdict.now }
-    ensures { IfOk result (λ messages. messages.items ≡ messages_made channels.now shards flight.now low ops.now verdict.now) }
+    ensures { IfOk result (λ messages.
+        messages.items ≡ messages_made channels.now shards flight.now low ops.now verdict.now) }
 {
     match verdict {
         Verdict::Committed { counts, .. } => commit_messages(
@@ -66,7 +67,8 @@ fn commit_messages(
     requires shards { length channels.now ≡ shards }
     requires one_shard { 1 ≤ shards }
     requires counts { map (λ (counted : Counted). counted.vertex) counts.now ≡ named_by ops.now }
-    ensures { IfOk result (λ messages. messages.items ≡ map (made_for channels.now shards flight.now low ops.now counts.now) (shards_named shards counts.now)) }
+    ensures { IfOk result (λ messages. messages.items
+        ≡ map (made_for channels.now shards flight.now low ops.now counts.now) (shards_named shards counts.now)) }
 {
     let shares = parts_by_shard(alloc, shards, ops, counts)?;
     let mut messages = Vec::new(alloc);
@@ -99,7 +101,7 @@ fn add_message(messages: &mut Vec<Addressed>, addressed: Addressed) -> Result<()
     Ok(())
 }
 
-/// Takes the room for one more message to a shard. What was sent stays. The one error is want of memory.
+/// Takes the room for one more message to a shard. What was sent stays. The one error is out of memory.
 pub fn make_room(
     channels: &mut Vec<Outbox<Message>>,
     alloc: Global,
@@ -114,7 +116,7 @@ pub fn make_room(
     Ok(())
 }
 
-/// Takes the room for one more message to each shard. What was sent stays. The one error is want of memory.
+/// Takes the room for one more message to each shard. What was sent stays. The one error is out of memory.
 pub fn make_all_room(channels: &mut Vec<Outbox<Message>>, alloc: Global) -> Result<(), AllocError>
     requires { vec_len channels.old < 2 ^ 32 }
     ensures kept { KeepsSent channels.old.items channels.new.items }

@@ -116,6 +116,30 @@ fn a_table_of_calls(rt: HostRuntime) -> Result<(), Fail> {
     Ok(())
 }
 
+// The stamp of the gatekeeper of home 1.
+fn other_stamp(epoch: u64, first: u64, second: u64) -> Stamp {
+    Stamp {
+        home: 1,
+        clock: clock(epoch, first, second),
+    }
+}
+
+// What a session began last at another gatekeeper is heard before the next stamp.
+#[test]
+fn begins_after_the_last_stamp(rt: HostRuntime) {
+    let alloc = rt.alloc();
+    let mut gate = Gate::new(alloc, 0, 2, 1).expect(&rt, "no gatekeeper");
+    let first = gate.begin_tx(alloc, 1, 0, Some(other_stamp(0, 0, 7)));
+    assert!(rt; first == Ok(stamp(1, 7)));
+    let second = gate.begin_program(alloc, 2, 1, Some(other_stamp(0, 1, 9)));
+    assert!(rt; second == Ok(stamp(2, 9)));
+    let raised = gate
+        .begin_program(alloc, 3, 2, Some(other_stamp(2, 5, 3)))
+        .expect(&rt, "no stamp");
+    assert_eq!(rt; raised.clock, clock(2, 1, 3));
+    assert_eq!(rt; gate.log().len(), 3);
+}
+
 // The vertices that operations name, with the numbers of earlier commits.
 fn counted(alloc: Global, ops: &[Op], before: &[u64]) -> Result<Items<Counted>, Fail>
     ensures { IfOk result (λ counts. map (λ (one : Counted). one.vertex) counts ≡ named_by ops.now) }

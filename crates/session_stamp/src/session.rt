@@ -39,7 +39,7 @@ impl Session {
         }
     }
 
-    /// The next request, or `None` where all have begun and the last has its reply.
+    /// The next request, or `None` if all have begun and the last has its reply.
     pub fn next(&self) -> Result<Option<u32>, Early>
         ensures next { IfOk result (λ next. next ≡ next_request self.now) }
         ensures replied { IfOk result (λ _. self.now.waits ≡ false) }
@@ -70,7 +70,7 @@ impl Session {
         self.waits = false;
     }
 
-    /// The stamp of the last begun request, or `None` where none has begun.
+    /// The stamp of the last begun request, or `None` if none has begun.
     pub fn last(&self) -> Option<Stamp>
         ensures { result ≡ self.now.last }
     {

@@ -2,7 +2,7 @@ use crate::{Early, Session};
 use std::test::Fail;
 use vector_stamp::{Clock, Stamp};
 
-// The stamp of the gatekeeper of home 0 after so many events.
+// The stamp of the gatekeeper of home 0 after that many events.
 fn stamp(count: u64) -> Stamp {
     Stamp {
         home: 0,

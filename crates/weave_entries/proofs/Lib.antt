@@ -1,1 +1,13 @@
-pub mod Logs
+pub mod Replay
+pub mod Rising
+pub mod Picked
+pub mod Small
+pub mod Channels
+pub mod Ticks
+pub mod Once
+pub mod Running
+pub mod OwnStamps
+pub mod LowMarks
+pub mod NonePast
+pub mod OracleLogs
+pub mod Sessions

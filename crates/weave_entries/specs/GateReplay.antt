@@ -1,6 +1,6 @@
 -- What the log of a gatekeeper says of its state: the replay of the entries from the start.
 use Rattle.std.specs.Prelude.{ℕ, ◌+◌, Bool, not, ◌&&◌, ◌==◌, List, [], ◌∷◌, ◌++◌, map, fold, filter, length, count_by, Option, None, Some}
-use Rattle.std.specs.List.{flat_map}
+use Rattle.std.specs.List.{find, flat_map, list_any}
 use Rattle.vector_stamp.specs.declared.clock.Clock.{Clock}
 use Rattle.vector_stamp.specs.declared.clock.Stamp.{Stamp}
 use Rattle.vector_stamp.specs.Clocks.{start_clock, first_clock, clock_after_tick, clock_after_hearing, meet_of}
@@ -86,9 +86,35 @@ txs_of log = flat_map (λ (entry : GateEntry). tx_by entry.author entry.deed) lo
 abbrev pub programs_of : List GateEntry → List Begun
 programs_of log = flat_map (λ (entry : GateEntry). program_by entry.author entry.deed) log
 
+-- what a deed began: a transaction or a program
+abbrev pub begun_by : ℕ → GateDeed → List Begun
+begun_by author deed = tx_by author deed ++ program_by author deed
+
+-- the transactions and programs that were begun, in order
+abbrev pub begun_in : List GateEntry → List Begun
+begun_in log = flat_map (λ (entry : GateEntry). begun_by entry.author entry.deed) log
+
+-- the program of this number, if it was begun
+abbrev pub program_begun : ℕ → List GateEntry → Option Begun
+program_begun request log = find (λ (begun : Begun). begun.request == request) (programs_of log)
+
 -- the numbers of all requests that were begun, in order
 abbrev pub requests_of : List GateEntry → List ℕ
 requests_of log = flat_map (λ (entry : GateEntry). map (λ (begun : Begun). begun.request) (tx_by entry.author entry.deed ++ program_by entry.author entry.deed)) log
+
+-- the request that a deed sent or finished
+abbrev pub ended_by : GateDeed → List ℕ
+ended_by (Sent request messages) = request ∷ []
+ended_by (Finished request) = request ∷ []
+ended_by _ = []
+
+-- the requests that were sent or finished, in order
+abbrev pub ended_in : List GateEntry → List ℕ
+ended_in log = flat_map (λ (entry : GateEntry). ended_by entry.deed) log
+
+-- whether a request was sent or finished
+abbrev pub has_ended_in : ℕ → List GateEntry → Bool
+has_ended_in request log = list_any (λ ended. ended == request) (ended_in log)
 
 -- a transaction is in flight from its begin to its sending
 abbrev pub flight_after : Option Begun → ℕ → GateDeed → Option Begun
@@ -138,6 +164,30 @@ channel_of shard log = map (λ (addressed : Addressed). addressed.message) (addr
 abbrev pub next_number : ℕ → List GateEntry → ℕ
 next_number shard log = length (channel_of shard log) + 1
 
+-- all messages that were sent, in order
+abbrev pub sent_in : List GateEntry → List Addressed
+sent_in log = flat_map (λ (entry : GateEntry). messages_by entry.deed) log
+
 -- the low mark of a message: the meet of its stamp and the stamps of the programs then running
 abbrev pub low_mark : Stamp → List Begun → Clock
 low_mark stamp running = fold (λ low (begun : Begun). meet_of low begun.stamp.clock) stamp.clock running
+
+-- All clocks
+
+-- the clocks of a message: that of its stamp, and its low mark
+abbrev pub clocks_of_message : Addressed → List Clock
+clocks_of_message addressed = addressed.message.stamp.clock ∷ addressed.message.low ∷ []
+
+-- the clocks of a deed
+abbrev pub clocks_by : GateDeed → List Clock
+clocks_by (BeganTx request stamp) = stamp.clock ∷ []
+clocks_by (BeganProgram request stamp) = stamp.clock ∷ []
+clocks_by (Sent request messages) = flat_map clocks_of_message messages
+clocks_by (Nop shard number stamp low) = stamp.clock ∷ low ∷ []
+clocks_by (Heard heard) = heard ∷ []
+clocks_by (Raised epoch) = []
+clocks_by (Finished request) = []
+
+-- all clocks of a log, in order
+abbrev pub clocks_in : List GateEntry → List Clock
+clocks_in log = flat_map (λ (entry : GateEntry). clocks_by entry.deed) log

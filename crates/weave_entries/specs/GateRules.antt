@@ -1,11 +1,12 @@
 -- The rules that the log of a gatekeeper keeps (Weaver, PVLDB 9(11) 2016), each over the replay of the entries before an entry.
 use Rattle.std.specs.Prelude.{◌≡◌, ◌≢◌, ℕ, ◌<◌, List, [], ◌∷◌, map, length, AllPairs, Contains, IsTrue, Option, None, Some}
-use Rattle.std.specs.List.{list_any, flat_map, range_with_len}
+use Rattle.std.specs.List.{list_any, range_with_len}
 use Rattle.std.specs.Option.{ForSome}
 use Rattle.graph_ops.specs.declared.op.Op.{Op}
 use Rattle.vector_stamp.specs.declared.clock.Clock.{Clock}
 use Rattle.vector_stamp.specs.declared.clock.Stamp.{Stamp}
-use Rattle.vector_stamp.specs.Order.{count_of, stamp_before, HasEightCounts}
+use Rattle.vector_stamp.specs.Order.{count_of, HasEightCounts, CountsNonePast}
+pub use Rattle.vector_stamp.specs.Order.{StampsRise}
 use Rattle.vector_stamp.specs.Clocks.{counts_no_more}
 use Rattle.weave_entries.specs.declared.message.Message.{Message}
 use Rattle.weave_entries.specs.declared.message.Addressed.{Addressed}
@@ -13,7 +14,8 @@ use Rattle.weave_entries.specs.declared.verdict.Verdict.{Verdict}
 use Rattle.weave_entries.specs.declared.gate_log.GateEntry.{GateEntry}
 use Rattle.weave_entries.specs.declared.gate_log.GateDeed.{GateDeed}
 use Rattle.weave_entries.specs.declared.gate_log.GateDeed.TheVariants.{BeganTx, BeganProgram, Sent, Nop, Heard, Raised, Finished}
-use Rattle.weave_entries.specs.GateReplay.{is_begun, next_stamp, begun_stamp, clock_of, ticks_of, txs_of, programs_of, requests_of, flight_of, running_of, addressed_to, channel_of, next_number, low_mark}
+pub use Rattle.weave_entries.specs.GateReplay.{ended_by}
+use Rattle.weave_entries.specs.GateReplay.{is_begun, next_stamp, begun_stamp, clock_of, ticks_of, txs_of, programs_of, requests_of, ended_in, flight_of, running_of, addressed_to, channel_of, next_number, low_mark}
 use Rattle.weave_entries.specs.Logs.{AtEachEntry}
 use Rattle.weave_entries.specs.Sending.{IsCountsOf, messages_of}
 
@@ -80,11 +82,24 @@ HearsAs home before _ = Unit {0}
 abbrev pub HearsNoMore : ℕ → List GateEntry → Type 0
 HearsNoMore home log = AtEachEntry (λ before entry. HearsAs home before entry.deed) log
 
--- What follows
+-- the stamp of a begin, if the stamp that was heard before it, if any, counts no event of a gatekeeper past the first `gates`
+pub record HearsNonePastAt (gates home : ℕ) (clock : Clock) (stamp : Stamp) : Type 0 where
+  pub last : Option Stamp
+  pub none_past : ForSome last (λ heard. CountsNonePast gates heard.clock)
+  pub is : stamp ≡ begun_stamp home clock last
 
--- each stamp is before each later one
-abbrev pub StampsRise : List Stamp → Type 0
-StampsRise stamps = AllPairs (λ a b. IsTrue (stamp_before a b)) stamps
+-- what a deed heard counts no event of a gatekeeper past the first `gates`
+abbrev pub HearsNonePastAs : ℕ → ℕ → List GateEntry → GateDeed → Type 0
+HearsNonePastAs gates home before (BeganTx request stamp) = HearsNonePastAt gates home (clock_of home before) stamp
+HearsNonePastAs gates home before (BeganProgram request stamp) = HearsNonePastAt gates home (clock_of home before) stamp
+HearsNonePastAs gates home before (Heard clock) = CountsNonePast gates clock
+HearsNonePastAs gates home before _ = Unit {0}
+
+-- and so at each entry of the log
+abbrev pub HearsNonePast : ℕ → ℕ → List GateEntry → Type 0
+HearsNonePast gates home log = AtEachEntry (λ before entry. HearsNonePastAs gates home before entry.deed) log
+
+-- What follows
 
 -- the own count is the number of the gatekeeper's ticks in its epoch
 abbrev pub CountsItsTicks : ℕ → List GateEntry → Type 0
@@ -95,15 +110,9 @@ pub record IsChannel (shard : ℕ) (log : List GateEntry) : Type 0 where
   pub numbers : map (λ (addressed : Addressed). addressed.number) (addressed_to shard log) ≡ range_with_len 1 (length (channel_of shard log))
   pub stamps : StampsRise (map (λ (message : Message). message.stamp) (channel_of shard log))
 
--- the request that a deed sent or finished
-abbrev pub ended_by : GateDeed → List ℕ
-ended_by (Sent request messages) = request ∷ []
-ended_by (Finished request) = request ∷ []
-ended_by _ = []
-
 -- no request is sent or finished twice
 abbrev pub EndsEachOnce : List GateEntry → Type 0
-EndsEachOnce log = AllPairs (λ a b. a ≢ b) (flat_map (λ (entry : GateEntry). ended_by entry.deed) log)
+EndsEachOnce log = AllPairs (λ a b. a ≢ b) (ended_in log)
 
 -- a transaction was begun by this author before, and so was a program
 abbrev pub EndsAs : List GateEntry → ℕ → GateDeed → Type 0

@@ -3,3 +3,8 @@ pub mod GateRules
 pub mod Logs
 pub mod Sending
 pub mod SessionReplay
+pub mod StoreReplay
+pub mod StoreRule
+pub mod OracleReplay
+pub mod OracleRules
+pub mod ShardReplay

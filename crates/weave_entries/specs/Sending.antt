@@ -1,10 +1,10 @@
 -- The messages of a commit: its operations, vertex by vertex, to the shards that keep the vertices.
 use Rattle.std.specs.Prelude.{◌≡◌, ℕ, Bool, ◌==◌, List, [], map, filter, Some}
 use Rattle.std.specs.List.{list_any, range_with_len}
-use Rattle.weave_data.specs.Names.{same_name, shard_of}
+use Rattle.weave_data.specs.Names.{shard_of}
 use Rattle.weave_data.specs.declared.name.Name.{Name}
 use Rattle.graph_ops.specs.Mentions.{named_by}
-use Rattle.graph_ops.specs.Operations.{vertex_of}
+pub use Rattle.graph_ops.specs.VertexOps.{ops_on}
 use Rattle.graph_ops.specs.declared.op.Op.{Op}
 use Rattle.graph_ops.specs.declared.part.Part.{Part}
 use Rattle.weave_entries.specs.declared.message.Addressed.{Addressed}
@@ -13,10 +13,6 @@ use Rattle.weave_entries.specs.declared.verdict.Verdict.{Verdict}
 use Rattle.weave_entries.specs.declared.verdict.Verdict.TheVariants.{Committed, Conflict, Refused}
 use Rattle.weave_entries.specs.declared.gate_log.GateEntry.{GateEntry}
 use Rattle.weave_entries.specs.GateReplay.{Begun, next_number, running_of, low_mark}
-
--- the operations on a vertex, in their order
-abbrev pub ops_on : Name → List Op → List Op
-ops_on vertex ops = filter (λ op. same_name (vertex_of op) vertex) ops
 
 -- the part for a vertex: its operations, and how many commits named it before
 abbrev pub part_for : List Op → Counted → Part

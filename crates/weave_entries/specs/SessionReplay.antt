@@ -1,6 +1,7 @@
 -- What the log of a session says of its state: its requests begin in order, each after the reply to the one before.
-use Rattle.std.specs.Prelude.{◌≡◌, ℕ, ◌+◌, ◌-◌, Bool, true, false, List, fold, slice_get, IsTrue, Option, None, Some}
-use Rattle.std.specs.Option.{ForSome}
+use Rattle.std.specs.Prelude.{◌≡◌, ℕ, ◌+◌, ◌-◌, ◌==◌, Bool, true, false, List, [], ◌∷◌, fold, slice_get, IsTrue, Option, None, Some, if◌then◌else◌}
+use Rattle.std.specs.List.{find, flat_map, list_any}
+use Rattle.std.specs.Option.{ForSome, option_map}
 use Rattle.vector_stamp.specs.declared.clock.Stamp.{Stamp}
 use Rattle.vector_stamp.specs.Order.{stamp_before}
 use Rattle.weave_entries.specs.Logs.{AtEachEntry}
@@ -39,6 +40,42 @@ session_after session (Replied request) = with_reply session
 -- the session at the end of its log
 abbrev pub session_of : List ℕ → List SessionEntry → SessionState
 session_of requests log = fold (λ session (entry : SessionEntry). session_after session entry.deed) (session_start requests) log
+
+-- Its requests
+
+-- the request that a deed began, with its stamp
+abbrev pub begin_by : SessionDeed → List (ℕ × Stamp)
+begin_by (Begun request stamp) = (request, stamp) ∷ []
+begin_by (Replied request) = []
+
+-- the requests that were begun, with their stamps, in order
+abbrev pub begins_in : List SessionEntry → List (ℕ × Stamp)
+begins_in log = flat_map (λ (entry : SessionEntry). begin_by entry.deed) log
+
+-- the stamp with which a request was begun, if it was
+abbrev pub session_stamp_of : ℕ → List SessionEntry → Option Stamp
+session_stamp_of request log = option_map (λ (begun : ℕ × Stamp). begun.1) (find (λ (begun : ℕ × Stamp). begun.0 == request) (begins_in log))
+
+-- the request that got its reply by a deed
+abbrev pub reply_by : SessionDeed → List ℕ
+reply_by (Begun request stamp) = []
+reply_by (Replied request) = request ∷ []
+
+-- the requests that have their replies, in order
+abbrev pub replied_in : List SessionEntry → List ℕ
+replied_in log = flat_map (λ (entry : SessionEntry). reply_by entry.deed) log
+
+-- whether a request has begun
+abbrev pub has_begun_in : ℕ → List SessionEntry → Bool
+has_begun_in request log = list_any (λ (begun : ℕ × Stamp). begun.0 == request) (begins_in log)
+
+-- whether a request has its reply
+abbrev pub has_reply_in : ℕ → List SessionEntry → Bool
+has_reply_in request log = list_any (λ replied. replied == request) (replied_in log)
+
+-- how many requests of a session have their replies: all begun ones, but for one that waits
+abbrev pub replied_count : SessionState → ℕ
+replied_count session = if session.waits then session.begun - 1 else session.begun
 
 -- The rules
 

@@ -4,6 +4,7 @@
 #![tactic(auto)]
 
 mod gate_log;
+pub mod laws;
 mod message;
 mod oracle_log;
 mod session_log;

@@ -31,12 +31,12 @@ pub enum ShardDeed {
         request: u32,
         stamp: Stamp,
         vertex: Name,
-        /// It read the state after so many of the vertex's updates.
+        /// It read the state after this many of the vertex's updates.
         updates: u64,
         /// Whether the oracle added a pair for it.
         settled: bool,
     },
-    /// Old versions were dropped, up to the bound; `None` where nothing may go.
+    /// Old versions were dropped, up to the bound; `None` if nothing may go.
     Collected {
         bound: Option<Clock>,
     },

@@ -2,7 +2,7 @@ use Rattle.std.proofs.Common.{◌≡◌, ℕ, List, ◌∷◌, [], refl}
 use Rattle.std.proofs.lemmas.List.Sums.{fold-append}
 use Rattle.weave_entries.specs.declared.session_log.SessionEntry.{SessionEntry}
 use Rattle.weave_entries.specs.SessionReplay.{session_of, FitsSession}
-use Rattle.weave_entries.proofs.Logs.{each-none, each-push, each-before}
+use Rattle.proof_base.proofs.Entries.{each_none, each_push, each_before}
 use Rattle.session_stamp.proofs.laws.a_log_goes_on.Goals as goal
 
 -- what holds at each entry
@@ -14,7 +14,7 @@ returns c =
     record {
       at_first = λ requests. refl;
       replay = λ requests log entry. fold-append _ _ log (entry ∷ []);
-      right_at_first = λ number requests. each-none (Rule number requests);
-      right = λ number requests log entry so_far author fits. each-push (Rule number requests) log entry so_far (author, fits);
-      right_before = λ number requests log rest all. each-before (Rule number requests) log rest all;
+      right_at_first = λ number requests. each_none (Rule number requests);
+      right = λ number requests log entry so_far author fits. each_push (Rule number requests) log entry so_far (author, fits);
+      right_before = λ number requests log rest all. each_before (Rule number requests) log rest all;
     }

@@ -1,10 +1,10 @@
 use Rattle.std.proofs.Common.{refl, ◌<◌, subst}
 use Rattle.vector_stamp.specs.declared.clock.Clock.{Clock}
 use Rattle.weave_entries.specs.declared.gate_log.GateDeed.TheVariants.{Raised}
-use Rattle.gatekeeper.proofs.Keeping.{keeps_still}
+use Rattle.gatekeeper.proofs.Keeping.{keeps_still, no_bits}
 use Rattle.gatekeeper.proofs.gate.Gate.epoch.Goals as goal
 
 pub invariant_of-self : goal.invariant_of-self
 invariant_of-self c =
     let later = subst (λ (k : Clock). k.epoch < c.args.epoch) c.self.invariant.clock_is c.if-epoch-self.false in
-    keeps_still _ _ _ _ _ _ _ c.args.author (Raised c.args.epoch) _ _ _ _ c.self.invariant later refl c.add.ensures.items c.raise.ensures refl c.self.invariant.running_is
+    keeps_still _ _ _ _ _ _ _ c.args.author (Raised c.args.epoch) _ _ _ _ c.self.invariant later no_bits refl c.add.ensures.items c.raise.ensures refl c.self.invariant.running_is

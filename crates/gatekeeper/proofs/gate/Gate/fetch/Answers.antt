@@ -8,7 +8,7 @@ pub returns-in_default : goal.returns-in_default
 returns-in_default c =
     let long = ap length c.deref.ensures.value in
     let beyond : c.self.inside.shards ≤ c.args.shard = omega (arith, c.in_default.ensures.lookup.3, c.self.invariant.all_channels, long) in
-    fetched_beyond _ _ _ _ _ _ _ c.self.invariant c.args.self.now c.args.shard c.args.number (ap (λ (v : GateView). v.log) (sym c.self.view_is)) beyond
+    fetched_beyond _ _ _ _ _ _ _ c.self.invariant c.channels_rise.ensures.beyond c.args.self.now c.args.shard c.args.number (ap (λ (v : GateView). v.log) (sym c.self.view_is)) beyond
 
 pub returns : goal.returns
 returns c =

@@ -3,7 +3,7 @@ use Rattle.std.specs.List.{list_any}
 use Rattle.weave_entries.specs.GateReplay.{is_begun, running_of}
 use Rattle.weave_entries.specs.declared.gate_log.GateDeed.TheVariants.{Finished}
 use Rattle.gatekeeper.specs.Gates.{GateView}
-use Rattle.gatekeeper.proofs.Keeping.{keeps_still}
+use Rattle.gatekeeper.proofs.Keeping.{keeps_still, no_bits}
 use Rattle.gatekeeper.proofs.gate.Gate.finish.Goals as goal
 
 pub returns-then-not-is_running-clause-idle : goal.returns-then-not-is_running-clause-idle
@@ -19,4 +19,4 @@ returns-clause-idle c =
 pub invariant_of-self-2 : goal.invariant_of-self-2
 invariant_of-self-2 c =
     let runs : c.is_running.result ≡ true = search rules in
-    keeps_still _ _ _ _ _ _ _ c.args.author (Finished c.args.request) _ _ _ _ c.self.invariant (sym (c.is_running.ensures _ c.self.invariant.running_is) ∙ runs) refl (rw c.reserve.ensures.items at c.add.ensures.items) refl refl (c.end.ensures _ c.self.invariant.running_is)
+    keeps_still _ _ _ _ _ _ _ c.args.author (Finished c.args.request) _ _ _ _ c.self.invariant (sym (c.is_running.ensures _ c.self.invariant.running_is) ∙ runs) no_bits refl (rw c.reserve.ensures.items at c.add.ensures.items) refl refl (c.end.ensures _ c.self.invariant.running_is)

@@ -7,7 +7,7 @@ use Rattle.weave_entries.specs.GateReplay.{flight_of}
 use Rattle.gatekeeper.specs.Gates.{GateView, SendsFlight}
 use Rattle.gatekeeper.specs.Messages.{CanAllGo, messages_made}
 use Rattle.gatekeeper.specs.Opened.{as_begun}
-use Rattle.gatekeeper.proofs.Keeping.{keeps_on}
+use Rattle.gatekeeper.proofs.Keeping.{keeps_on, no_bits}
 use Rattle.gatekeeper.proofs.Messages.{made_is, all_can_go, sent_then, all_then, flight_told, sends_fit}
 use Rattle.gatekeeper.proofs.gate.Gate.send.Goals as goal
 
@@ -16,22 +16,22 @@ send_all-requires c =
     let one = c.in-Some.flight in
     let low = c.low_mark-low.ensures _ c.self.invariant.running_is in
     let made = c.in_ok-made.ensures ∙ ap (λ (cs : List (Channel Message)). messages_made cs c.self.inside.shards one c.low_mark-low.result c.args.ops.now c.args.verdict.now) c.as_slice.ensures.value in
-    let is = c.into_vec.ensures ∙ c.from_vec-messages.ensures ∙ made ∙ made_is _ _ _ _ _ _ _ c.self.invariant one c.low_mark-low.result c.args.ops.now c.args.verdict.now low in
+    let is = c.into_vec.ensures ∙ c.from_vec-messages.ensures ∙ made ∙ made_is _ _ _ _ _ _ _ c.self.invariant c.channels_rise.ensures.beyond one c.low_mark-low.result c.args.ops.now c.args.verdict.now low in
     let long = c.self.inside.channels.ok.0 in
     subst (λ (ms : List Addressed). CanAllGo c.make_all_room.new.channels.items ms) (sym is)
-    (all_can_go _ _ _ _ _ _ _ c.self.invariant one c.in-Some.is c.make_all_room.new.channels.items c.make_all_room.ensures.kept (λ shard below. c.in_ok-make_all_room.ensures.room shard (omega arith)) c.args.ops.now c.args.verdict.now)
+    (all_can_go _ _ _ _ _ _ _ c.self.invariant c.messages_come_before.ensures.flight one c.in-Some.is c.make_all_room.new.channels.items c.make_all_room.ensures.kept (λ shard below. c.in_ok-make_all_room.ensures.room shard (omega arith)) c.args.ops.now c.args.verdict.now)
 
 pub invariant_of-self-2 : goal.invariant_of-self-2
 invariant_of-self-2 c =
     let one = c.in-Some.flight in
     let low = c.low_mark-low.ensures _ c.self.invariant.running_is in
     let made = c.in_ok-made.ensures ∙ ap (λ (cs : List (Channel Message)). messages_made cs c.self.inside.shards one c.low_mark-low.result c.args.ops.now c.args.verdict.now) c.as_slice.ensures.value in
-    let is = c.from_vec-messages.ensures ∙ made ∙ made_is _ _ _ _ _ _ _ c.self.invariant one c.low_mark-low.result c.args.ops.now c.args.verdict.now low in
+    let is = c.from_vec-messages.ensures ∙ made ∙ made_is _ _ _ _ _ _ _ c.self.invariant c.channels_rise.ensures.beyond one c.low_mark-low.result c.args.ops.now c.args.verdict.now low in
     let copies = c.in_ok-copies.ensures ∙ is in
     let told : flight_of c.args.self.now.log ≡ Some (as_begun one) = ap (λ (v : GateView). flight_of v.log) (sym c.self.view_is) ∙ flight_told _ _ _ _ _ _ _ c.self.invariant one c.in-Some.is in
     let fits = sends_fit _ _ _ _ _ _ _ c.self.invariant one c.in-Some.is c.args.author (c.requires.author (as_begun one) told) c.args.ops.now c.args.verdict.now (c.requires.counts (as_begun one) told) c.in_ok-copies.copies copies in
     let sent = rw (c.into_vec.ensures ∙ sym c.in_ok-copies.ensures) at c.send_all.ensures in
-    keeps_on _ _ _ _ _ _ _ c.args.author (Sent one.request c.in_ok-copies.copies) _ _ _ _ _ c.self.invariant fits
+    keeps_on _ _ _ _ _ _ _ c.args.author (Sent one.request c.in_ok-copies.copies) _ _ _ _ _ c.self.invariant fits no_bits
     (rw c.reserve.ensures.items at c.add.ensures.items) refl refl c.self.invariant.running_is
     (all_then _ _ _ _ _ _ _ c.self.invariant _ _ _ c.make_all_room.ensures.kept sent) (sent_then _ _ _ _ _ _ _ c.self.invariant _ _ _ c.make_all_room.ensures.kept sent)
 
@@ -40,7 +40,7 @@ returns-clause-entry c =
     let one = c.in-Some.flight in
     let low = c.low_mark-low.ensures _ c.self.invariant.running_is in
     let made = c.in_ok-made.ensures ∙ ap (λ (cs : List (Channel Message)). messages_made cs c.self.inside.shards one c.low_mark-low.result c.args.ops.now c.args.verdict.now) c.as_slice.ensures.value in
-    let copies = c.in_ok-copies.ensures ∙ c.from_vec-messages.ensures ∙ made ∙ made_is _ _ _ _ _ _ _ c.self.invariant one c.low_mark-low.result c.args.ops.now c.args.verdict.now low in
+    let copies = c.in_ok-copies.ensures ∙ c.from_vec-messages.ensures ∙ made ∙ made_is _ _ _ _ _ _ _ c.self.invariant c.channels_rise.ensures.beyond one c.low_mark-low.result c.args.ops.now c.args.verdict.now low in
     let log = rw c.reserve.ensures.items at c.add.ensures.items in
     let kept = c.reserve.ensures.capacity in
     let same = c.reserve.ensures.len in

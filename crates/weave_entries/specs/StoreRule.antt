@@ -1,0 +1,72 @@
+-- The rule by which the store judges a transaction, over the commits before it and the pairs of the oracle (validation by the stamp of the last update, Weaver, PVLDB 9(11) 2016).
+use Rattle.std.specs.Prelude.{ℕ, ◌+◌, List, [], ◌∷◌, map, filter, length, Option, None, Some, Ok, Err}
+use Rattle.std.specs.List.{find, filter_map}
+use Rattle.std.specs.Option.{option_map}
+use Rattle.weave_data.specs.declared.name.Name.{Name}
+use Rattle.graph_ops.specs.declared.op.Op.{Op}
+use Rattle.graph_ops.specs.Mentions.{named_by}
+use Rattle.graph_ops.specs.PlainGraph.{TxOutcome, transaction}
+use Rattle.vector_stamp.specs.declared.clock.Stamp.{Stamp}
+use Rattle.vector_stamp.specs.Order.{stamp_before, unordered}
+use Rattle.vector_stamp.specs.Precedence.{Given, precedes}
+use Rattle.vector_stamp.specs.Settling.{additions_from, places_of, entries_of_call}
+use Rattle.weave_entries.specs.declared.verdict.Counted.{Counted}
+use Rattle.weave_entries.specs.declared.verdict.Verdict.{Verdict}
+use Rattle.weave_entries.specs.declared.verdict.Verdict.TheVariants.{Committed, Conflict, Refused}
+use Rattle.weave_entries.specs.declared.oracle_log.OracleEntry.{OracleEntry}
+use Rattle.weave_entries.specs.OracleReplay.{oracle_entry}
+use Rattle.weave_entries.specs.StoreReplay.{Commit, count_naming, last_naming, graph_committed}
+
+-- a named vertex with the last commit that names it
+pub record LastCommit : Type 0 where
+  pub vertex : Name
+  pub commit : Commit
+
+-- the named vertices that a commit names already, each with the last one, in order of naming
+abbrev pub lasts_of : List Op → List Commit → List LastCommit
+lasts_of ops commits = filter_map (λ (v : Name). option_map (λ (commit : Commit). record { vertex = v; commit = commit }) (last_naming v commits)) (named_by ops)
+
+-- those whose last commit is unordered with the stamp: the oracle is asked to put these before it
+abbrev pub asked_of : Stamp → List LastCommit → List LastCommit
+asked_of stamp lasts = filter (λ (last : LastCommit). unordered last.commit.stamp stamp) lasts
+
+-- their stamps, in order of naming
+abbrev pub asked_stamps : Stamp → List LastCommit → List Stamp
+asked_stamps stamp lasts = map (λ (last : LastCommit). last.commit.stamp) (asked_of stamp lasts)
+
+-- their vertices
+abbrev pub asked_vertices : Stamp → List LastCommit → List Name
+asked_vertices stamp lasts = map (λ (last : LastCommit). last.vertex) (asked_of stamp lasts)
+
+-- each named vertex with the number of commits that name it
+abbrev pub counts_of : List Op → List Commit → List Counted
+counts_of ops commits = map (λ (v : Name). record { vertex = v; before = count_naming v commits }) (named_by ops)
+
+-- a conflict with the last commit at a vertex, if there is such a vertex; otherwise the rest
+abbrev pub conflict_or : Option LastCommit → Verdict → Verdict
+conflict_or (Some last) rest = Conflict last.vertex last.commit.request
+conflict_or None rest = rest
+
+-- the verdict by the outcome of the operations: after these commits the next number, with the answers and the counts; or the first refused operation
+abbrev pub verdict_by : List Op → List Commit → TxOutcome → Verdict
+verdict_by ops commits (Ok passed) = Committed (length commits + 1) passed.gots (counts_of ops commits)
+verdict_by ops commits (Err stopped) = Refused stopped.op stopped.reason (length commits)
+
+-- The verdict. First a conflict at the first named vertex whose last stamp the new one is before; then one at the first of those asked that it precedes; then the outcome of the operations on the graph that the commits leave.
+abbrev pub verdict_on : List Given → List Commit → Stamp → List Op → Verdict
+verdict_on pairs commits stamp ops =
+    conflict_or (find (λ (last : LastCommit). stamp_before stamp last.commit.stamp) (lasts_of ops commits)) (
+    conflict_or (find (λ (last : LastCommit). precedes pairs stamp last.commit.stamp) (asked_of stamp (lasts_of ops commits))) (
+    verdict_by ops commits (transaction ops (graph_committed commits))))
+
+-- What the oracle adds
+
+-- the oracle's entries when it puts each of the earlier events before the later one that doesn't yet precede it: one entry, or none if it adds no pair
+abbrev pub entries_of_settling : ℕ → List Given → List Stamp → Stamp → List OracleEntry
+entries_of_settling author pairs earlier later = map oracle_entry (entries_of_call author earlier later (places_of (additions_from 0 pairs earlier later)))
+
+-- only a commit's pairs are kept
+abbrev pub settled_if : Verdict → List OracleEntry → List OracleEntry
+settled_if (Committed number answers counts) entries = entries
+settled_if (Conflict vertex newer) entries = []
+settled_if (Refused op reason at) entries = []

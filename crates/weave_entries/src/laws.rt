@@ -1,0 +1,231 @@
+//! What follows for each log that keeps the rules, as contracts over the logs alone.
+ghost use Rattle.std.specs.Prelude.{◌≡◌, ◌≢◌, ◌↔◌, ℕ, ◌<◌, ◌≤◌, List, [], ◌∷◌, ◌++◌, map, take, length, Contains, IsTrue, Option, Some};
+ghost use Rattle.graph_ops.specs.declared.op.Op.{Op};
+ghost use Rattle.vector_stamp.specs.declared.clock.Clock.{Clock};
+ghost use Rattle.vector_stamp.specs.declared.clock.Stamp.{Stamp};
+ghost use Rattle.vector_stamp.specs.Order.{count_of, id_of, HasEightCounts, CountsNonePast, StampsRise, is_at_most, stamp_before, unordered};
+ghost use Rattle.vector_stamp.specs.Coherence.{AreCoherent};
+ghost use Rattle.vector_stamp.specs.Precedence.{Given, IsAcyclic};
+ghost use Rattle.vector_stamp.specs.Settling.{additions_from, pairs_of, SettledEntry};
+ghost use Rattle.weave_entries.specs.declared.message.Addressed.{Addressed};
+ghost use Rattle.weave_entries.specs.declared.message.Message.{Message};
+ghost use Rattle.weave_entries.specs.declared.gate_log.GateEntry.{GateEntry};
+ghost use Rattle.weave_entries.specs.declared.oracle_log.OracleEntry.{OracleEntry};
+ghost use Rattle.weave_entries.specs.declared.session_log.SessionEntry.{SessionEntry};
+ghost use Rattle.weave_entries.specs.GateReplay.{Begun, next_stamp, clock_after, clock_of, stamps_by, stamps_of, begun_by, begun_in, txs_of, programs_of, ended_by, ended_in, flight_after, flight_of, running_after, running_of, messages_by, to_shard, addressed_to, channel_of, sent_in, clocks_in};
+ghost use Rattle.weave_entries.specs.GateRules.{FitsAs, IsGateLog, HearsAs, HearsNoMore, HearsNonePast, BeginsEachOnce, CountsItsTicks, IsChannel, EndsEachOnce, EndsWhatItBegan};
+ghost use Rattle.weave_entries.specs.OracleReplay.{oracle_entry, settled_entry, pairs_of_entry, pairs_of_log};
+ghost use Rattle.weave_entries.specs.OracleRules.{IsRightEntry, IsOracleLog};
+ghost use Rattle.weave_entries.specs.Sending.{IsCountsOf};
+ghost use Rattle.weave_entries.specs.SessionReplay.{session_of, replied_count, begins_in, replied_in, has_begun_in, has_reply_in, IsSessionLog};
+ghost use Rattle.weave_entries.specs.StoreReplay.{Commit};
+ghost use Rattle.weave_entries.specs.StoreRule.{verdict_on};
+
+use vector_stamp::laws::{
+    clocks_keep_the_laws, no_cycle_arises, settling_puts_all_before, stamps_are_ordered,
+};
+
+// Gatekeepers
+
+/// A log goes on with each entry that is right after those before it, and its beginnings are logs of the gatekeeper too.
+pub fn a_log_goes_on()
+    ensures at_first { (home shards : ℕ) → IsGateLog home shards [] }
+    ensures right { (home shards : ℕ) (log : List GateEntry) (entry : GateEntry)
+        → IsGateLog home shards log → FitsAs home shards log entry.author entry.deed
+        → IsGateLog home shards (log ++ entry ∷ []) }
+    ensures right_before { (home shards : ℕ) (log rest : List GateEntry)
+        → IsGateLog home shards (log ++ rest) → IsGateLog home shards log }
+    ensures hears { (home : ℕ) (log : List GateEntry) (entry : GateEntry)
+        → HearsNoMore home log → HearsAs home log entry.deed → HearsNoMore home (log ++ entry ∷ []) }
+{}
+
+/// With one more entry the replay of a log goes on by that entry's deed.
+pub fn the_replay_goes_on()
+    ensures clock { (home : ℕ) (log : List GateEntry) (entry : GateEntry)
+        → clock_of home (log ++ entry ∷ []) ≡ clock_after home (clock_of home log) entry.deed }
+    ensures flight { (log : List GateEntry) (entry : GateEntry)
+        → flight_of (log ++ entry ∷ []) ≡ flight_after (flight_of log) entry.author entry.deed }
+    ensures running { (log : List GateEntry) (entry : GateEntry)
+        → running_of (log ++ entry ∷ []) ≡ running_after (running_of log) entry.author entry.deed }
+    ensures stamps { (log : List GateEntry) (entry : GateEntry)
+        → stamps_of (log ++ entry ∷ []) ≡ stamps_of log ++ stamps_by entry.deed }
+    ensures begun { (log : List GateEntry) (entry : GateEntry)
+        → begun_in (log ++ entry ∷ []) ≡ begun_in log ++ begun_by entry.author entry.deed }
+    ensures ended { (log : List GateEntry) (entry : GateEntry)
+        → ended_in (log ++ entry ∷ []) ≡ ended_in log ++ ended_by entry.deed }
+    ensures channel { (shard : ℕ) (log : List GateEntry) (entry : GateEntry)
+        → channel_of shard (log ++ entry ∷ []) ≡ channel_of shard log
+        ++ map (λ (addressed : Addressed). addressed.message) (to_shard shard (messages_by entry.deed)) }
+{}
+
+/// The clock never goes back. The stamps rise, are coherent and have their home. The own count is the number of the gatekeeper's ticks in its epoch.
+pub fn stamps_rise()
+    ensures rise { (home shards : ℕ) (log : List GateEntry) → home < 8 → IsGateLog home shards log
+        → StampsRise (stamps_of log) }
+    ensures under { (home shards : ℕ) (log : List GateEntry) → home < 8 → IsGateLog home shards log
+        → (stamp : Stamp) → Contains (stamps_of log) stamp → IsTrue (is_at_most stamp.clock (clock_of home log)) }
+    ensures homes { (home shards : ℕ) (log : List GateEntry) → home < 8 → IsGateLog home shards log
+        → (stamp : Stamp) → Contains (stamps_of log) stamp → stamp.home ≡ home }
+    ensures coherent { (home shards : ℕ) (log : List GateEntry) → home < 8 → IsGateLog home shards log
+        → AreCoherent (stamps_of log) }
+    ensures ticks { (home shards : ℕ) (log : List GateEntry) → home < 8 → IsGateLog home shards log
+        → CountsItsTicks home log }
+    ensures eight { (home shards : ℕ) (log : List GateEntry) → home < 8 → IsGateLog home shards log
+        → HasEightCounts (clock_of home log) }
+    ensures eight_each { (home shards : ℕ) (log : List GateEntry) → home < 8 → IsGateLog home shards log
+        → (stamp : Stamp) → Contains (stamps_of log) stamp → HasEightCounts stamp.clock }
+{
+    clocks_keep_the_laws();
+}
+
+/// The own count, and how many messages were sent to a shard, are at most the number of entries.
+pub fn counts_are_few()
+    ensures own { (home shards : ℕ) (log : List GateEntry) → home < 8 → IsGateLog home shards log
+        → count_of home (clock_of home log) ≤ length log }
+    ensures sent { (home shards shard : ℕ) (log : List GateEntry) → IsGateLog home shards log
+        → length (channel_of shard log) ≤ length log }
+{
+    clocks_keep_the_laws();
+}
+
+/// Each channel's numbers run from 1, and its stamps rise. Nothing is sent to a shard that isn't there.
+pub fn channels_rise()
+    ensures channel { (home shards shard : ℕ) (log : List GateEntry) → home < 8 → IsGateLog home shards log
+        → IsChannel shard log }
+    ensures beyond { (home shards shard : ℕ) (log : List GateEntry) → IsGateLog home shards log → shards ≤ shard
+        → channel_of shard log ≡ [] }
+{
+    clocks_keep_the_laws();
+}
+
+/// The stamp of each message on each channel is before that of the transaction in flight, and before the gatekeeper's next stamp.
+pub fn messages_come_before()
+    ensures flight { (home shards shard : ℕ) (log : List GateEntry) → home < 8 → IsGateLog home shards log
+        → (flight : Begun) → flight_of log ≡ Some flight
+        → (message : Message) → Contains (channel_of shard log) message
+        → IsTrue (stamp_before message.stamp flight.stamp) }
+    ensures next { (home shards shard : ℕ) (log : List GateEntry) → home < 8 → IsGateLog home shards log
+        → (message : Message) → Contains (channel_of shard log) message
+        → IsTrue (stamp_before message.stamp (next_stamp home (clock_of home log))) }
+{
+    clocks_keep_the_laws();
+}
+
+/// What was begun, the transaction in flight, the programs that are running and the messages that were sent have stamps that the gatekeeper made.
+pub fn stamps_are_its_own()
+    ensures begun { (log : List GateEntry) (begun : Begun) → Contains (begun_in log) begun
+        → Contains (stamps_of log) begun.stamp }
+    ensures flight { (log : List GateEntry) (flight : Begun) → flight_of log ≡ Some flight
+        → Contains (stamps_of log) flight.stamp }
+    ensures running { (log : List GateEntry) (program : Begun) → Contains (running_of log) program
+        → Contains (stamps_of log) program.stamp }
+    ensures sent { (home shards shard : ℕ) (log : List GateEntry) → IsGateLog home shards log
+        → (message : Message) → Contains (channel_of shard log) message → Contains (stamps_of log) message.stamp }
+{}
+
+/// A request is sent or finished after its begin, by the author of its begin, and at most once if no request is begun twice.
+pub fn requests_end()
+    ensures begun { (home shards : ℕ) (log : List GateEntry) → IsGateLog home shards log → EndsWhatItBegan log }
+    ensures once { (home shards : ℕ) (log : List GateEntry) → IsGateLog home shards log → BeginsEachOnce log
+        → EndsEachOnce log }
+{}
+
+/// The transaction in flight is the one that was begun and not sent. The programs that are running are those that were begun and not finished.
+pub fn what_has_not_ended_goes_on()
+    ensures flight { (home shards : ℕ) (log : List GateEntry) → IsGateLog home shards log → BeginsEachOnce log
+        → (tx : Begun) → (flight_of log ≡ Some tx) ↔ (Contains (txs_of log) tx × ¬ Contains (ended_in log) tx.request) }
+    ensures running { (home shards : ℕ) (log : List GateEntry) → IsGateLog home shards log → BeginsEachOnce log
+        → (program : Begun) → Contains (running_of log) program
+        ↔ (Contains (programs_of log) program × ¬ Contains (ended_in log) program.request) }
+{}
+
+/// The low mark of each message has eight counts. It is at most the message's stamp, and at most the stamp of each program that is running at the end of the log.
+pub fn low_marks_are_below()
+    ensures eight { (home shards shard : ℕ) (log : List GateEntry) → home < 8 → IsGateLog home shards log
+        → (message : Message) → Contains (channel_of shard log) message → HasEightCounts message.low }
+    ensures its_stamp { (home shards shard : ℕ) (log : List GateEntry) → home < 8 → IsGateLog home shards log
+        → (message : Message) → Contains (channel_of shard log) message
+        → IsTrue (is_at_most message.low message.stamp.clock) }
+    ensures running { (home shards shard : ℕ) (log : List GateEntry) → home < 8 → IsGateLog home shards log
+        → (message : Message) → Contains (channel_of shard log) message
+        → (program : Begun) → Contains (running_of log) program
+        → IsTrue (is_at_most message.low program.stamp.clock) }
+{
+    clocks_keep_the_laws();
+}
+
+/// No clock of a log counts an event of a gatekeeper past the first `gates`, if none that is heard there does.
+pub fn clocks_count_none_past()
+    ensures own { (gates home shards : ℕ) (log : List GateEntry) → home < gates → IsGateLog home shards log
+        → HearsNonePast gates home log → CountsNonePast gates (clock_of home log) }
+    ensures each { (gates home shards : ℕ) (log : List GateEntry) → home < gates → IsGateLog home shards log
+        → HearsNonePast gates home log
+        → (clock : Clock) → Contains (clocks_in log) clock → CountsNonePast gates clock }
+{
+    clocks_keep_the_laws();
+}
+
+// Sessions
+
+/// The requests of a session that have begun, and those that have their replies, are its first ones, in order. The stamps of its begins rise.
+pub fn sessions_go_in_turn()
+    ensures begun { (number : ℕ) (requests : List ℕ) (log : List SessionEntry) → IsSessionLog number requests log
+        → map (λ (begun : ℕ × Stamp). begun.0) (begins_in log) ≡ take (session_of requests log).begun requests }
+    ensures replied { (number : ℕ) (requests : List ℕ) (log : List SessionEntry) → IsSessionLog number requests log
+        → replied_in log ≡ take (replied_count (session_of requests log)) requests }
+    ensures rise { (number : ℕ) (requests : List ℕ) (log : List SessionEntry) → IsSessionLog number requests log
+        → StampsRise (map (λ (begun : ℕ × Stamp). begun.1) (begins_in log)) }
+{
+    stamps_are_ordered();
+}
+
+/// Whether a request of a session has begun or has its reply says whether it is among those.
+pub fn begun_and_replied_are_decided()
+    ensures begun { (request : ℕ) (log : List SessionEntry) → IsTrue (has_begun_in request log)
+        ↔ Contains (map (λ (begun : ℕ × Stamp). begun.0) (begins_in log)) request }
+    ensures replied { (request : ℕ) (log : List SessionEntry) → IsTrue (has_reply_in request log)
+        ↔ Contains (replied_in log) request }
+{}
+
+// The store
+
+/// A verdict counts the named vertices, in order of naming.
+pub fn verdicts_count_what_is_named()
+    ensures { (pairs : List Given) (commits : List Commit) (stamp : Stamp) (ops : List Op)
+        → IsCountsOf ops (verdict_on pairs commits stamp ops) }
+{}
+
+// The oracle
+
+/// The oracle's entries are those of a judge's log.
+pub fn oracle_entries_are_a_judges()
+    ensures there { (entry : SettledEntry) → settled_entry (oracle_entry entry) ≡ entry }
+    ensures back { (entry : OracleEntry) → oracle_entry (settled_entry entry) ≡ entry }
+{}
+
+/// An oracle's log goes on with each right entry, which adds the pairs of the oracle's rule; its beginnings are logs of an oracle too.
+pub fn an_oracle_log_goes_on()
+    ensures at_first { IsOracleLog [] }
+    ensures right { (log : List OracleEntry) (entry : OracleEntry) → IsOracleLog log
+        → IsRightEntry (pairs_of_log log) (settled_entry entry) → IsOracleLog (log ++ entry ∷ []) }
+    ensures right_before { (log rest : List OracleEntry) → IsOracleLog (log ++ rest) → IsOracleLog log }
+    ensures pairs { (log : List OracleEntry) (entry : OracleEntry)
+        → pairs_of_log (log ++ entry ∷ []) ≡ pairs_of_log log ++ pairs_of_entry (settled_entry entry) }
+    ensures added { (pairs : List Given) (entry : SettledEntry) → IsRightEntry pairs entry
+        → pairs_of_entry entry ≡ pairs_of (additions_from 0 pairs entry.earlier entry.later) entry.later }
+{
+    settling_puts_all_before();
+    no_cycle_arises();
+}
+
+/// No event precedes itself by the pairs of an oracle's log. Each pair is of two events that their stamps leave unordered.
+pub fn an_oracle_log_has_no_cycle()
+    ensures acyclic { (log : List OracleEntry) → IsOracleLog log → IsAcyclic (pairs_of_log log) }
+    ensures unordered { (log : List OracleEntry) → IsOracleLog log → (a b : Stamp) → Contains (pairs_of_log log) (a, b)
+        → IsTrue (unordered a b) }
+    ensures of_two { (log : List OracleEntry) → IsOracleLog log → (a b : Stamp) → Contains (pairs_of_log log) (a, b)
+        → id_of a ≢ id_of b }
+{
+    settling_puts_all_before();
+    no_cycle_arises();
+}
