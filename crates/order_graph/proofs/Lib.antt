@@ -1,5 +1,9 @@
 pub mod Lists
-pub mod Ways
-pub mod Steps
 pub mod Building
 pub mod Stamps
+pub mod Orders
+pub mod Chains
+pub mod Joining
+pub mod Frontiers
+pub mod Raising
+pub mod Adding

@@ -1,3 +1,4 @@
 pub mod Kept
 pub mod Building
-pub mod Searching
+pub mod Frontiers
+pub mod Chains

@@ -4,7 +4,7 @@ ghost use Rattle.std.specs.List.{list_all};
 ghost use Rattle.vector_stamp.specs.Order.{same_id, id_before};
 ghost use Rattle.vector_stamp.specs.Coherence.{AreCoherent, all_coherent, two_coherent};
 
-use crate::search::is_before;
+use crate::frontier::is_before;
 use vector_stamp::Stamp;
 use vector_stamp::laws::coherence_is_decided;
 

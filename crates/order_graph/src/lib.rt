@@ -3,10 +3,11 @@
 //! It keeps pairs, of an earlier event and a later one, and answers precedence exactly: what the pairs and the order of all stamps imply together. No event precedes itself. No pair is dropped or reversed.
 #![tactic(auto)]
 
+mod chain;
 mod coherence;
+mod frontier;
 mod graph;
 pub mod laws;
-mod search;
 #[cfg(test)]
 mod tests;
 

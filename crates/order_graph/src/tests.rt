@@ -44,14 +44,7 @@ fn events_in_turn(alloc: Global, number: usize) -> Result<Vec<Stamp>, Fail>
 }
 
 // Adds a pair of two of the events, under the condition of `add`.
-fn add(
-    rt: &impl Abort,
-    alloc: Global,
-    graph: &mut OrderGraph,
-    events: &[Stamp],
-    earlier: &Stamp,
-    later: &Stamp,
-)
+fn add(rt: &impl Abort, graph: &mut OrderGraph, events: &[Stamp], earlier: &Stamp, later: &Stamp)
     requires earlier { Contains events.now earlier.now }
     requires later { Contains events.now later.now }
     requires coherent { AreCoherent events.now }
@@ -60,7 +53,7 @@ fn add(
 {
     assert!(rt; earlier.id() != later.id());
     assert!(rt; earlier.clock.compare(&later.clock) == Relation::Unordered);
-    let back = graph.precedes(alloc, later, earlier).expect(rt, "memory");
+    let back = graph.precedes(later, earlier).expect(rt, "memory");
     if back {
         panic!(rt; "the later event precedes the earlier one");
     }
@@ -68,20 +61,13 @@ fn add(
 }
 
 // Whether one of the events precedes another.
-fn precedes(
-    rt: &impl Abort,
-    alloc: Global,
-    graph: &OrderGraph,
-    events: &[Stamp],
-    a: &Stamp,
-    b: &Stamp,
-) -> bool
+fn precedes(rt: &impl Abort, graph: &OrderGraph, events: &[Stamp], a: &Stamp, b: &Stamp) -> bool
     requires a { Contains events.now a.now }
     requires b { Contains events.now b.now }
     requires coherent { AreCoherent events.now }
     requires known { (stamp : Stamp) → Contains (ends_of graph.now.pairs) stamp → Contains events.now stamp }
 {
-    graph.precedes(alloc, a, b).expect(rt, "memory")
+    graph.precedes(a, b).expect(rt, "memory")
 }
 
 #[test]
@@ -94,20 +80,30 @@ fn chain_of_200_pairs(rt: HostRuntime) -> Result<(), Fail> {
     let mut graph = OrderGraph::new(alloc);
     graph.reserve(200)?;
     for place in 0..199 {
-        add(
-            &rt,
-            alloc,
-            &mut graph,
-            events,
-            &events[place],
-            &events[place + 1],
-        );
+        add(&rt, &mut graph, events, &events[place], &events[place + 1]);
     }
     assert!(rt; events[0].clock.compare(&events[200].clock) == Relation::Unordered);
-    assert!(rt; !precedes(&rt, alloc, &graph, events, &events[0], &events[200]));
-    add(&rt, alloc, &mut graph, events, &events[199], &events[200]);
-    let graph = graph.duplicate(alloc)?;
-    assert!(rt; precedes(&rt, alloc, &graph, events, &events[0], &events[200]));
-    assert!(rt; !precedes(&rt, alloc, &graph, events, &events[200], &events[0]));
+    assert!(rt; !precedes(&rt, &graph, events, &events[0], &events[200]));
+    add(&rt, &mut graph, events, &events[199], &events[200]);
+    assert!(rt; precedes(&rt, &graph, events, &events[0], &events[200]));
+    assert!(rt; !precedes(&rt, &graph, events, &events[200], &events[0]));
+    Ok(())
+}
+
+// The last pair first: so each event is put before those that are there, and each pair leads on to all of them.
+#[test]
+fn chain_built_from_its_end(rt: HostRuntime) -> Result<(), Fail> {
+    let alloc = rt.alloc();
+    let events = events_in_turn(alloc, 100)?;
+    let events = events.as_slice();
+    assert_eq!(rt; events.len(), 100);
+    assert!(rt; are_coherent(events));
+    let mut graph = OrderGraph::new(alloc);
+    for number in 0..99 {
+        let place = 98 - number;
+        add(&rt, &mut graph, events, &events[place], &events[place + 1]);
+    }
+    assert!(rt; precedes(&rt, &graph, events, &events[0], &events[99]));
+    assert!(rt; !precedes(&rt, &graph, events, &events[99], &events[0]));
     Ok(())
 }

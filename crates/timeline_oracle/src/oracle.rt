@@ -3,7 +3,7 @@ ghost use Rattle.std.specs.Prelude.{◌≡◌, []};
 ghost use Rattle.vector_stamp.specs.Precedence.{IsAcyclic};
 ghost use Rattle.timeline_oracle.specs.Log.{pairs_of_log, IsOracleLog};
 
-use crate::settling::{entry_of, first_refused, put_before};
+use crate::settling::{copy_places, entry_of, first_refused, put_before, room_for};
 use order_graph::OrderGraph;
 use order_graph::laws::ends_are_of_pairs;
 use std::alloc::Global;
@@ -55,7 +55,7 @@ impl Oracle {
     }
 }
 
-/// A call makes at most two searches for each earlier event, each in time by the square of the number of pairs and in memory by that number.
+/// A call asks the graph at most twice for each earlier event, which takes no memory. It takes the memory for all that it may add before it adds anything.
 impl Judge for Oracle {
     ghost use Rattle.std.specs.Prelude.{map, true};
     ghost use Rattle.order_graph.specs.Building.{ends_of};
@@ -82,7 +82,7 @@ impl Judge for Oracle {
     ) -> Result<Settled, Refusal> {
         settling_puts_all_before();
         ends_are_of_pairs();
-        if let Some(place) = first_refused(alloc, &self.graph, earlier, &later)? {
+        if let Some(place) = first_refused(&self.graph, earlier, &later) {
             return Err(Refusal::Precedes { place });
         }
         if !keep {
@@ -90,16 +90,23 @@ impl Judge for Oracle {
                 places: Items::new(alloc),
             });
         }
-        // The pairs are tried out on a copy: so nothing has changed where memory is wanted in the middle.
-        let mut graph = self.graph.duplicate(alloc)?;
-        let places = put_before(alloc, &mut graph, earlier, later)?;
-        if places.as_slice().is_empty() {
-            return Ok(Settled { places });
-        }
-        let entry = entry_of(alloc, author, earlier, later, &places)?;
+        // All memory is taken before the first pair is added: so nothing has changed if there is too little.
+        let mut places = room_for(alloc, earlier.len())?;
+        let mut logged = room_for(alloc, earlier.len())?;
+        let handed = Vec::from_slice(alloc, earlier)?;
         self.log.reserve(1)?;
-        self.log.push_reserved(entry);
-        self.graph = graph;
-        Ok(Settled { places })
+        self.graph.reserve(earlier.len())?;
+        put_before(&mut self.graph, earlier, later, &mut places);
+        if places.is_empty() {
+            return Ok(Settled {
+                places: Items::from_vec(places),
+            });
+        }
+        copy_places(places.as_slice(), &mut logged);
+        self.log
+            .push_reserved(entry_of(author, handed, later, logged));
+        Ok(Settled {
+            places: Items::from_vec(places),
+        })
     }
 }

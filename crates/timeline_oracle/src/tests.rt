@@ -130,3 +130,176 @@ fn settles(rt: HostRuntime) -> Result<(), Fail> {
     assert!(rt; is_entry(&log[1], 7, &[q], &z, &[0]));
     Ok(())
 }
+
+// The home of an event: the first and the last one are alone at their gatekeepers, and those between take turns at the six others.
+fn home_of(place: usize, last: usize) -> usize
+    ensures { result < 8 }
+{
+    if place == 0 {
+        return 0;
+    }
+    if place == last {
+        return 7;
+    }
+    (place - 1) % 6 + 1
+}
+
+// That many events of eight gatekeepers, none of which hears another: so the stamps of neighbours are unordered.
+fn events_in_turn(alloc: Global, number: usize) -> Result<Vec<Stamp>, Fail>
+    requires { 0 < number }
+{
+    let mut events = Vec::new(alloc);
+    for place in 0..number {
+        let home = home_of(place, number - 1);
+        let mut counts = [0; 8];
+        counts[home] = place as u64 / 6 + 1;
+        events.push(Stamp {
+            home: home as u32,
+            clock: Clock { epoch: 0, counts },
+        })?;
+    }
+    Ok(events)
+}
+
+// Settles one of the events before another, under the condition of `settle`.
+fn settle_one(
+    rt: &impl Abort,
+    alloc: Global,
+    oracle: &mut Oracle,
+    events: &[Stamp],
+    earlier: Stamp,
+    later: Stamp,
+    keep: bool,
+) -> Result<Settled, Refusal>
+    requires earlier { Contains events.now earlier }
+    requires later { Contains events.now later }
+    requires coherent { AreCoherent events.now }
+    requires known { (stamp : Stamp) → Contains (ends_of (pairs_of_log oracle.old)) stamp → Contains events.now stamp }
+    ensures { (stamp : Stamp) → Contains (ends_of (pairs_of_log oracle.new)) stamp → Contains events.now stamp }
+{
+    fewer_are_coherent();
+    let handed = [earlier];
+    if !are_others(&handed, &later, events) {
+        panic!(rt; "one event with itself");
+    }
+    oracle.settle(alloc, 1, &handed, later, keep)
+}
+
+// Each event is settled before the next one, and then the ends of the chain are asked.
+#[test]
+fn chain_of_10000_pairs(rt: HostRuntime) -> Result<(), Fail> {
+    let alloc = rt.alloc();
+    let events = events_in_turn(alloc, 10001)?;
+    let events = events.as_slice();
+    assert_eq!(rt; events.len(), 10001);
+    assert!(rt; are_coherent(events));
+    let mut oracle = Oracle::new(alloc);
+    for place in 0..10000 {
+        let (earlier, later) = (events[place], events[place + 1]);
+        let put = settle_one(&rt, alloc, &mut oracle, events, earlier, later, true);
+        assert!(rt; has_places(&put, &[0]));
+    }
+    let (first, last) = (events[0], events[10000]);
+    let back = settle_one(&rt, alloc, &mut oracle, events, last, first, true);
+    assert!(rt; is_refused_at(&back, 0));
+    let across = settle_one(&rt, alloc, &mut oracle, events, first, last, true);
+    assert!(rt; has_places(&across, &[]));
+    assert_eq!(rt; oracle.log().len(), 10000);
+    Ok(())
+}
+
+// Three earlier events of other gatekeepers: a pair for each that does not precede yet, and a refusal at each place.
+#[test]
+fn three_earlier_events(rt: HostRuntime) -> Result<(), Fail> {
+    let alloc = rt.alloc();
+    let a = stamp(0, 1, 0, 0);
+    let b = stamp(1, 0, 1, 0);
+    let c = stamp(2, 0, 0, 1);
+    let d = stamp(0, 2, 0, 0);
+    let e = stamp(1, 0, 2, 0);
+    let f = stamp(2, 0, 0, 2);
+    let late = Stamp {
+        home: 3,
+        clock: Clock {
+            epoch: 0,
+            counts: [0, 0, 0, 1, 0, 0, 0, 0],
+        },
+    };
+    let mut oracle = Oracle::new(alloc);
+    let mut kept = Vec::new(alloc);
+    let all = settle(
+        &rt,
+        alloc,
+        &mut oracle,
+        &mut kept,
+        1,
+        &[a, b, c],
+        late,
+        true,
+    );
+    assert!(rt; has_places(&all, &[0, 1, 2]));
+    let second = settle(
+        &rt,
+        alloc,
+        &mut oracle,
+        &mut kept,
+        2,
+        &[a, e, c],
+        late,
+        true,
+    );
+    assert!(rt; has_places(&second, &[1]));
+    let third = settle(
+        &rt,
+        alloc,
+        &mut oracle,
+        &mut kept,
+        3,
+        &[b, a, f],
+        late,
+        true,
+    );
+    assert!(rt; has_places(&third, &[2]));
+    let first = settle(
+        &rt,
+        alloc,
+        &mut oracle,
+        &mut kept,
+        4,
+        &[d, e, f],
+        late,
+        true,
+    );
+    assert!(rt; has_places(&first, &[0]));
+    let at_first = settle(
+        &rt,
+        alloc,
+        &mut oracle,
+        &mut kept,
+        5,
+        &[late, d, b],
+        a,
+        true,
+    );
+    assert!(rt; is_refused_at(&at_first, 0));
+    let at_second = settle(
+        &rt,
+        alloc,
+        &mut oracle,
+        &mut kept,
+        6,
+        &[b, late, c],
+        a,
+        true,
+    );
+    assert!(rt; is_refused_at(&at_second, 1));
+    let at_third = settle(&rt, alloc, &mut oracle, &mut kept, 7, &[b, c, d], a, true);
+    assert!(rt; is_refused_at(&at_third, 2));
+    let log = oracle.log();
+    assert_eq!(rt; log.len(), 4);
+    assert!(rt; is_entry(&log[0], 1, &[a, b, c], &late, &[0, 1, 2]));
+    assert!(rt; is_entry(&log[1], 2, &[a, e, c], &late, &[1]));
+    assert!(rt; is_entry(&log[2], 3, &[b, a, f], &late, &[2]));
+    assert!(rt; is_entry(&log[3], 4, &[d, e, f], &late, &[0]));
+    Ok(())
+}

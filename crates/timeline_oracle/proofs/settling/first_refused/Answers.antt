@@ -1,4 +1,4 @@
-use Rattle.std.proofs.Common.{◌<◌, ◌++◌, ◌∷◌, length, sym, ◌∙◌, arith}
+use Rattle.std.proofs.Common.{◌<◌, ◌++◌, ◌∷◌, length, sym, arith}
 use Rattle.std.proofs.lemmas.List.Elements.{Contains-get_or}
 use Rattle.vector_stamp.specs.Precedence.{precedes}
 use Rattle.order_graph.specs.Building.{ends_of}
@@ -6,16 +6,16 @@ use Rattle.timeline_oracle.proofs.Known.{among_asked}
 use Rattle.timeline_oracle.proofs.Places.{first_at, first_none}
 use Rattle.timeline_oracle.proofs.settling.first_refused.Goals as goal
 
-pub precedes-requires : goal.precedes-requires
-precedes-requires c =
+pub is_put_before-requires : goal.is_put_before-requires
+is_put_before-requires c =
     let below : c.loop-place.place < length c.args.earlier.now = omega arith in
     c.fewer_are_coherent.ensures _ (c.args.later.now ∷ c.args.earlier.now ++ ends_of c.args.graph.now.pairs) c.requires.coherent
     (among_asked c.args.graph.now.pairs c.args.earlier.now _ c.args.later.now (Contains-get_or c.args.earlier.now c.loop-place.place _ below))
 
-pub returns-then-branch : goal.returns-then-branch
-returns-then-branch c =
+pub returns-then-is_put_before : goal.returns-then-is_put_before
+returns-then-is_put_before c =
     let below : c.loop-place.place < length c.args.earlier.now = omega arith in
-    sym (first_at (precedes c.args.graph.now.pairs c.args.later.now) c.args.earlier.now c.loop-place.place _ below (λ k h. c.loop-place.invariant k _ h) (sym c.in_ok-precedes.ensures.exact ∙ c.if-branch.true))
+    sym (first_at (precedes c.args.graph.now.pairs c.args.later.now) c.args.earlier.now c.loop-place.place _ below (λ k h. c.loop-place.invariant k _ h) (sym c.if-is_put_before.ensures))
 
 pub returns : goal.returns
 returns c =

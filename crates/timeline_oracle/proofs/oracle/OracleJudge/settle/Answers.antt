@@ -1,42 +1,47 @@
-use Rattle.std.proofs.Common.{◌≡◌, ◌≢◌, ◌==◌, ℕ, List, [], ◌∷◌, ◌++◌, length, true, false, None, Contains, ◌⊎◌, sym, ◌∙◌, ap, subst, rules}
+use Rattle.std.proofs.Common.{◌≡◌, ◌≢◌, ◌==◌, ℕ, List, [], ◌∷◌, ◌++◌, length, true, false, None, Contains, ◌⊎◌, sym, ◌∙◌, ap, subst, arith}
+use Rattle.vector_stamp.specs.declared.clock.Stamp.{Stamp}
 use Rattle.vector_stamp.specs.Precedence.{Given}
-use Rattle.vector_stamp.specs.Settling.{refused_place, additions_from, additions, places_of, pairs_of}
+use Rattle.vector_stamp.specs.Settling.{refused_place, additions_from, additions, places_of, pairs_of, SettledEntry}
 use Rattle.weave_entries.specs.declared.oracle_log.OracleEntry.{OracleEntry}
 use Rattle.order_graph.specs.Building.{ends_of}
 use Rattle.timeline_oracle.specs.Log.{settled_entry, pairs_of_log, IsOracleLog}
 use Rattle.timeline_oracle.proofs.Known.{ends_after, ends_stay}
 use Rattle.timeline_oracle.proofs.Logs.{right_after, pairs_after}
 use Rattle.timeline_oracle.proofs.oracle.OracleJudge.settle.Goals as goal
-use Rattle.timeline_oracle.proofs.oracle.OracleJudge.settle.Goals.{After-drop-self-inside}
+use Rattle.timeline_oracle.proofs.oracle.OracleJudge.settle.Goals.{After-from_vec-2}
 
--- the pairs of the copy are those that the log tells
-kept : (c : After-drop-self-inside) → c.in_ok-graph.graph.pairs ≡ pairs_of_log c.self.inside.log.items
-kept c = c.in_ok-graph.ensures ∙ c.self.invariant.0
+-- the pairs before any is added are those that the log tells
+kept : (c : After-from_vec-2) → c.reserve-2.new.self.pairs ≡ pairs_of_log c.self.inside.log.items
+kept c = c.reserve-2.ensures.pairs ∙ c.self.invariant.0
 
-log_after : (c : After-drop-self-inside) → c.push_reserved.new.self.items ≡ c.self.inside.log.items ++ c.in_ok-entry.entry ∷ []
-log_after c = c.push_reserved.ensures.items ∙ ap (λ (log : List OracleEntry). log ++ c.in_ok-entry.entry ∷ []) c.reserve.ensures.items
+abbrev as_settled : ℕ → List Stamp → Stamp → List ℕ → SettledEntry
+as_settled author earlier later places = record { author = author; earlier = earlier; later = later; places = places }
 
-added : (c : After-drop-self-inside) → c.in_ok-places.places ≡ places_of (additions_from 0 (pairs_of_log c.self.inside.log.items) c.args.earlier.now c.args.later)
-added c = c.in_ok-places.ensures.places ∙ ap (λ (pairs : List Given). places_of (additions_from 0 pairs c.args.earlier.now c.args.later)) (kept c)
+log_after : (c : After-from_vec-2) → c.push_reserved.new.self.items ≡ c.self.inside.log.items ++ c.entry_of.result ∷ []
+log_after c = c.push_reserved.ensures.items ∙ ap (λ (log : List OracleEntry). log ++ c.entry_of.result ∷ []) c.reserve.ensures.items
 
-told : (c : After-drop-self-inside) → settled_entry c.in_ok-entry.entry ≡ record { author = c.args.author; earlier = c.args.earlier.now; later = c.args.later; places = c.in_ok-places.places }
-told c = c.in_ok-entry.ensures
+added : (c : After-from_vec-2) → c.put_before.new.places.items ≡ places_of (additions_from 0 (pairs_of_log c.self.inside.log.items) c.args.earlier.now c.args.later)
+added c = c.put_before.ensures.places ∙ ap (λ (pairs : List Given). places_of (additions_from 0 pairs c.args.earlier.now c.args.later)) (kept c)
 
-pairs_of_after : (c : After-drop-self-inside) → pairs_of_log c.push_reserved.new.self.items ≡ pairs_of_log c.self.inside.log.items ++ pairs_of (additions_from 0 (pairs_of_log c.self.inside.log.items) c.args.earlier.now c.args.later) c.args.later
+told : (c : After-from_vec-2) → settled_entry c.entry_of.result ≡ record { author = c.args.author; earlier = c.args.earlier.now; later = c.args.later; places = c.put_before.new.places.items }
+told c = c.entry_of.ensures ∙ ap (λ (earlier : List Stamp). as_settled c.args.author earlier c.args.later c.copy_places.new.copy.items) c.in_ok-handed.ensures.items ∙ ap (as_settled c.args.author c.args.earlier.now c.args.later) (c.copy_places.ensures ∙ c.as_slice.ensures.value)
+
+pairs_of_after : (c : After-from_vec-2) → pairs_of_log c.push_reserved.new.self.items ≡ pairs_of_log c.self.inside.log.items ++ pairs_of (additions_from 0 (pairs_of_log c.self.inside.log.items) c.args.earlier.now c.args.later) c.args.later
 pairs_of_after c =
     ap pairs_of_log (log_after c)
-    ∙ pairs_after c.settling_puts_all_before.ensures.in_place c.self.inside.log.items c.in_ok-entry.entry c.args.author c.args.earlier.now c.args.later c.in_ok-places.places (told c) (added c)
+    ∙ pairs_after c.settling_puts_all_before.ensures.in_place c.self.inside.log.items c.entry_of.result c.args.author c.args.earlier.now c.args.later c.put_before.new.places.items (told c) (added c)
+
+pub copy_places-requires-clause-room : goal.copy_places-requires-clause-room
+copy_places-requires-clause-room c = omega (arith, ap (length {A = ℕ}) c.as_slice.ensures.value, c.put_before.ensures.not_more, c.in_ok-logged.ensures.room)
 
 pub invariant_of-self-2 : goal.invariant_of-self-2
 invariant_of-self-2 c =
     let log = c.self.inside.log.items in
-    let none : c.in_ok-place.field-0 ≡ None = search rules in
     let permitted : refused_place (pairs_of_log log) c.args.earlier.now c.args.later ≡ None =
-    ap (λ (pairs : List Given). refused_place pairs c.args.earlier.now c.args.later) (sym c.self.invariant.0) ∙ sym c.in_ok-place.ensures ∙ none in
-    let not_empty : (length c.as_slice.result.now == 0) ≡ false = sym c.is_empty.ensures ∙ c.if-is_empty.false in
-    let some : c.in_ok-places.places ≢ [] = λ e. let both : true ≡ false = sym (ap (λ (xs : List ℕ). length xs == 0) (c.as_slice.ensures ∙ e)) ∙ not_empty in cc in
-    let right = right_after c.settling_puts_all_before.ensures.in_place log c.in_ok-entry.entry c.args.author c.args.earlier.now c.args.later c.in_ok-places.places c.self.invariant.1 (told c) c.requires.other_ids permitted (added c) some in (
-      c.in_ok-places.ensures.pairs ∙ ap (λ (pairs : List Given). pairs ++ pairs_of (additions_from 0 pairs c.args.earlier.now c.args.later) c.args.later) (kept c) ∙ sym (pairs_of_after c),
+    ap (λ (pairs : List Given). refused_place pairs c.args.earlier.now c.args.later) (sym c.self.invariant.0) ∙ sym c.first_refused.ensures ∙ c.in_default.is in
+    let some : c.put_before.new.places.items ≢ [] = λ e. let both : true ≡ false = sym (ap (λ (n : ℕ). n == 0) (c.put_before.new.places.ok.0 ∙ ap (length {A = ℕ}) e)) ∙ sym c.if-is_empty.ensures in cc in
+    let right = right_after c.settling_puts_all_before.ensures.in_place log c.entry_of.result c.args.author c.args.earlier.now c.args.later c.put_before.new.places.items c.self.invariant.1 (told c) c.requires.other_ids permitted (added c) some in (
+      c.put_before.ensures.pairs ∙ ap (λ (pairs : List Given). pairs ++ pairs_of (additions_from 0 pairs c.args.earlier.now c.args.later) c.args.later) (kept c) ∙ sym (pairs_of_after c),
       subst IsOracleLog (sym (log_after c)) right,
     )
 

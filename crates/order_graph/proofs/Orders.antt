@@ -1,0 +1,69 @@
+-- The order of stamps, with equal ones.
+use Rattle.std.proofs.Common.{◌≡◌, Bool, true, false, not, ◌&&◌, ◌||◌, ◌==◌, List, Contains, IsTrue, ◌⊎◌, inl, inr, sym, subst}
+use Rattle.std.proofs.lemmas.Bool.{or_cases, or_left, or_right, both_ways, eq-eqb}
+use Rattle.vector_stamp.specs.declared.clock.Stamp.{Stamp}
+use Rattle.vector_stamp.specs.Order.{stamp_before, same_stamp, id_before, are_apart}
+use Rattle.vector_stamp.specs.Coherence.{AreCoherent}
+use Rattle.vector_stamp.proofs.Orders.{before-trans, before-strict, same_stamp-is, same_stamp-refl}
+use Rattle.order_graph.specs.Frontiers.{at_or_before}
+
+-- what is cited of stamps and precedence
+pub record Laws : Type 0 where
+  pub before-trans : (a b c : Stamp) → IsTrue (stamp_before a b) → IsTrue (stamp_before b c) → IsTrue (stamp_before a c)
+  pub before-strict : (a : Stamp) → IsTrue (stamp_before a a) → ⊥
+  pub same_is : (a b : Stamp) → IsTrue (same_stamp a b) → a ≡ b
+  pub same_itself : (a : Stamp) → IsTrue (same_stamp a a)
+
+pub stamp_laws : Laws
+stamp_laws = record { before-trans = before-trans; before-strict = before-strict; same_is = same_stamp-is; same_itself = same_stamp-refl }
+
+-- two different stamps of coherent ones are apart
+abbrev pub AreApart : Type 0
+AreApart = (stamps : List Stamp) (a b : Stamp) → AreCoherent stamps → Contains stamps a → Contains stamps b → (a ≡ b → ⊥) → IsTrue (are_apart a b)
+
+module _ (laws : Laws) where
+  pub at_itself : (a : Stamp) → IsTrue (at_or_before a a)
+  at_itself a = or_left _ _ (laws.same_itself a)
+
+  pub at_from : (a b : Stamp) → IsTrue (stamp_before a b) → IsTrue (at_or_before a b)
+  at_from a b h = or_right (same_stamp a b) _ h
+
+  pub at_cases : (a b : Stamp) → IsTrue (at_or_before a b) → (a ≡ b) ⊎ IsTrue (stamp_before a b)
+  at_cases a b h = elim (or_cases (same_stamp a b) _ h) [ inl same ↦ inl (laws.same_is a b same) | inr before ↦ inr before ]
+
+  pub at_then : (a b c : Stamp) → IsTrue (at_or_before a b) → IsTrue (stamp_before b c) → IsTrue (stamp_before a c)
+  at_then a b c g h =
+      elim (at_cases a b g) [
+        | inl same ↦ subst (λ x. IsTrue (stamp_before x c)) (sym same) h
+        | inr before ↦ laws.before-trans a b c before h
+      ]
+
+  pub then_at : (a b c : Stamp) → IsTrue (stamp_before a b) → IsTrue (at_or_before b c) → IsTrue (stamp_before a c)
+  then_at a b c g h =
+      elim (at_cases b c h) [
+        | inl same ↦ subst (λ x. IsTrue (stamp_before a x)) same g
+        | inr before ↦ laws.before-trans a b c g before
+      ]
+
+  pub at-trans : (a b c : Stamp) → IsTrue (at_or_before a b) → IsTrue (at_or_before b c) → IsTrue (at_or_before a c)
+  at-trans a b c g h =
+      elim (at_cases b c h) [
+        | inl same ↦ subst (λ x. IsTrue (at_or_before a x)) same g
+        | inr before ↦ at_from a c (at_then a b c g before)
+      ]
+
+  -- of two coherent stamps of one gatekeeper, that are not in this order
+  pub not_at : AreApart → (stamps : List Stamp) → AreCoherent stamps → (a b : Stamp) → Contains stamps a → Contains stamps b → a.home ≡ b.home → at_or_before a b ≡ false → IsTrue (stamp_before b a)
+  not_at apart stamps all a b in_a in_b home fails =
+      let two : IsTrue (are_apart a b) = apart stamps a b all in_a in_b (λ same. both_ways _ fails (subst (λ x. IsTrue (at_or_before a x)) same (at_itself a))) in
+      elim (or_cases (not (a.home == b.home) || (id_before a b && stamp_before a b)) _ two) [
+        | inl first ↦ elim (or_cases (not (a.home == b.home)) _ first) [
+          | inl others ↦ absurd (let e = eq-eqb a.home b.home home in cc)
+          | inr before ↦ absurd (both_ways _ fails (at_from a b (and_second (id_before a b) _ before)))
+        ]
+        | inr after ↦ and_second (id_before b a) _ after
+      ]
+    where
+      and_second : (x y : Bool) → IsTrue (x && y) → IsTrue y
+      and_second true y h = h
+      and_second false y h = absurd (cc)
