@@ -17,7 +17,7 @@ use Rattle.program_defs.proofs.Members.{among-left, among-right, target-of}
 use Rattle.program_defs.proofs.Levels.{source-before, new-in-level, no-member}
 
 -- what is there was read
-read-there : (reads : List (Name × State)) (v : Name) → IsTrue (is_some (graph_read reads v)) → IsTrue (is_among (keys_of reads) v)
+pub read-there : (reads : List (Name × State)) (v : Name) → IsTrue (is_some (graph_read reads v)) → IsTrue (is_among (keys_of reads) v)
 read-there [] v h = cc
 read-there (read ∷ reads) v h = here (same_name read.0 v) refl (read-there reads v) h
   where

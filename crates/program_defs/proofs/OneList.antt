@@ -17,11 +17,12 @@ use Rattle.program_defs.proofs.Levels.{new-in-level}
 
 -- Names up to a target
 
-same-turned : (v w : Name) → same_name v w ≡ same_name w v
+-- sameness of names can be turned
+pub same-turned : (v w : Name) → same_name v w ≡ same_name w v
 same-turned = (eq_by_cmp_equiv nat_list_cmp_total).symm
 
 -- what comes after the target is left out
-cut-there : (target : Name) (xs more : List Name) → IsTrue (is_among xs target) → up_to target (xs ++ more) ≡ up_to target xs
+pub cut-there : (target : Name) (xs more : List Name) → IsTrue (is_among xs target) → up_to target (xs ++ more) ≡ up_to target xs
 cut-there target [] more h = cc
 cut-there target (x ∷ xs) more h = here (same_name target x) (subst (λ b. IsTrue (b || is_among xs target)) (same-turned x target) h) (cut-there target xs more)
   where
@@ -31,7 +32,7 @@ cut-there target (x ∷ xs) more h = here (same_name target x) (subst (λ b. IsT
     here false g rest = ap (λ ys. x ∷ ys) (rest g)
 
 -- and nothing is where it isn't there
-not-there : (target : Name) (xs more : List Name) → is_among xs target ≡ false → up_to target (xs ++ more) ≡ xs ++ up_to target more
+pub not-there : (target : Name) (xs more : List Name) → is_among xs target ≡ false → up_to target (xs ++ more) ≡ xs ++ up_to target more
 not-there target [] more h = refl
 not-there target (x ∷ xs) more h =
     let parts = or_parts (same_name x target) _ h in
@@ -41,7 +42,8 @@ not-there target (x ∷ xs) more h =
     here true g rest = cc
     here false g rest = ap (λ ys. x ∷ ys) rest
 
-first-there : (target x : Name) (xs : List Name) → IsTrue (is_among (up_to target (x ∷ xs)) x)
+-- the first name stays
+pub first-there : (target x : Name) (xs : List Name) → IsTrue (is_among (up_to target (x ∷ xs)) x)
 first-there target x xs = here (same_name target x)
   where
     here : (b : Bool) → IsTrue (is_among (if b then x ∷ [] else x ∷ up_to target xs) x)
@@ -57,7 +59,7 @@ module _ (graph : PlainGraph) (pass : Option Filter) (from : Name) where
       subst (λ m. (levels_to (suc m) graph pass from).level ≡ []) e
       (ap (λ level. as_set (not_among (through_level (suc (k + n)) graph pass from) (targets_of_all graph pass level))) (empty-after k n h))
 
-  nothing-more : (k n : ℕ) → (levels_to (suc n) graph pass from).level ≡ [] → through_level (k + n) graph pass from ≡ through_level n graph pass from
+  pub nothing-more : (k n : ℕ) → (levels_to (suc n) graph pass from).level ≡ [] → through_level (k + n) graph pass from ≡ through_level n graph pass from
   nothing-more zero n h = let e : 0 + n ≡ n = omega arith in ap (λ m. through_level m graph pass from) e
   nothing-more (suc k) n h =
       let e : suc k + n ≡ suc (k + n) = omega arith in
@@ -67,7 +69,7 @@ module _ (graph : PlainGraph) (pass : Option Filter) (from : Name) where
       ∙ nothing-more k n h
 
   -- more levels begin with these
-  goes-on : (k n : ℕ) → (more : List Name) × (through_level (k + n) graph pass from ≡ through_level n graph pass from ++ more)
+  pub goes-on : (k n : ℕ) → (more : List Name) × (through_level (k + n) graph pass from ≡ through_level n graph pass from ++ more)
   goes-on zero n = let e : 0 + n ≡ n = omega arith in ([], ap (λ m. through_level m graph pass from) e ∙ sym (append-nil (through_level n graph pass from)))
   goes-on (suc k) n =
       let e : suc k + n ≡ suc (k + n) = omega arith in
@@ -100,7 +102,7 @@ module _ (graph : PlainGraph) (pass : Option Filter) (from : Name) where
               absurd (both_ways _ new old)
 
 -- the list gone through to one level, where it is whole, is the one gone through to another
-visits-whole : (graph : PlainGraph) (program : Program) (n k : ℕ) → ((v : Name) → IsVisited graph program v → IsTrue (is_among (visits_to n graph program) v)) → visits_to (k + n) graph program ≡ visits_to n graph program
+pub visits-whole : (graph : PlainGraph) (program : Program) (n k : ℕ) → ((v : Name) → IsVisited graph program v → IsTrue (is_among (visits_to n graph program) v)) → visits_to (k + n) graph program ≡ visits_to n graph program
 visits-whole graph (Show v) n k whole = refl
 visits-whole graph (Reach from to pass) n k whole = reach-whole graph pass from to n k whole
 visits-whole graph (Around from bound pass) n k whole = refl

@@ -1,5 +1,5 @@
 -- The list of visits of a program: level by level, in byte order within a level. Levels are sets; there is no frontier.
-use Rattle.std.specs.Prelude.{ℕ, zero, suc, not, IsTrue, ◌≡◌, List, [], ◌∷◌, ◌++◌, length, Option, None, if◌then◌else◌}
+use Rattle.std.specs.Prelude.{ℕ, zero, suc, not, IsTrue, ◌≡◌, List, [], ◌∷◌, ◌++◌, length, map, Option, None, Some, if◌then◌else◌}
 use Rattle.std.specs.BTreeSet.{insert_key}
 use Rattle.std.specs.List.{filter, find}
 use Rattle.std.specs.Map.{keys_of}
@@ -80,3 +80,12 @@ graph_read (read ∷ reads) v = if same_name read.0 v then read.1 else graph_rea
 -- the first vertex not yet read in the list of visits of what was read. Each level after the start is reached from one of a vertex that was read, so there are no more of them than reads.
 abbrev pub next_visit : List (Name × State) → Program → Option Name
 next_visit reads program = find (λ v. not (is_among (keys_of reads) v)) (visits_to (length reads) (graph_read reads) program)
+
+-- the states that a graph has at these vertices
+abbrev pub states_at : PlainGraph → List Name → List (Name × State)
+states_at graph vertices = map (λ v. (v, graph v)) vertices
+
+-- the first of these names
+abbrev pub first_of : List Name → Option Name
+first_of [] = None
+first_of (v ∷ rest) = Some v

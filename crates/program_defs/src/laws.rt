@@ -1,13 +1,19 @@
 //! Laws of walks and visits.
 
-ghost use Rattle.std.specs.Prelude.{ℕ, List, Option, IsTrue, is_some, length, ◌↔◌, ◌≡◌};
+ghost use Rattle.std.specs.Prelude.{ℕ, List, Option, IsTrue, is_some, length, ◌↔◌, ◌≡◌, ◌++◌};
 ghost use Rattle.weave_data.specs.declared.name.Name.{Name};
 ghost use Rattle.graph_ops.specs.Mentions.{is_among};
 ghost use Rattle.graph_ops.specs.Operations.{State};
 ghost use Rattle.graph_ops.specs.PlainGraph.{PlainGraph};
 ghost use Rattle.program_defs.specs.declared.program.Filter.{Filter};
 ghost use Rattle.program_defs.specs.declared.program.Program.{Program};
-ghost use Rattle.program_defs.specs.Visits.{through_level, visits_to, graph_read, IsListOfVisits};
+ghost use Rattle.program_defs.specs.declared.program.Answer.{Answer};
+ghost use Rattle.program_defs.specs.declared.program.Program.TheVariants.{Reach, Around};
+ghost use Rattle.program_defs.specs.declared.program.Answer.TheVariants.{Reached, Found};
+ghost use Rattle.program_defs.specs.Searching.{SearchState, SameReached, HasSearched, next_of};
+ghost use Rattle.program_defs.specs.Agreement.{AgreeOnVisits};
+ghost use Rattle.program_defs.specs.PlainAnswer.{IsPlainAnswer};
+ghost use Rattle.program_defs.specs.Visits.{as_set, through_level, visits_to, graph_read, next_visit, states_at, first_of, IsListOfVisits};
 ghost use Rattle.program_defs.specs.Walks.{is_walk_within};
 
 /// A vertex that is there stands in the levels 0 to n exactly where a walk of at most n edges leads to it.
@@ -23,4 +29,28 @@ pub fn next_visit_misses_none()
 /// A program has one list of visits at most.
 pub fn list_of_visits_is_one()
     ensures { (graph : PlainGraph) (program : Program) (a b : List Name) → IsListOfVisits graph program a → IsListOfVisits graph program b → a ≡ b }
+{}
+
+/// A graph that has the same states at the vertices visited has the same list of visits and the same plain answer.
+pub fn only_visits_matter()
+    ensures visits { (g h : PlainGraph) (program : Program) (visits : List Name) → AgreeOnVisits g h program → IsListOfVisits g program visits → IsListOfVisits h program visits }
+    ensures answer { (g h : PlainGraph) (program : Program) → AgreeOnVisits g h program → (answer : Answer) → IsPlainAnswer g program answer → IsPlainAnswer h program answer }
+{}
+
+/// A program has one plain answer at most on a graph.
+pub fn plain_answer_is_one()
+    ensures { (graph : PlainGraph) (program : Program) (a b : Answer) → IsPlainAnswer graph program a → IsPlainAnswer graph program b → a ≡ b }
+{}
+
+/// The list of visits of a graph is found by asking for the next visit after what was read, again and again.
+pub fn visits_are_asked_for()
+    ensures { (graph : PlainGraph) (program : Program) (visits done rest : List Name) → IsListOfVisits graph program visits → visits ≡ done ++ rest → next_visit (states_at graph done) program ≡ first_of rest }
+{}
+
+/// What a search says of its program: the next visit, and the answers of `reach` and `around` over the states read.
+pub fn searches_are_right()
+    ensures next { (program : Program) (search : SearchState) (reads : List (Name × State)) → HasSearched program search reads → next_of search ≡ next_visit reads program }
+    ensures reach { (from to : Name) (pass : Option Filter) (search : SearchState) (reads : List (Name × State)) → HasSearched (Reach from to pass) search reads → IsPlainAnswer (graph_read reads) (Reach from to pass) (Reached (is_among search.present to)) }
+    ensures around { (from : Name) (bound : ℕ) (pass : Option Filter) (search : SearchState) (reads : List (Name × State)) → HasSearched (Around from bound pass) search reads → IsPlainAnswer (graph_read reads) (Around from bound pass) (Found (as_set search.present)) }
+    ensures same { (program : Program) (old new : SearchState) (reads : List (Name × State)) → SameReached old new → HasSearched program old reads → HasSearched program new reads }
 {}

@@ -1,11 +1,19 @@
 //! Programs, scripts and answers as plain data, and what a program answers on a plain graph.
 #![tactic(auto)]
 
+mod aim;
 pub mod laws;
+mod plain;
 mod program;
 mod script;
+mod search;
+mod targets;
 #[cfg(test)]
 mod tests;
 
+pub use aim::Aim;
+pub use plain::ask;
 pub use program::{Answer, Filter, Program};
 pub use script::{Request, Script, Step, Work};
+pub use search::Search;
+pub use targets::passes;

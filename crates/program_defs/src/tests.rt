@@ -1,6 +1,9 @@
-use crate::{Answer, Request, Script, Step, Work};
-use graph_ops::{Op, Record};
+ghost use Rattle.std.specs.Prelude.{◌<◌, ◌^◌, length};
+
+use crate::{Answer, Program, Request, Script, Step, Work, ask};
+use graph_ops::{Graph, Op, Record};
 use std::alloc::Global;
+use std::process::Abort;
 use std::test::Fail;
 use weave_data::{Copied, Items, Name, NameMap};
 
@@ -84,4 +87,159 @@ fn scripts_can_be_copied(rt: HostRuntime) -> Result<(), Fail> {
     assert!(rt; first_request(&copied) == Some((5, 1)));
     assert!(rt; copied.steps.is_some());
     Ok(())
+}
+
+fn named(rt: &impl Abort, text: &[u8]) -> Name {
+    Name::parse(text).expect(rt, "a name")
+}
+
+fn run(rt: &impl Abort, alloc: Global, graph: &mut Graph, ops: &[Op])
+    requires { length ops.now < 2 ^ 32 }
+{
+    let outcome = graph.run_tx(alloc, ops);
+    assert!(rt; outcome.is_ok());
+}
+
+fn link(rt: &impl Abort, alloc: Global, graph: &mut Graph, ends: &[u8; 4]) {
+    let v = named(rt, &ends[..1]);
+    let edge = named(rt, &ends[1..3]);
+    let target = named(rt, &ends[3..]);
+    run(rt, alloc, graph, &[Op::Link { v, edge, target }]);
+}
+
+fn delete(rt: &impl Abort, alloc: Global, graph: &mut Graph, v: &[u8]) {
+    let v = named(rt, v);
+    run(rt, alloc, graph, &[Op::Delete { v }]);
+}
+
+// Vertices a, b, c, d; edges a e1 c, a e2 b, a e3 b, b e1 d, c e1 d.
+fn diamond(rt: &impl Abort, alloc: Global) -> Graph {
+    let mut graph = Graph::new(alloc);
+    for text in [b"a", b"b", b"c", b"d"] {
+        let v = named(rt, text);
+        run(rt, alloc, &mut graph, &[Op::Create { v }]);
+    }
+    for ends in [b"ae1c", b"ae2b", b"ae3b", b"be1d", b"ce1d"] {
+        link(rt, alloc, &mut graph, ends);
+    }
+    graph
+}
+
+// The first letters of the answer's names; `+` and `-` for yes and no, `.` for no walk.
+fn letters(rt: &impl Abort, alloc: Global, graph: &Graph, program: &Program) -> Vec<u8> {
+    let answer = ask(alloc, graph, program).expect(rt, "memory");
+    let mut letters = Vec::new(alloc);
+    match &answer {
+        Answer::Shown(state) => letters
+            .push(if state.is_some() { b'+' } else { b'-' })
+            .expect(rt, "memory"),
+        Answer::Reached(yes) => letters
+            .push(if *yes { b'+' } else { b'-' })
+            .expect(rt, "memory"),
+        Answer::Walk(None) => letters.push(b'.').expect(rt, "memory"),
+        Answer::Found(names) | Answer::Walk(Some(names)) => {
+            for v in names.as_slice() {
+                letters
+                    .push(v.bytes().first().copied().expect(rt, "a letter"))
+                    .expect(rt, "memory");
+            }
+        }
+    }
+    letters
+}
+
+fn path(
+    rt: &impl Abort,
+    alloc: Global,
+    graph: &Graph,
+    from: &[u8],
+    to: &[u8],
+    bound: u32,
+) -> Vec<u8> {
+    let (from, to) = (named(rt, from), named(rt, to));
+    letters(
+        rt,
+        alloc,
+        graph,
+        &Program::Path {
+            from,
+            to,
+            bound,
+            pass: None,
+        },
+    )
+}
+
+fn reach(rt: &impl Abort, alloc: Global, graph: &Graph, from: &[u8], to: &[u8]) -> Vec<u8> {
+    let (from, to) = (named(rt, from), named(rt, to));
+    letters(
+        rt,
+        alloc,
+        graph,
+        &Program::Reach {
+            from,
+            to,
+            pass: None,
+        },
+    )
+}
+
+#[test]
+fn plain_answers(rt: HostRuntime) {
+    let alloc = rt.alloc();
+    let mut graph = diamond(&rt, alloc);
+    let a = named(&rt, b"a");
+    assert_eq!(rt;
+        path(&rt, alloc, &graph, b"a", b"d", 2).as_slice(),
+        b"abd".as_slice()
+    );
+    assert_eq!(rt;
+        path(&rt, alloc, &graph, b"a", b"d", 1).as_slice(),
+        b".".as_slice()
+    );
+    assert_eq!(rt;
+        path(&rt, alloc, &graph, b"x", b"d", 5).as_slice(),
+        b".".as_slice()
+    );
+    assert_eq!(rt;
+        path(&rt, alloc, &graph, b"a", b"y", 5).as_slice(),
+        b".".as_slice()
+    );
+    assert_eq!(rt;
+        path(&rt, alloc, &graph, b"a", b"a", 0).as_slice(),
+        b"a".as_slice()
+    );
+    let around = Program::Around {
+        from: a,
+        bound: 1,
+        pass: None,
+    };
+    assert_eq!(rt;
+        letters(&rt, alloc, &graph, &around).as_slice(),
+        b"abc".as_slice()
+    );
+    assert_eq!(rt;
+        letters(&rt, alloc, &graph, &Program::Show { v: a }).as_slice(),
+        b"+".as_slice()
+    );
+    delete(&rt, alloc, &mut graph, b"b");
+    assert_eq!(rt;
+        path(&rt, alloc, &graph, b"a", b"d", 2).as_slice(),
+        b"acd".as_slice()
+    );
+    delete(&rt, alloc, &mut graph, b"c");
+    assert_eq!(rt;
+        reach(&rt, alloc, &graph, b"a", b"d").as_slice(),
+        b"-".as_slice()
+    );
+    let b = named(&rt, b"b");
+    run(&rt, alloc, &mut graph, &[Op::Create { v: b }]);
+    assert_eq!(rt;
+        reach(&rt, alloc, &graph, b"a", b"b").as_slice(),
+        b"+".as_slice()
+    );
+    assert_eq!(rt;
+        reach(&rt, alloc, &graph, b"a", b"d").as_slice(),
+        b"-".as_slice()
+    );
 }

@@ -1,0 +1,95 @@
+-- A program's list of visits as the levels up to its target.
+use Rattle.std.proofs.Common.{append-nil, append_assoc, ◌≡◌, ℕ, zero, suc, ◌+◌, ◌-◌, ◌≤◌, Bool, true, false, List, [], ◌∷◌, ◌++◌, IsTrue, length, refl, sym, ap, subst, ◌∙◌, Option, Some, None, inl, inr, arith}
+use Rattle.weave_data.specs.Names.{same_name}
+use Rattle.weave_data.specs.declared.name.Name.{Name}
+use Rattle.graph_ops.specs.Mentions.{is_among}
+use Rattle.graph_ops.specs.Operations.{State}
+use Rattle.graph_ops.specs.PlainGraph.{PlainGraph}
+use Rattle.program_defs.specs.declared.program.Program.{Program}
+use Rattle.program_defs.specs.declared.program.Program.TheVariants.{Show, Reach, Around, Path}
+use Rattle.program_defs.specs.declared.aim.Aim.{Aim}
+use Rattle.program_defs.specs.Searching.{aim_of, IsLeft, IsFree}
+use Rattle.program_defs.specs.Visits.{levels_to, through_level, up_to, visits_to, graph_read}
+use Rattle.program_defs.specs.Walks.{is_value}
+use Rattle.program_defs.proofs.Members.{among-left}
+use Rattle.program_defs.proofs.NextVisit.{visits-of-reads}
+use Rattle.program_defs.proofs.OneList.{not-there, first-there, goes-on, visits-whole}
+use Rattle.program_defs.proofs.Sets.{head-in}
+use Rattle.program_defs.proofs.VisitsAgree.{up-to-only}
+
+-- the names up to the target, where there is one
+abbrev pub cut : Option Name → List Name → List Name
+cut None xs = xs
+cut (Some to) xs = up_to to xs
+
+pub cut-free : (target : Option Name) (xs ys : List Name) → IsFree target xs → cut target (xs ++ ys) ≡ xs ++ cut target ys
+cut-free None xs ys free = refl
+cut-free (Some to) xs ys free = not-there to xs ys free
+
+pub cut-only : (target : Option Name) (xs : List Name) (v : Name) → IsTrue (is_among (cut target xs) v) → IsTrue (is_among xs v)
+cut-only None xs v k = k
+cut-only (Some to) xs v k = up-to-only to xs v k
+
+pub cut-first : (target : Option Name) (x : Name) (xs : List Name) → IsTrue (is_among (cut target (x ∷ xs)) x)
+cut-first None x xs = head-in x xs
+cut-first (Some to) x xs = first-there to x xs
+
+-- it ends with the target
+pub cut-here : (target : Option Name) (x : Name) (xs : List Name) → is_value target x ≡ true → cut target (x ∷ xs) ≡ x ∷ []
+cut-here None x xs e = cc
+cut-here (Some to) x xs e = rw e refl
+
+-- the list of visits is that of some level from n on
+pub record IsCutAt (reads : List (Name × State)) (program : Program) (aim : Aim) (n : ℕ) : Type 0 where
+  pub last : ℕ
+  pub later : n ≤ last
+  pub is : visits_to (length reads) (graph_read reads) program ≡ cut aim.target (through_level last (graph_read reads) aim.pass aim.from)
+
+pub cut-at : (reads : List (Name × State)) (program : Program) (aim : Aim) (n : ℕ) (left : Option ℕ) → aim_of program ≡ Some aim → IsLeft aim.bound n left → IsCutAt reads program aim n
+cut-at reads (Show v) aim n left e l = cc
+cut-at reads (Reach from to pass) aim n left e l =
+    let is : record { from = from; target = Some to; bound = None; pass = pass } ≡ aim = cc in
+    subst (λ a. IsCutAt reads (Reach from to pass) a n) is (record {
+      last = n + length reads;
+      later = omega arith;
+      is = sym (visits-whole (graph_read reads) (Reach from to pass) (length reads) n (visits-of-reads reads (Reach from to pass)).whole);
+    })
+cut-at reads (Around from bound pass) aim n left e l =
+    let is : record { from = from; target = None; bound = Some bound; pass = pass } ≡ aim = cc in
+    subst (λ a. IsCutAt reads (Around from bound pass) a n) is (record { last = bound; later = within bound left (subst (λ a. IsLeft a.bound n left) (sym is) l); is = refl })
+  where
+    within : (bound : ℕ) (left : Option ℕ) → IsLeft (Some bound) n left → n ≤ bound
+    within bound None l = absurd l
+    within bound (Some k) l = omega (arith, l)
+cut-at reads (Path from to bound pass) aim n left e l =
+    let is : record { from = from; target = Some to; bound = Some bound; pass = pass } ≡ aim = cc in
+    subst (λ a. IsCutAt reads (Path from to bound pass) a n) is (record { last = bound; later = within bound left (subst (λ a. IsLeft a.bound n left) (sym is) l); is = refl })
+  where
+    within : (bound : ℕ) (left : Option ℕ) → IsLeft (Some bound) n left → n ≤ bound
+    within bound None l = absurd l
+    within bound (Some k) l = omega (arith, l)
+
+-- and no later one where the bound is reached
+pub cut-at-bound : (reads : List (Name × State)) (program : Program) (aim : Aim) (n : ℕ) → aim_of program ≡ Some aim → IsLeft aim.bound n (Some 0)
+    → visits_to (length reads) (graph_read reads) program ≡ cut aim.target (through_level n (graph_read reads) aim.pass aim.from)
+cut-at-bound reads (Show v) aim n e l = cc
+cut-at-bound reads (Reach from to pass) aim n e l =
+    let is : record { from = from; target = Some to; bound = None; pass = pass } ≡ aim = cc in
+    absurd (subst (λ a. IsLeft a.bound n (Some 0)) (sym is) l)
+cut-at-bound reads (Around from bound pass) aim n e l =
+    let is : record { from = from; target = None; bound = Some bound; pass = pass } ≡ aim = cc in
+    let here : 0 + n ≡ bound = subst (λ a. IsLeft a.bound n (Some 0)) (sym is) l in
+    let same : bound ≡ n = omega (arith, here) in
+    subst (λ a. visits_to (length reads) (graph_read reads) (Around from bound pass) ≡ cut a.target (through_level n (graph_read reads) a.pass a.from)) is (ap (λ m. through_level m (graph_read reads) pass from) same)
+cut-at-bound reads (Path from to bound pass) aim n e l =
+    let is : record { from = from; target = Some to; bound = Some bound; pass = pass } ≡ aim = cc in
+    let here : 0 + n ≡ bound = subst (λ a. IsLeft a.bound n (Some 0)) (sym is) l in
+    let same : bound ≡ n = omega (arith, here) in
+    subst (λ a. visits_to (length reads) (graph_read reads) (Path from to bound pass) ≡ cut a.target (through_level n (graph_read reads) a.pass a.from)) is (ap (λ m. up_to to (through_level m (graph_read reads) pass from)) same)
+
+-- the levels to a later one begin with those to this one
+pub begins : (graph : PlainGraph) (aim : Aim) (n last : ℕ) → n ≤ last → (more : List Name) × (through_level last graph aim.pass aim.from ≡ through_level n graph aim.pass aim.from ++ more)
+begins graph aim n last le =
+    let rest = goes-on graph aim.pass aim.from (last - n) n in
+    let e : last - n + n ≡ last = omega (arith, le) in
+    (rest.0, ap (λ k. through_level k graph aim.pass aim.from) (sym e) ∙ rest.1)

@@ -1,0 +1,26 @@
+use Rattle.std.proofs.Common.{sym, subst, refl}
+use Rattle.graph_ops.specs.Graphs.{plain_of}
+use Rattle.program_defs.specs.declared.program.Program.TheVariants.{Reach, Around}
+use Rattle.program_defs.specs.declared.program.Answer.TheVariants.{Reached, Found}
+use Rattle.graph_ops.specs.Mentions.{is_among}
+use Rattle.program_defs.specs.PlainAnswer.{IsPlainAnswer}
+use Rattle.program_defs.specs.Visits.{as_set}
+use Rattle.program_defs.proofs.Answering.{reach-answer, around-answer}
+use Rattle.program_defs.proofs.Asking.{answer-of-all}
+use Rattle.program_defs.proofs.plain.ask.Goals as goal
+
+pub returns-in_ok-search-in-Reach : goal.returns-in_ok-search-in-Reach
+returns-in_ok-search-in-Reach c =
+    let program = Reach c.in-Reach.from c.in-Reach.to c.in-Reach.pass in
+    let all = c.in_ok-search-in-Reach.ensures program refl in
+    subst (λ p. IsPlainAnswer (plain_of c.args.graph.now) p (Reached c.is_present.result)) (sym c.in-Reach.is)
+    (subst (λ b. IsPlainAnswer (plain_of c.args.graph.now) program (Reached b)) (sym c.is_present.ensures)
+    (answer-of-all program (plain_of c.args.graph.now) c.in_ok-search-in-Reach.search (Reached (is_among c.in_ok-search-in-Reach.search.present c.in-Reach.to)) all (reach-answer c.in-Reach.from c.in-Reach.to c.in-Reach.pass c.in_ok-search-in-Reach.search all.read.reads all.read.searched)))
+
+pub returns-in_ok-present-in-Around : goal.returns-in_ok-present-in-Around
+returns-in_ok-present-in-Around c =
+    let program = Around c.in-Around.from c.in-Around.bound c.in-Around.pass in
+    let all = c.in_ok-search-in-Around.ensures program refl in
+    subst (λ p. IsPlainAnswer (plain_of c.args.graph.now) p (Found c.in_ok-present-in-Around.field-0)) (sym c.in-Around.is)
+    (subst (λ vs. IsPlainAnswer (plain_of c.args.graph.now) program (Found vs)) (sym (c.in_ok-present-in-Around.ensures all.read.searched.found.once))
+    (answer-of-all program (plain_of c.args.graph.now) c.in_ok-search-in-Around.search (Found (as_set c.in_ok-search-in-Around.search.present)) all (around-answer c.in-Around.from c.in-Around.bound c.in-Around.pass c.in_ok-search-in-Around.search all.read.reads all.read.searched)))

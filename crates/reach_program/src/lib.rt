@@ -1,0 +1,8 @@
+//! The programs `reach` and `around`: a search level by level, fed with one state after the other.
+#![tactic(auto)]
+
+mod reach;
+#[cfg(test)]
+mod tests;
+
+pub use reach::{Goal, ReachProgram};

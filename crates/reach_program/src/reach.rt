@@ -1,0 +1,107 @@
+//! The programs `reach` and `around`.
+ghost use Rattle.std.specs.Prelude.{◌≡◌, ◌≤◌, [], Some, IfOk};
+ghost use Rattle.program_defs.specs.declared.program.Program.TheVariants.{Reach, Around};
+ghost use Rattle.reach_program.specs.Reaching.{program_of, HasReached, reads_left, next_reached};
+
+use graph_ops::{MOST_EDGES, Record};
+use node_program::NodeProgram;
+use program_defs::laws::searches_are_right;
+use program_defs::{Aim, Answer, Filter, Search};
+use std::alloc::{AllocError, Global};
+use weave_data::Name;
+
+/// What the program asks of the vertices that walks lead to.
+#[derive(Clone, Copy)]
+pub enum Goal {
+    /// Whether this one is among them.
+    To(Name),
+    /// Which they are, within this many edges.
+    Within(u32),
+}
+
+/// The programs `reach` and `around`.
+#[derive(Drop)]
+pub struct ReachProgram {
+    pub goal: Goal,
+    pub search: Search,
+}
+
+impl ReachProgram {
+    /// `reach`, before its first read. The one error is out of memory.
+    pub fn new(
+        alloc: Global,
+        from: Name,
+        to: Name,
+        pass: Option<Filter>,
+    ) -> Result<ReachProgram, AllocError>
+        ensures program { IfOk result (λ walk. ⟦<ReachProgram as NodeProgram>⟧.program walk ≡ Reach from to pass) }
+        ensures reads { IfOk result (λ walk. ⟦<ReachProgram as NodeProgram>⟧.has_read walk []) }
+    {
+        let aim = Aim {
+            from,
+            target: Some(to),
+            bound: None,
+            pass,
+        };
+        let search = Search::new(alloc, aim)?;
+        Ok(ReachProgram {
+            goal: Goal::To(to),
+            search,
+        })
+    }
+
+    /// `around`, before its first read. The one error is out of memory.
+    pub fn around(
+        alloc: Global,
+        from: Name,
+        bound: u32,
+        pass: Option<Filter>,
+    ) -> Result<ReachProgram, AllocError>
+        ensures program { IfOk result (λ walk. ⟦<ReachProgram as NodeProgram>⟧.program walk ≡ Around from bound pass) }
+        ensures reads { IfOk result (λ walk. ⟦<ReachProgram as NodeProgram>⟧.has_read walk []) }
+    {
+        let aim = Aim {
+            from,
+            target: None,
+            bound: Some(bound),
+            pass,
+        };
+        let search = Search::new(alloc, aim)?;
+        Ok(ReachProgram {
+            goal: Goal::Within(bound),
+            search,
+        })
+    }
+}
+
+impl NodeProgram for ReachProgram {
+    ghost program = { λ walk. program_of walk.goal walk.search.aim };
+
+    ghost has_read = { λ walk reads. HasReached walk.goal walk.search reads };
+
+    ghost next = { λ walk. next_reached walk.search };
+
+    ghost spare = { λ walk. reads_left walk.search };
+
+    fn next_vertex(&self) -> Option<Name> {
+        searches_are_right();
+        self.search.next()
+    }
+
+    fn ready(&mut self) -> Result<(), AllocError> {
+        searches_are_right();
+        self.search.reserve(MOST_EDGES + 1)
+    }
+
+    fn see(&mut self, state: Option<Record>) {
+        self.search.see(state.as_ref());
+    }
+
+    fn outcome(&self, _alloc: Global) -> Result<Answer, AllocError> {
+        searches_are_right();
+        match self.goal {
+            Goal::To(to) => Ok(Answer::Reached(self.search.is_present(to))),
+            Goal::Within(_) => Ok(Answer::Found(self.search.present()?)),
+        }
+    }
+}
