@@ -1,17 +1,14 @@
 -- What a channel has sent: a list, numbered from 1.
-use Rattle.std.specs.Prelude.{ℕ, ◌-◌, ◌==◌, List, length, slice_get, Option, None, IsTrue, AllPairs, if◌then◌else◌}
+use Rattle.std.specs.Prelude.{ℕ, ◌-◌, ◌==◌, List, length, slice_get, Option, None, IsTrue, if◌then◌else◌}
 use Rattle.std.specs.Option.{ForSome}
 use Rattle.vector_stamp.specs.declared.clock.Stamp.{Stamp}
 use Rattle.vector_stamp.specs.Order.{stamp_before}
+pub use Rattle.vector_stamp.specs.Order.{StampsRise}
 
 -- what was sent, in order, and how many more messages there is room for
 pub record Channel (M : Type 0) : Type 0 where
   pub sent : List M
   pub spare : ℕ
-
--- each stamp is before each later one
-abbrev pub StampsRise : List Stamp → Type 0
-StampsRise stamps = AllPairs (λ a b. IsTrue (stamp_before a b)) stamps
 
 -- the stamp is after the last of these, where there is one
 abbrev pub IsAfterLast : Stamp → List Stamp → Type 0

@@ -1,0 +1,18 @@
+use Rattle.std.proofs.Common.{◌≡◌, ◌∷◌, length, IsTrue}
+use Rattle.vector_stamp.specs.Seeing.{seen_of}
+use Rattle.version_chain.specs.Chains.{stamps_of}
+use Rattle.version_chain.specs.Looks.{IsFront, LearnsOnly, ForgetsNone}
+use Rattle.version_chain.proofs.view.look_back.Given as goal
+
+abbrev pub invariant-loop-newest : goal.invariant-loop-newest
+invariant-loop-newest g l = record {
+  front : IsFront l.rest l.versions;
+  seen : seen_of (g.J.Judge.pairs l.fn.judge) l.program (stamps_of l.versions) ≡ seen_of (g.J.Judge.pairs l.fn.judge) l.program (stamps_of l.rest);
+  pairs : g.J.Judge.pairs l.judge ≡ g.J.Judge.pairs l.fn.judge;
+  log : IsTrue g.J.Judge.keeps_log → g.J.Judge.log_of l.judge ≡ g.J.Judge.log_of l.fn.judge;
+  known : LearnsOnly (l.program ∷ stamps_of l.versions) (g.J.Judge.known l.fn.judge) (g.J.Judge.known l.judge);
+  stays : ForgetsNone (g.J.Judge.known l.fn.judge) (g.J.Judge.known l.judge);
+}
+
+abbrev pub decreases-loop-newest : goal.decreases-loop-newest
+decreases-loop-newest g l = length l.rest

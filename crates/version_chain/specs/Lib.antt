@@ -1,0 +1,4 @@
+pub mod Chains
+pub mod Looks
+pub mod TestJudge
+pub mod Views

@@ -1,0 +1,134 @@
+//! A vertex's updates.
+ghost use Rattle.std.specs.Prelude.{◌≡◌, ◌≢◌, ◌+◌, ◌<◌, ◌≤◌, ◌∷◌, ◌++◌, ◌⊎◌, [], length, All, Contains, IsTrue, IfOk, OnOk, OnErr};
+ghost use Rattle.vector_stamp.specs.declared.clock.Stamp.{Stamp};
+ghost use Rattle.vector_stamp.specs.Order.{id_of};
+ghost use Rattle.vector_stamp.specs.Coherence.{AreCoherent};
+ghost use Rattle.vector_stamp.specs.Settling.{pairs_of};
+ghost use Rattle.version_chain.specs.declared.version.Version.{Version};
+ghost use Rattle.version_chain.specs.Chains.{ChainView, no_updates, update_count, stamps_of, newest_state, with_version, with_update, IsNextUpdate, KeepsOne};
+ghost use Rattle.version_chain.specs.Views.{view_of, put_before, entries_for, ReachesBack};
+
+use crate::version::{Version, updated};
+use crate::view::{View, look_back};
+use graph_ops::{Op, Record};
+use std::alloc::{AllocError, Global};
+use std::marker::Model;
+use vector_stamp::{Judge, Stamp};
+use weave_data::Copied;
+
+/// The updates of a vertex. Contracts see how many of the oldest versions were dropped, and of each one that is kept its stamp and the state after it.
+#[derive(Drop)]
+pub struct Chain {
+    pub(crate) dropped: u64,
+    pub(crate) versions: Vec<Version>,
+}
+
+impl Model for Chain {
+    ghost use Rattle.std.specs.Prelude.{◌+◌, ◌^◌, ◌<◌, ◌≤◌, length};
+    ghost use Rattle.version_chain.specs.Chains.{ChainView};
+
+    ghost Value = { ChainView };
+
+    ghost view = { λ c. record { dropped = c.dropped; kept = c.versions.items } };
+
+    ghost invariant = { λ c. (c.dropped + length c.versions.items < 2 ^ 64) × (1 ≤ c.dropped → 1 ≤ length c.versions.items) };
+}
+
+impl Chain {
+    /// A vertex without updates. It takes no memory.
+    pub fn new(alloc: Global) -> Chain
+        ensures { result ≡ no_updates }
+    {
+        Chain {
+            dropped: 0,
+            versions: Vec::new(alloc),
+        }
+    }
+
+    /// How many updates were applied.
+    pub fn count(&self) -> u64
+        ensures { result ≡ update_count self.now }
+    {
+        self.dropped + self.versions.len() as u64
+    }
+
+    /// How many versions are kept.
+    pub fn kept(&self) -> usize
+        ensures count { result ≡ length self.now.kept }
+        ensures base { KeepsOne self.now }
+    {
+        self.versions.len()
+    }
+
+    /// Applies an update: the operations of a transaction of this stamp, before which that many updates were applied. The one error is out of memory.
+    pub fn apply_update(
+        &mut self,
+        alloc: Global,
+        stamp: Stamp,
+        before: u64,
+        ops: &[Op],
+    ) -> Result<(), AllocError>
+        requires { IsNextUpdate self.old before ops.now }
+        ensures applied { OnOk result (self.new ≡ with_update stamp ops.now self.old) }
+        ensures refused { OnErr result (self.new ≡ self.old) }
+    {
+        let newest = newest_copy(alloc, self.versions.as_slice())?;
+        let state = updated(alloc, newest, ops)?;
+        self.versions.reserve(1)?;
+        self.versions.push_reserved(Version { stamp, state });
+        Ok(())
+    }
+
+    /// Takes the newest update back: the chain is as before it. It takes no memory.
+    pub fn take_back(&mut self)
+        requires kept { 1 ≤ length self.old.kept }
+        requires base { 1 ≤ self.old.dropped → 2 ≤ length self.old.kept }
+        ensures { (newest : Version) (chain : ChainView) → self.old ≡ with_version newest chain → self.new ≡ chain }
+    {
+        let _ = self.versions.pop();
+    }
+
+    /// What a program sees. From the newest version: one whose stamp is after the program's is skipped, one whose stamp is before it is seen, and for an unordered one the judge is asked to put it before the program: it is skipped if the judge refuses, and seen if not.
+    /// The one error is out of memory. It takes the time of the versions that it skips, and copies a record for each one that the judge is asked about or that is seen.
+    pub fn view_at<J: Judge>(
+        &self,
+        alloc: Global,
+        author: u32,
+        stamp: Stamp,
+        judge: &mut J,
+    ) -> Result<View, AllocError>
+        requires other_ids { All (λ update. id_of update ≢ id_of stamp) (stamps_of self.now.kept) }
+        requires coherent { AreCoherent (stamp ∷ stamps_of self.now.kept ++ J.known judge.old) }
+        requires base { ReachesBack stamp self.now }
+        ensures view { IfOk result (λ view. view ≡ view_of (J.pairs judge.old) stamp self.now) }
+        ensures base { IfOk result (λ view. 1 ≤ self.now.dropped → self.now.dropped < view.updates) }
+        ensures pairs { OnOk result (J.pairs judge.new
+            ≡ J.pairs judge.old ++ pairs_of (put_before (J.pairs judge.old) stamp self.now) stamp) }
+        ensures no_pair { OnErr result (J.pairs judge.new ≡ J.pairs judge.old) }
+        ensures known { (event : Stamp) → Contains (J.known judge.new) event
+            → Contains (J.known judge.old) event ⊎ Contains (stamp ∷ stamps_of self.now.kept) event }
+        ensures stay_known { (event : Stamp) → Contains (J.known judge.old) event → Contains (J.known judge.new) event }
+        ensures logged { OnOk result (IsTrue J.keeps_log
+            → J.log_of judge.new ≡ J.log_of judge.old ++ entries_for (J.pairs judge.old) author stamp self.now) }
+        ensures not_logged { OnErr result (IsTrue J.keeps_log → J.log_of judge.new ≡ J.log_of judge.old) }
+    {
+        look_back(
+            alloc,
+            author,
+            stamp,
+            judge,
+            self.dropped,
+            self.versions.as_slice(),
+        )
+    }
+}
+
+// A copy of the newest state.
+pub(crate) fn newest_copy(alloc: Global, versions: &[Version]) -> Result<Option<Record>, AllocError>
+    ensures { IfOk result (λ state. state ≡ newest_state versions.now) }
+{
+    let Some(newest) = versions.last() else {
+        return Ok(None);
+    };
+    newest.state.copy(alloc)
+}

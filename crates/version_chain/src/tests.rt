@@ -1,0 +1,313 @@
+ghost use Rattle.std.specs.Prelude.{◌≡◌, ◌≢◌, ◌<◌, ◌∷◌, ◌++◌, [], All, IsTrue};
+ghost use Rattle.vector_stamp.specs.declared.clock.Stamp.{Stamp};
+ghost use Rattle.vector_stamp.specs.Order.{id_of};
+ghost use Rattle.vector_stamp.specs.Precedence.{precedes};
+ghost use Rattle.graph_ops.specs.VertexOps.{none_refused};
+ghost use Rattle.std.specs.List.{flat_map};
+ghost use Rattle.vector_stamp.specs.Coherence.{AreCoherent};
+ghost use Rattle.version_chain.specs.Chains.{stamps_of};
+ghost use Rattle.version_chain.specs.TestJudge.{ends};
+
+use crate::chain::newest_copy;
+use crate::{Chain, Version, View};
+use graph_ops::{Name, Op, Record, apply_op};
+use std::alloc::{AllocError, Global};
+use std::marker::Model;
+use std::process::Abort;
+use std::test::Fail;
+use vector_stamp::{Clock, Judge, Refusal, Settled, Stamp, are_coherent};
+use weave_data::Items;
+
+// A judge for calls with one earlier event. It looks for paths as the definition does, and answers out of memory where it is told to.
+#[derive(Drop)]
+struct TestJudge {
+    pairs: Vec<(Stamp, Stamp)>,
+    is_full: bool,
+}
+
+impl Model for TestJudge {
+    ghost use Rattle.std.specs.Prelude.{List};
+    ghost use Rattle.vector_stamp.specs.Precedence.{Given};
+
+    ghost Value = { List Given };
+
+    ghost view = { λ j. j.pairs.items };
+}
+
+impl Judge for TestJudge {
+    ghost use Rattle.std.specs.Prelude.{[], false};
+    ghost use Rattle.std.specs.List.{flat_map};
+    ghost use Rattle.version_chain.specs.TestJudge.{ends, ends_joined};
+
+    ghost pairs = { λ judge. judge };
+
+    ghost known = { λ judge. flat_map ends judge };
+
+    ghost keeps_log = { false };
+
+    ghost log_of = { λ judge. [] };
+
+    ghost pairs_known = { ends_joined };
+
+    fn settle(
+        &mut self,
+        alloc: Global,
+        _author: u32,
+        earlier: &[Stamp],
+        later: Stamp,
+        keep: bool,
+    ) -> Result<Settled, Refusal> {
+        let Some((event, others)) = earlier.split_first() else {
+            return Err(Refusal::Memory);
+        };
+        if self.is_full || !others.is_empty() {
+            return Err(Refusal::Memory);
+        }
+        if leads(self.pairs.as_slice(), &later, event) {
+            return Err(Refusal::Precedes { place: 0 });
+        }
+        let mut places = Items::new(alloc);
+        if !keep || leads(self.pairs.as_slice(), event, &later) {
+            return Ok(Settled { places });
+        }
+        places.push(0)?;
+        self.pairs.reserve(1)?;
+        self.pairs.push_reserved((*event, later));
+        Ok(Settled { places })
+    }
+}
+
+// Whether the first stamp precedes the second one by the order of stamps and the pairs.
+fn leads(pairs: &[(Stamp, Stamp)], a: &Stamp, b: &Stamp) -> bool
+    ensures { result ≡ precedes pairs.now a.now b.now }
+{
+    let Some((pair, rest)) = pairs.split_first() else {
+        return a.is_before(b);
+    };
+    if leads(rest, a, b) {
+        return true;
+    }
+    let to_pair = *a == pair.0 || leads(rest, a, &pair.0);
+    let from_pair = pair.1 == *b || leads(rest, &pair.1, b);
+    to_pair && from_pair
+}
+
+fn stamp(home: u32, first: u64, second: u64, third: u64) -> Stamp {
+    Stamp {
+        home,
+        clock: Clock {
+            epoch: 0,
+            counts: [first, second, third, 0, 0, 0, 0, 0],
+        },
+    }
+}
+
+fn name(rt: &impl Abort, text: &str) -> Name {
+    Name::parse(text.as_bytes()).expect(rt, "no name")
+}
+
+fn passes(alloc: Global, mut state: Option<Record>, op: &Op) -> bool
+    ensures { IsTrue result → IsTrue (none_refused (op.now ∷ []) state) }
+{
+    apply_op(alloc, &mut state, op).is_ok()
+}
+
+// Applies an update of one operation, which must pass.
+fn apply(rt: &impl Abort, alloc: Global, chain: &mut Chain, stamp: Stamp, op: Op) {
+    let newest = newest_copy(alloc, chain.versions.as_slice()).expect(rt, "memory");
+    if !passes(alloc, newest, &op) {
+        panic!(rt; "refused");
+    }
+    let before = chain.count();
+    if before == u64::MAX {
+        panic!(rt; "too many");
+    }
+    chain
+        .apply_update(alloc, stamp, before, &[op])
+        .expect(rt, "memory");
+}
+
+fn stamps(rt: &impl Abort, alloc: Global, versions: &[Version]) -> Vec<Stamp>
+    ensures { result.items ≡ stamps_of versions.now }
+{
+    let mut stamps = Vec::new(alloc);
+    for version in versions {
+        stamps.push(version.stamp).expect(rt, "memory");
+    }
+    stamps
+}
+
+fn ends(rt: &impl Abort, alloc: Global, pairs: &[(Stamp, Stamp)]) -> Vec<Stamp>
+    ensures { result.items ≡ flat_map ends pairs.now }
+{
+    let mut stamps = Vec::new(alloc);
+    for pair in pairs {
+        stamps.push(pair.0).expect(rt, "memory");
+        stamps.push(pair.1).expect(rt, "memory");
+    }
+    stamps
+}
+
+fn are_others(events: &[Stamp], program: &Stamp, known: &[Stamp]) -> bool
+    requires { AreCoherent (program.now ∷ events.now ++ known.now) }
+    ensures { IsTrue result → All (λ event. id_of event ≢ id_of program.now) events.now }
+{
+    for event in events {
+        if event.id() == program.id() {
+            return false;
+        }
+    }
+    true
+}
+
+fn together(
+    rt: &impl Abort,
+    alloc: Global,
+    program: Stamp,
+    kept: &[Stamp],
+    known: &[Stamp],
+) -> Vec<Stamp>
+    ensures { result.items ≡ program ∷ kept.now ++ known.now }
+{
+    let mut all = Vec::new(alloc);
+    all.push(program).expect(rt, "memory");
+    all.extend_from_slice(kept).expect(rt, "memory");
+    all.extend_from_slice(known).expect(rt, "memory");
+    all
+}
+
+// A program's view, under the conditions of `view_at`.
+fn view(
+    rt: &impl Abort,
+    alloc: Global,
+    chain: &Chain,
+    program: Stamp,
+    judge: &mut TestJudge,
+) -> Result<View, AllocError> {
+    let kept = stamps(rt, alloc, chain.versions.as_slice());
+    let known = ends(rt, alloc, judge.pairs.as_slice());
+    let all = together(rt, alloc, program, kept.as_slice(), known.as_slice());
+    if chain.dropped != 0 || !are_coherent(all.as_slice()) {
+        panic!(rt; "not coherent");
+    }
+    if !are_others(kept.as_slice(), &program, known.as_slice()) {
+        panic!(rt; "the program is one of the updates");
+    }
+    chain.view_at(alloc, 7, program, judge)
+}
+
+// Whether the view is of a vertex with that many properties, `None` for absent, after so many updates.
+fn shows(
+    view: &Result<View, AllocError>,
+    props: Option<usize>,
+    updates: u64,
+    settled: bool,
+) -> bool {
+    match view {
+        Ok(view) => {
+            view.state.as_ref().map(|found| found.props.len()) == props
+                && view.updates == updates
+                && view.settled == settled
+        }
+        Err(_) => false,
+    }
+}
+
+fn set(rt: &impl Abort, v: Name, key: &str) -> Op {
+    Op::Set {
+        v,
+        key: name(rt, key),
+        value: v,
+    }
+}
+
+// Three updates, of gatekeepers 0, 1 and 2: the first makes the vertex, and each other gives it a property more.
+fn three_updates(rt: &impl Abort, alloc: Global, clocks: &[Stamp; 3]) -> Chain {
+    let v = name(rt, "v");
+    let mut chain = Chain::new(alloc);
+    apply(rt, alloc, &mut chain, clocks[0], Op::Create { v });
+    apply(rt, alloc, &mut chain, clocks[1], set(rt, v, "a"));
+    apply(rt, alloc, &mut chain, clocks[2], set(rt, v, "b"));
+    chain
+}
+
+fn judge_of(rt: &impl Abort, alloc: Global, pairs: &[(Stamp, Stamp)]) -> TestJudge {
+    TestJudge {
+        pairs: Vec::from_slice(alloc, pairs).expect(rt, "memory"),
+        is_full: false,
+    }
+}
+
+// Of a vertex with one update before the program, one unordered with it and one after it the program sees two, and the second is put before it. The second view adds nothing.
+#[test]
+fn an_unordered_update_is_seen(rt: HostRuntime) {
+    let alloc = rt.alloc();
+    let program = stamp(0, 2, 0, 0);
+    let clocks = [stamp(0, 1, 0, 0), stamp(1, 0, 1, 0), stamp(2, 3, 0, 1)];
+    let chain = three_updates(&rt, alloc, &clocks);
+    assert_eq!(rt; (chain.count(), chain.kept()), (3, 3));
+    let mut judge = judge_of(&rt, alloc, &[]);
+    let first = view(&rt, alloc, &chain, program, &mut judge);
+    assert!(rt; shows(&first, Some(1), 2, true));
+    assert!(rt; judge.pairs.as_slice() == [(clocks[1], program)].as_slice());
+    let again = view(&rt, alloc, &chain, program, &mut judge);
+    assert!(rt; shows(&again, Some(1), 2, false));
+    assert_eq!(rt; judge.pairs.len(), 1);
+}
+
+// An unordered update that the program precedes by a pair is skipped, and the one before it is seen.
+#[test]
+fn a_refused_update_is_skipped(rt: HostRuntime) {
+    let alloc = rt.alloc();
+    let program = stamp(0, 2, 0, 0);
+    let clocks = [stamp(0, 1, 0, 0), stamp(1, 0, 1, 0), stamp(2, 0, 0, 1)];
+    let chain = three_updates(&rt, alloc, &clocks);
+    let mut judge = judge_of(&rt, alloc, &[(program, clocks[2])]);
+    let seen = view(&rt, alloc, &chain, program, &mut judge);
+    assert!(rt; shows(&seen, Some(1), 2, true));
+    let mut refuses = judge_of(&rt, alloc, &[(program, clocks[1]), (clocks[1], clocks[2])]);
+    let before = view(&rt, alloc, &chain, program, &mut refuses);
+    assert!(rt; shows(&before, Some(0), 1, false));
+    assert_eq!(rt; refuses.pairs.len(), 2);
+}
+
+// A vertex without updates is absent, and so is one whose updates are all after the program. Out of memory leaves the judge as it was.
+#[test]
+fn nothing_is_seen(rt: HostRuntime) {
+    let alloc = rt.alloc();
+    let program = stamp(0, 1, 0, 0);
+    let clocks = [stamp(0, 2, 0, 0), stamp(1, 2, 1, 0), stamp(2, 2, 0, 1)];
+    let chain = three_updates(&rt, alloc, &clocks);
+    let mut judge = judge_of(&rt, alloc, &[]);
+    let empty = view(&rt, alloc, &Chain::new(alloc), program, &mut judge);
+    assert!(rt; shows(&empty, None, 0, false));
+    let later = view(&rt, alloc, &chain, program, &mut judge);
+    assert!(rt; shows(&later, None, 0, false));
+    judge.is_full = true;
+    let unordered = stamp(3, 0, 0, 0);
+    assert!(rt; view(&rt, alloc, &chain, unordered, &mut judge).is_ok());
+    let asked = Stamp {
+        home: 4,
+        clock: stamp(4, 3, 0, 0).clock,
+    };
+    assert!(rt; view(&rt, alloc, &chain, asked, &mut judge).is_err());
+    assert!(rt; judge.pairs.is_empty());
+}
+
+// What was taken back is gone, and another update can be applied in its place.
+#[test]
+fn an_update_is_taken_back(rt: HostRuntime) {
+    let alloc = rt.alloc();
+    let v = name(&rt, "v");
+    let clocks = [stamp(0, 1, 0, 0), stamp(0, 2, 0, 0), stamp(0, 3, 0, 0)];
+    let mut chain = three_updates(&rt, alloc, &clocks);
+    if chain.kept() == 0 || chain.dropped != 0 {
+        panic!(rt; "nothing is kept");
+    }
+    chain.take_back();
+    assert_eq!(rt; (chain.count(), chain.kept()), (2, 2));
+    apply(&rt, alloc, &mut chain, stamp(0, 4, 0, 0), Op::Delete { v });
+    let mut judge = judge_of(&rt, alloc, &[]);
+    let seen = view(&rt, alloc, &chain, stamp(0, 5, 0, 0), &mut judge);
+    assert!(rt; shows(&seen, None, 3, false));
+}

@@ -1,0 +1,150 @@
+//! What a program sees.
+ghost use Rattle.std.specs.Prelude.{◌≡◌, ◌≢◌, ◌<◌, ◌+◌, ◌^◌, length, ◌∷◌, ◌++◌, ◌⊎◌, [], not, All, Contains, IsTrue, Some, None, IfOk, OnOk, OnErr, if◌then◌else◌};
+ghost use Rattle.vector_stamp.specs.declared.clock.Stamp.{Stamp};
+ghost use Rattle.vector_stamp.specs.Order.{id_of};
+ghost use Rattle.vector_stamp.specs.Coherence.{AreCoherent};
+ghost use Rattle.vector_stamp.specs.Precedence.{precedes};
+ghost use Rattle.vector_stamp.specs.Seeing.{is_seen};
+ghost use Rattle.vector_stamp.specs.Settling.{additions_from, places_of, pairs_of, entries_of_call};
+ghost use Rattle.version_chain.specs.Chains.{stamps_of};
+ghost use Rattle.version_chain.specs.Looks.{read_of};
+ghost use Rattle.version_chain.specs.Views.{view_of, put_before, entries_for};
+
+use crate::version::Version;
+use graph_ops::Record;
+use std::alloc::{AllocError, Global};
+use vector_stamp::laws::{parts_and_unions_are_coherent, precedence_is_decided};
+use vector_stamp::{Judge, Refusal, Relation, Stamp};
+use weave_data::Copied;
+
+/// What a program sees of a vertex.
+#[derive(Drop)]
+pub struct View {
+    /// The state that it reads.
+    pub state: Option<Record>,
+    /// It is the state after that many of the vertex's updates.
+    pub updates: u64,
+    /// Whether the judge added a pair, which puts the last of these updates before the program.
+    pub settled: bool,
+}
+
+/// A version that a program sees.
+#[derive(Drop)]
+pub(crate) struct Seen {
+    pub state: Option<Record>,
+    pub settled: bool,
+}
+
+/// Looks at one version: the state if the program sees it, and `None` if it is skipped. An unordered one is seen unless the judge refuses to put it before the program.
+pub(crate) fn look<J: Judge>(
+    alloc: Global,
+    author: u32,
+    program: Stamp,
+    judge: &mut J,
+    version: &Version,
+) -> Result<Option<Seen>, AllocError>
+    requires other_id { id_of version.now.stamp ≢ id_of program }
+    requires coherent { AreCoherent (program ∷ version.now.stamp ∷ J.known judge.old) }
+    ensures seen { IfOk result (λ seen. seen ≡ (if is_seen (J.pairs judge.old) program version.now.stamp
+        then Some (record { state = version.now.state; settled = not (precedes (J.pairs judge.old) version.now.stamp program) })
+        else None)) }
+    ensures pairs { IfOk result (λ seen. J.pairs judge.new ≡ J.pairs judge.old
+        ++ pairs_of (additions_from 0 (J.pairs judge.old) (read_of seen version.now.stamp) program) program) }
+    ensures no_pair { OnErr result (J.pairs judge.new ≡ J.pairs judge.old) }
+    ensures known { (stamp : Stamp) → Contains (J.known judge.new) stamp
+        → Contains (J.known judge.old) stamp ⊎ Contains (program ∷ version.now.stamp ∷ []) stamp }
+    ensures stay_known { (stamp : Stamp) → Contains (J.known judge.old) stamp → Contains (J.known judge.new) stamp }
+    ensures logged { IfOk result (λ seen. IsTrue J.keeps_log → J.log_of judge.new ≡ J.log_of judge.old
+        ++ entries_of_call author (read_of seen version.now.stamp) program
+        (places_of (additions_from 0 (J.pairs judge.old) (read_of seen version.now.stamp) program))) }
+    ensures not_logged { OnErr result (IsTrue J.keeps_log → J.log_of judge.new ≡ J.log_of judge.old) }
+{
+    precedence_is_decided();
+    match version.stamp.clock.compare(&program.clock) {
+        Relation::After => Ok(None),
+        Relation::Before => Ok(Some(Seen {
+            state: version.state.copy(alloc)?,
+            settled: false,
+        })),
+        Relation::Unordered => ask(alloc, author, program, judge, version),
+    }
+}
+
+// Asks the judge to put an unordered version before the program. The state is copied first, so that nothing can fail after the judge added the pair.
+fn ask<J: Judge>(
+    alloc: Global,
+    author: u32,
+    program: Stamp,
+    judge: &mut J,
+    version: &Version,
+) -> Result<Option<Seen>, AllocError>
+    requires other_id { id_of version.now.stamp ≢ id_of program }
+    requires coherent { AreCoherent (program ∷ version.now.stamp ∷ J.known judge.old) }
+    ensures seen { IfOk result (λ seen. seen ≡ (if not (precedes (J.pairs judge.old) program version.now.stamp)
+        then Some (record { state = version.now.state; settled = not (precedes (J.pairs judge.old) version.now.stamp program) })
+        else None)) }
+    ensures pairs { IfOk result (λ seen. J.pairs judge.new ≡ J.pairs judge.old
+        ++ pairs_of (additions_from 0 (J.pairs judge.old) (read_of seen version.now.stamp) program) program) }
+    ensures no_pair { OnErr result (J.pairs judge.new ≡ J.pairs judge.old) }
+    ensures known { (stamp : Stamp) → Contains (J.known judge.new) stamp
+        → Contains (J.known judge.old) stamp ⊎ Contains (program ∷ version.now.stamp ∷ []) stamp }
+    ensures stay_known { (stamp : Stamp) → Contains (J.known judge.old) stamp → Contains (J.known judge.new) stamp }
+    ensures logged { IfOk result (λ seen. IsTrue J.keeps_log → J.log_of judge.new ≡ J.log_of judge.old
+        ++ entries_of_call author (read_of seen version.now.stamp) program
+        (places_of (additions_from 0 (J.pairs judge.old) (read_of seen version.now.stamp) program))) }
+    ensures not_logged { OnErr result (IsTrue J.keeps_log → J.log_of judge.new ≡ J.log_of judge.old) }
+{
+    let state = version.state.copy(alloc)?;
+    let earlier = [version.stamp];
+    match judge.settle(alloc, author, &earlier, program, true) {
+        Ok(put) => Ok(Some(Seen {
+            state,
+            settled: !put.places.as_slice().is_empty(),
+        })),
+        Err(Refusal::Precedes { .. }) => Ok(None),
+        Err(Refusal::Memory) => Err(AllocError),
+    }
+}
+
+/// Looks back from the newest version to the first one that the program sees. `dropped` versions are gone before those given.
+pub(crate) fn look_back<J: Judge>(
+    alloc: Global,
+    author: u32,
+    program: Stamp,
+    judge: &mut J,
+    dropped: u64,
+    versions: &[Version],
+) -> Result<View, AllocError>
+    requires other_ids { All (λ update. id_of update ≢ id_of program) (stamps_of versions.now) }
+    requires coherent { AreCoherent (program ∷ stamps_of versions.now ++ J.known judge.old) }
+    requires small { dropped + length versions.now < 2 ^ 64 }
+    ensures view { IfOk result (λ view. view
+        ≡ view_of (J.pairs judge.old) program (record { dropped = dropped; kept = versions.now })) }
+    ensures pairs { OnOk result (J.pairs judge.new ≡ J.pairs judge.old
+        ++ pairs_of (put_before (J.pairs judge.old) program (record { dropped = dropped; kept = versions.now })) program) }
+    ensures no_pair { OnErr result (J.pairs judge.new ≡ J.pairs judge.old) }
+    ensures known { (stamp : Stamp) → Contains (J.known judge.new) stamp
+        → Contains (J.known judge.old) stamp ⊎ Contains (program ∷ stamps_of versions.now) stamp }
+    ensures stay_known { (stamp : Stamp) → Contains (J.known judge.old) stamp → Contains (J.known judge.new) stamp }
+    ensures logged { OnOk result (IsTrue J.keeps_log → J.log_of judge.new ≡ J.log_of judge.old
+        ++ entries_for (J.pairs judge.old) author program (record { dropped = dropped; kept = versions.now })) }
+    ensures not_logged { OnErr result (IsTrue J.keeps_log → J.log_of judge.new ≡ J.log_of judge.old) }
+{
+    parts_and_unions_are_coherent();
+    let mut rest = versions;
+    while let Some((newest, older)) = rest.split_last() {
+        if let Some(seen) = look(alloc, author, program, judge, newest)? {
+            return Ok(View {
+                state: seen.state,
+                updates: dropped + rest.len() as u64,
+                settled: seen.settled,
+            });
+        }
+        rest = older;
+    }
+    Ok(View {
+        state: None,
+        updates: dropped,
+        settled: false,
+    })
+}

@@ -1,0 +1,70 @@
+//! The chains of a shard.
+ghost use Rattle.std.specs.Prelude.{◌≡◌, OnOk, OnErr, None, option_copied};
+ghost use Rattle.weave_data.specs.declared.name.Name.{Name};
+ghost use Rattle.version_graph.specs.Graphs.{chain_of, after_parts, AreNextUpdates};
+
+use crate::table::{Table, apply_all};
+use graph_ops::Part;
+use std::alloc::{AllocError, Global};
+use std::marker::Model;
+use vector_stamp::Stamp;
+use version_chain::Chain;
+use weave_data::Name;
+
+/// The chains of a shard's vertices, in the order of their first updates. Contracts see a finite map from names to chains, with those alone that have updates.
+#[derive(Drop)]
+pub struct VersionGraph {
+    table: Table,
+}
+
+impl Model for VersionGraph {
+    ghost use Rattle.std.specs.FinMap as map;
+    ghost use Rattle.version_graph.specs.Graphs.{Chains, coded_chain};
+    ghost use Rattle.version_graph.specs.Tables.{held};
+    ghost use Rattle.graph_ops.specs.Codes.{coded_name};
+
+    ghost Value = { Chains };
+
+    ghost coded = { map.code coded_name coded_chain };
+
+    ghost view = { λ g. held g.table.entries };
+}
+
+impl VersionGraph {
+    /// No vertex has updates. It takes no memory.
+    pub fn new(alloc: Global) -> VersionGraph
+        ensures { (v : Name) → chain_of result v ≡ None }
+    {
+        VersionGraph {
+            table: Table::new(alloc),
+        }
+    }
+
+    /// The chain of a vertex, or `None` if no update of it was applied.
+    pub fn chain(&self, v: Name) -> Option<&Chain>
+        ensures { option_copied result ≡ chain_of self.now v }
+    {
+        let Some(chain) = self.table.get(&v) else {
+            return None;
+        };
+        if chain.count() == 0 {
+            return None;
+        }
+        Some(chain)
+    }
+
+    /// Applies the parts of a transaction of this stamp, all or none. The one error is out of memory.
+    pub fn apply_parts(
+        &mut self,
+        alloc: Global,
+        stamp: Stamp,
+        parts: &[Part],
+    ) -> Result<(), AllocError>
+        requires { AreNextUpdates self.old parts.now }
+        ensures applied { OnOk result ((v : Name)
+            → chain_of self.new v ≡ after_parts stamp v (chain_of self.old v) parts.now) }
+        ensures refused { OnErr result (self.new ≡ self.old) }
+    {
+        apply_all(&mut self.table, alloc, stamp, parts)
+    }
+}

@@ -1,0 +1,11 @@
+//! The chains of all vertices of a shard.
+//!
+//! A `VersionGraph` takes the parts of a transaction all or none. Contracts see it as a finite map from names to chains, with those alone that have updates.
+#![tactic(auto)]
+
+mod graph;
+mod table;
+#[cfg(test)]
+mod tests;
+
+pub use graph::VersionGraph;
