@@ -9,10 +9,10 @@ use Rattle.vector_stamp.specs.Order.{stamp_before, same_stamp}
 use Rattle.vector_stamp.specs.Precedence.{Given, precedes}
 use Rattle.vector_stamp.proofs.Orders.{same_stamp-is}
 use Rattle.vector_stamp.proofs.Closure.{precedes-trans, precedes_stamps, precedes_pairs, precedes_read, contained_read, contained_head, contained_tail}
-use Rattle.weave_report.specs.declared.report.Report.{Report}
-use Rattle.weave_report.specs.declared.report.Reply.{Reply}
-use Rattle.weave_report.specs.declared.report.Pair.{Pair}
-use Rattle.weave_report.specs.Words.{is_some_and, are_both, stamp_at, given_by, given_pairs}
+use Rattle.report_rules.specs.declared.report.Report.{Report}
+use Rattle.report_rules.specs.declared.report.Reply.{Reply}
+use Rattle.report_rules.specs.declared.report.Pair.{Pair}
+use Rattle.report_rules.specs.Lookups.{is_some_and, are_both, stamp_at, given_by, given_pairs}
 use Rattle.order_witness.specs.Closure.{Test, IsTransitive, HasAllOf, IsClosureOf}
 use Rattle.order_witness.specs.Begun.{request_precedes, StampsDiffer, is_before_reply, stamp_in, stamps_lead, joins, pairs_lead}
 

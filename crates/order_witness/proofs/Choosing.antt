@@ -3,9 +3,9 @@ use Rattle.std.proofs.Common.{◌≡◌, ℕ, ◌+◌, ◌<◌, ◌≤◌, Bool,
 use Rattle.std.specs.Prelude.{nat_eq}
 use Rattle.std.proofs.lemmas.Bool.{and_parts, and_from, both_ways, or_cases, or_left, or_right, eq-eqb, ltb-true, ltb-false}
 use Rattle.std.proofs.lemmas.List.{take_more}
-use Rattle.weave_report.specs.declared.report.Report.{Report}
-use Rattle.weave_report.specs.Words.{is_in}
-use Rattle.weave_report.proofs.Lists.{all-append, all-map}
+use Rattle.report_rules.specs.declared.report.Report.{Report}
+use Rattle.report_rules.specs.Lookups.{is_in}
+use Rattle.proof_base.proofs.Lists.{all-append, all-map}
 use Rattle.order_witness.specs.Closure.{Test}
 use Rattle.order_witness.specs.Choices.{IsBest, is_better, is_free, home_at}
 

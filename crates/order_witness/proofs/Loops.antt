@@ -1,7 +1,7 @@
 -- A loop over the places of a clause: so far each fact holds, and the first that doesn't ends it.
 use Rattle.std.proofs.Common.{◌≡◌, ℕ, zero, suc, ◌+◌, ◌<◌, List, [], ◌∷◌, ◌++◌, length, take, get_or, refl, sym, ap, subst, arith}
-use Rattle.weave_report.specs.Facts.{Facts, AllHold, BreaksFirstAt, facts_after, facts_in_turn, facts_of_each}
-use Rattle.weave_report.proofs.FactsLaws.{holds_step, breaks_at, hold-append}
+use Rattle.proof_base.specs.Facts.{Facts, AllHold, BreaksFirstAt, facts_after, facts_in_turn, facts_of_each}
+use Rattle.proof_base.proofs.FactsLaws.{holds_step, breaks_at, hold-append}
 
 module _ {A : Type 0} (F : List A → A → Type 0) (xs : List A) (i : ℕ) (x : A) (lt : i < length xs) (so_far : AllHold (facts_in_turn F (take i xs))) (is : x ≡ get_or xs i x) where
   pub turn_step : F (take i xs) x → AllHold (facts_in_turn F (take (i + 1) xs))

@@ -6,12 +6,12 @@ use Rattle.std.proofs.lemmas.Bool.{cases_eq, cases_lt, eq-eqb, ne_eqb}
 use Rattle.graph_ops.specs.PlainGraph.{PlainGraph}
 use Rattle.program_defs.specs.declared.script.Script.{Script}
 use Rattle.program_defs.specs.declared.script.Request.{Request}
-use Rattle.weave_report.specs.declared.report.Report.{Report}
-use Rattle.weave_report.specs.declared.report.Reply.{Reply}
-use Rattle.weave_report.specs.declared.report.ReplyState.{ReplyState}
-use Rattle.weave_report.specs.declared.report.ReplyState.TheVariants.{Unbegun, Begun, Committed, Conflict, Refused, Finished}
-use Rattle.weave_report.specs.Words.{request_at}
-use Rattle.weave_report.specs.Replay.{graph_of_commits, graph_after_commit, the_only, requests_numbered}
+use Rattle.report_rules.specs.declared.report.Report.{Report}
+use Rattle.report_rules.specs.declared.report.Reply.{Reply}
+use Rattle.report_rules.specs.declared.report.ReplyState.{ReplyState}
+use Rattle.report_rules.specs.declared.report.ReplyState.TheVariants.{Unbegun, Begun, Committed, Conflict, Refused, Finished}
+use Rattle.report_rules.specs.Lookups.{request_at}
+use Rattle.report_rules.specs.Replay.{graph_of_commits, graph_after_commit, the_only, requests_numbered}
 use Rattle.order_witness.specs.Refusals.{IsRefusedOn, IsRefusedSo, Marks, IsMarkedOn, AreMarkedOn, refused_after, AreMarkedUpTo}
 
 one_number : (a b : ℕ) → Some a ≡ Some b → a ≡ b

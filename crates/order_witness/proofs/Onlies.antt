@@ -6,8 +6,8 @@ use Rattle.std.specs.Option.{option_eq, option_to_list}
 use Rattle.std.proofs.Math.Seq.{drop-cons}
 use Rattle.std.proofs.lemmas.List.{take-append-drop, map-append}
 use Rattle.std.proofs.lemmas.List.Elements.{filter-append}
-use Rattle.weave_report.specs.Words.{is_some_and}
-use Rattle.weave_report.specs.Replay.{the_only}
+use Rattle.report_rules.specs.Lookups.{is_some_and}
+use Rattle.report_rules.specs.Replay.{the_only}
 
 -- the comparison of the code, and the test of the definition
 pub compared : (o : Option ℕ) (n : ℕ) → option_eq eqb o (Some n) ≡ is_some_and (λ m. eqb m n) o

@@ -9,12 +9,12 @@ use Rattle.vector_stamp.specs.declared.clock.Stamp.{Stamp}
 use Rattle.vector_stamp.specs.Order.{stamp_before, id_before, are_apart}
 use Rattle.vector_stamp.specs.Precedence.{Precedes, ByStamps, precedes}
 use Rattle.program_defs.specs.declared.script.Script.{Script}
-use Rattle.weave_report.specs.declared.report.Report.{Report}
-use Rattle.weave_report.specs.declared.report.Reply.{Reply}
-use Rattle.weave_report.specs.Facts.{AllHold}
-use Rattle.weave_report.specs.RightReport.{replies_clause}
-use Rattle.weave_report.specs.PrintedOrder.{IsFree, IsOfLesserHome, IsNext, without_request, TakesAll}
-use Rattle.weave_report.specs.Words.{is_in, AreBoth, stamp_at, given_pairs, RequestPrecedes}
+use Rattle.report_rules.specs.declared.report.Report.{Report}
+use Rattle.report_rules.specs.declared.report.Reply.{Reply}
+use Rattle.proof_base.specs.Facts.{AllHold}
+use Rattle.report_rules.specs.RightReport.{replies_clause}
+use Rattle.report_rules.specs.PrintedOrder.{IsFree, IsOfLesserHome, IsNext, without_request, TakesAll}
+use Rattle.report_rules.specs.Lookups.{is_in, AreBoth, stamp_at, given_pairs, RequestPrecedes}
 use Rattle.order_witness.specs.Closure.{Test, IsTransitive}
 use Rattle.order_witness.specs.Begun.{NonePrecedesItself, request_precedes}
 use Rattle.order_witness.specs.Choices.{IsBest, begun_in, is_free, home_in, home_at}

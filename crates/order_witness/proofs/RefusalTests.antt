@@ -3,12 +3,12 @@ use Rattle.std.proofs.Common.{◌≡◌, ◌≤◌, ℕ, Bool, true, false, IsTr
 use Rattle.std.specs.Prelude.{nat_le}
 use Rattle.std.proofs.lemmas.Bool.{and_parts, and_from, leb-true}
 use Rattle.program_defs.specs.declared.script.Script.{Script}
-use Rattle.weave_report.specs.declared.report.Report.{Report}
-use Rattle.weave_report.specs.declared.report.ReplyState.{ReplyState}
-use Rattle.weave_report.specs.declared.report.ReplyState.TheVariants.{Unbegun, Begun, Committed, Conflict, Refused, Finished}
-use Rattle.weave_report.specs.Words.{commits}
-use Rattle.weave_report.specs.Replay.{graph_of_commits}
-use Rattle.weave_report.specs.RightReport.{IsRefusalInPlace, stands_among_commits}
+use Rattle.report_rules.specs.declared.report.Report.{Report}
+use Rattle.report_rules.specs.declared.report.ReplyState.{ReplyState}
+use Rattle.report_rules.specs.declared.report.ReplyState.TheVariants.{Unbegun, Begun, Committed, Conflict, Refused, Finished}
+use Rattle.report_rules.specs.Lookups.{commits}
+use Rattle.report_rules.specs.Replay.{graph_of_commits}
+use Rattle.report_rules.specs.RightReport.{IsRefusalInPlace, stands_among_commits}
 use Rattle.order_witness.specs.Refusals.{IsRefusedSo, Marks, refused_after, is_refusal_in_place}
 
 mark_holds : (mark : Bool) (Fact : Type 0) → mark ≡ true → Marks mark Fact → Fact

@@ -8,15 +8,15 @@ use Rattle.order_witness.proofs.SameRecords.{lists_tell, gots_tell}
 use Rattle.graph_ops.specs.PlainGraph.{PlainGraph, TxOutcome, graph_left}
 use Rattle.graph_ops.specs.declared.tx.Got.{Got}
 use Rattle.program_defs.specs.declared.script.Script.{Script}
-use Rattle.weave_report.specs.declared.report.Report.{Report}
-use Rattle.weave_report.specs.declared.report.ReplyState.TheVariants.{Committed}
-use Rattle.weave_report.specs.Facts.{AllHold, BreaksFirstAt}
-use Rattle.weave_report.specs.Replay.{IsTold, replay_from, graph_after}
-use Rattle.weave_report.specs.Words.{request_at}
+use Rattle.report_rules.specs.declared.report.Report.{Report}
+use Rattle.report_rules.specs.declared.report.ReplyState.TheVariants.{Committed}
+use Rattle.proof_base.specs.Facts.{AllHold, BreaksFirstAt}
+use Rattle.report_rules.specs.Replay.{OutcomeMatchesReply, replay_from, graph_after}
+use Rattle.report_rules.specs.Lookups.{request_at}
 use Rattle.order_witness.specs.Replayed.{ComesToReply, GivesAnswers, TellsOf}
 
 -- what committed replies tell are their answers
-pub told_answers : (outcome : TxOutcome) (number : ℕ) (answers : List Got) → IsTold outcome (Committed number answers) ≡ GivesAnswers outcome answers
+pub told_answers : (outcome : TxOutcome) (number : ℕ) (answers : List Got) → OutcomeMatchesReply outcome (Committed number answers) ≡ GivesAnswers outcome answers
 told_answers (Ok passed) number answers = refl
 told_answers (Err stopped) number answers = refl
 

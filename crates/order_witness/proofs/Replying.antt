@@ -7,12 +7,12 @@ use Rattle.std.proofs.lemmas.Bool.{and_parts, both_ways, cases_order, eqb-true, 
 use Rattle.vector_stamp.specs.declared.clock.Stamp.{Stamp}
 use Rattle.vector_stamp.specs.Order.{are_apart, own_count, stamp_before}
 use Rattle.program_defs.specs.declared.script.Script.{Script}
-use Rattle.weave_report.specs.declared.report.Report.{Report}
-use Rattle.weave_report.specs.declared.report.Reply.{Reply}
-use Rattle.weave_report.specs.Facts.{Facts, AllHold, facts_after}
-use Rattle.weave_report.specs.RightReport.{is_reply_in_place, stands_after, are_apart_where_begun, replies_clause}
-use Rattle.weave_report.specs.Words.{stamp_at}
-use Rattle.weave_report.proofs.Lists.{append-step}
+use Rattle.report_rules.specs.declared.report.Report.{Report}
+use Rattle.report_rules.specs.declared.report.Reply.{Reply}
+use Rattle.proof_base.specs.Facts.{Facts, AllHold, facts_after}
+use Rattle.report_rules.specs.RightReport.{is_reply_in_place, stands_after, are_apart_where_begun, replies_clause}
+use Rattle.report_rules.specs.Lookups.{stamp_at}
+use Rattle.proof_base.proofs.Lists.{append-step}
 use Rattle.order_witness.specs.Begun.{StampsDiffer}
 use Rattle.order_witness.proofs.Testing.{passes_at}
 

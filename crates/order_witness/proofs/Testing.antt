@@ -12,14 +12,14 @@ use Rattle.program_defs.specs.declared.script.Script.{Script}
 use Rattle.program_defs.specs.declared.script.Request.{Request}
 use Rattle.program_defs.specs.declared.script.Work.{Work}
 use Rattle.program_defs.specs.declared.script.Work.TheVariants.{Change, Look}
-use Rattle.weave_report.specs.declared.report.Report.{Report}
-use Rattle.weave_report.specs.declared.report.Reply.{Reply}
-use Rattle.weave_report.specs.declared.report.Pair.{Pair}
-use Rattle.weave_report.specs.declared.report.ReplyState.{ReplyState}
-use Rattle.weave_report.specs.declared.report.ReplyState.TheVariants.{Unbegun, Begun, Committed, Conflict, Refused, Finished}
-use Rattle.weave_report.specs.Meetings.{is_change}
-use Rattle.weave_report.specs.Words.{is_some_and, are_both, AreBoth, request_at, reply_at, stamp_at, same_session, names_vertex, work_names, number_of, is_committed, given_pairs, RequestPrecedes}
-use Rattle.weave_report.specs.RightReport.{IsListedInOrder, IsConflictInPlace, IsPairInPlace, MayBeLaterAt, is_committed_and_names}
+use Rattle.report_rules.specs.declared.report.Report.{Report}
+use Rattle.report_rules.specs.declared.report.Reply.{Reply}
+use Rattle.report_rules.specs.declared.report.Pair.{Pair}
+use Rattle.report_rules.specs.declared.report.ReplyState.{ReplyState}
+use Rattle.report_rules.specs.declared.report.ReplyState.TheVariants.{Unbegun, Begun, Committed, Conflict, Refused, Finished}
+use Rattle.program_defs.specs.Works.{is_change}
+use Rattle.report_rules.specs.Lookups.{is_some_and, are_both, AreBoth, request_at, reply_at, stamp_at, same_session, names_vertex, work_names, number_of, is_committed, given_pairs, RequestPrecedes}
+use Rattle.report_rules.specs.RightReport.{IsListedInOrder, IsConflictInPlace, IsPairInPlace, MayBeLaterAt, is_committed_and_names}
 use Rattle.order_witness.specs.Closure.{Test}
 use Rattle.order_witness.specs.Begun.{request_precedes, is_listed_in_order, is_conflict_in_place}
 use Rattle.order_witness.specs.Judgement.{has_no_program, has_few_operations, has_short_transactions}

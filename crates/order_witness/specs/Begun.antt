@@ -5,14 +5,14 @@ use Rattle.std.specs.Option.{option_and_then}
 use Rattle.vector_stamp.specs.declared.clock.Stamp.{Stamp}
 use Rattle.vector_stamp.specs.Order.{stamp_before}
 use Rattle.vector_stamp.specs.Precedence.{precedes}
-use Rattle.weave_report.specs.declared.report.Report.{Report}
-use Rattle.weave_report.specs.declared.report.Reply.{Reply}
-use Rattle.weave_report.specs.declared.report.Pair.{Pair}
-use Rattle.weave_report.specs.declared.report.ReplyState.{ReplyState}
-use Rattle.weave_report.specs.declared.report.ReplyState.TheVariants.{Conflict}
+use Rattle.report_rules.specs.declared.report.Report.{Report}
+use Rattle.report_rules.specs.declared.report.Reply.{Reply}
+use Rattle.report_rules.specs.declared.report.Pair.{Pair}
+use Rattle.report_rules.specs.declared.report.ReplyState.{ReplyState}
+use Rattle.report_rules.specs.declared.report.ReplyState.TheVariants.{Conflict}
 use Rattle.program_defs.specs.declared.script.Script.{Script}
-use Rattle.weave_report.specs.RightReport.{is_committed_and_names}
-use Rattle.weave_report.specs.Words.{is_some_and, are_both, number_of, same_session, names_vertex, stamp_at, given_pairs, RequestPrecedes}
+use Rattle.report_rules.specs.RightReport.{is_committed_and_names}
+use Rattle.report_rules.specs.Lookups.{is_some_and, are_both, number_of, same_session, names_vertex, stamp_at, given_pairs, RequestPrecedes}
 
 -- one request precedes another, both begun
 abbrev pub request_precedes : Report → ℕ → ℕ → Bool

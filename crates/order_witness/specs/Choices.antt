@@ -3,9 +3,9 @@ use Rattle.std.specs.Prelude.{◌≡◌, ◌≤◌, ℕ, Bool, true, false, not,
 use Rattle.std.specs.List.{list_any, AllByRecursion, filter_map}
 use Rattle.std.specs.Option.{option_map}
 use Rattle.vector_stamp.specs.declared.clock.Stamp.{Stamp}
-use Rattle.weave_report.specs.declared.report.Report.{Report}
-use Rattle.weave_report.specs.declared.report.Reply.{Reply}
-use Rattle.weave_report.specs.Words.{is_in, stamp_at}
+use Rattle.report_rules.specs.declared.report.Report.{Report}
+use Rattle.report_rules.specs.declared.report.Reply.{Reply}
+use Rattle.report_rules.specs.Lookups.{is_in, stamp_at}
 
 -- the begun requests of a list of replies
 abbrev pub begun_in : List Reply → List ℕ

@@ -5,10 +5,10 @@ use Rattle.program_defs.specs.declared.script.Script.{Script}
 use Rattle.program_defs.specs.declared.script.Request.{Request}
 use Rattle.program_defs.specs.declared.script.Work.{Work}
 use Rattle.program_defs.specs.declared.script.Work.TheVariants.{Change, Look}
-use Rattle.weave_report.specs.declared.report.Report.{Report}
-use Rattle.weave_report.specs.Facts.{Facts, AllHold, BreaksFirstAt}
-use Rattle.weave_report.specs.RightReport.{IsRightReport, BreaksFirst}
-use Rattle.weave_report.specs.Meetings.{is_change}
+use Rattle.report_rules.specs.declared.report.Report.{Report}
+use Rattle.proof_base.specs.Facts.{Facts, AllHold, BreaksFirstAt}
+use Rattle.report_rules.specs.RightReport.{IsRightReport, BreaksFirst}
+use Rattle.program_defs.specs.Works.{is_change}
 use Rattle.order_witness.specs.declared.judge.Judged.{Judged}
 use Rattle.order_witness.specs.declared.judge.Judged.TheVariants.{Yes, No}
 

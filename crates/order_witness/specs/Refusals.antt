@@ -5,13 +5,13 @@ use Rattle.graph_ops.specs.PlainGraph.{PlainGraph}
 use Rattle.graph_ops.specs.declared.op.Reason.{Reason}
 use Rattle.program_defs.specs.declared.script.Script.{Script}
 use Rattle.program_defs.specs.declared.script.Request.{Request}
-use Rattle.weave_report.specs.declared.report.Report.{Report}
-use Rattle.weave_report.specs.declared.report.Reply.{Reply}
-use Rattle.weave_report.specs.declared.report.ReplyState.{ReplyState}
-use Rattle.weave_report.specs.declared.report.ReplyState.TheVariants.{Refused}
-use Rattle.weave_report.specs.Words.{AreBoth, is_some_and, request_at, number_of, commits}
-use Rattle.weave_report.specs.Replay.{IsWorkRefused, graph_of_commits}
-use Rattle.weave_report.specs.RightReport.{stands_among_commits}
+use Rattle.report_rules.specs.declared.report.Report.{Report}
+use Rattle.report_rules.specs.declared.report.Reply.{Reply}
+use Rattle.report_rules.specs.declared.report.ReplyState.{ReplyState}
+use Rattle.report_rules.specs.declared.report.ReplyState.TheVariants.{Refused}
+use Rattle.report_rules.specs.Lookups.{AreBoth, is_some_and, request_at, number_of, commits}
+use Rattle.report_rules.specs.Replay.{IsWorkRefused, graph_of_commits}
+use Rattle.report_rules.specs.RightReport.{stands_among_commits}
 
 -- on this graph, where it is there, the request is refused at this operation for this reason
 abbrev pub IsRefusedOn : Option PlainGraph → Option Request → ℕ → Reason → Type 0

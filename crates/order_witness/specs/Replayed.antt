@@ -4,14 +4,14 @@ use Rattle.graph_ops.specs.PlainGraph.{PlainGraph, TxOutcome}
 use Rattle.graph_ops.specs.declared.tx.Got.{Got}
 use Rattle.program_defs.specs.declared.script.Script.{Script}
 use Rattle.program_defs.specs.declared.script.Request.{Request}
-use Rattle.weave_report.specs.declared.report.Report.{Report}
-use Rattle.weave_report.specs.declared.report.Reply.{Reply}
-use Rattle.weave_report.specs.Words.{AreBoth, request_at, reply_at}
-use Rattle.weave_report.specs.Replay.{ComesTo}
+use Rattle.report_rules.specs.declared.report.Report.{Report}
+use Rattle.report_rules.specs.declared.report.Reply.{Reply}
+use Rattle.report_rules.specs.Lookups.{AreBoth, request_at, reply_at}
+use Rattle.report_rules.specs.Replay.{MatchesReply}
 
 -- on this graph a request comes to what its reply says
 abbrev pub ComesToReply : PlainGraph → Script → Report → ℕ → Type 0
-ComesToReply graph script report r = AreBoth (λ (request : Request) (reply : Reply). ComesTo graph request.work reply.state) (request_at script r) (reply_at report r)
+ComesToReply graph script report r = AreBoth (λ (request : Request) (reply : Reply). MatchesReply graph request.work reply.state) (request_at script r) (reply_at report r)
 
 -- a transaction passed, and its `get`s read these states
 abbrev pub GivesAnswers : TxOutcome → List Got → Type 0

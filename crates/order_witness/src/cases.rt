@@ -2,11 +2,11 @@
 
 use graph_ops::{Got, Op, Reason, Record};
 use program_defs::{Request, Script, Work};
+use report_rules::{Pair, Reply, ReplyState, Report};
 use std::alloc::Global;
 use std::process::Abort;
 use vector_stamp::{Clock, Stamp};
 use weave_data::{Items, Name, NameMap};
-use weave_report::{Pair, Reply, ReplyState, Report};
 
 /// An operation on a vertex that has one letter.
 #[derive(Clone, Copy)]

@@ -1,7 +1,7 @@
 //! The clause on conflicts: the newer request is a committed transaction of another session, both name the vertex, and
 //! the aborted one precedes it.
 ghost use Rattle.std.specs.Prelude.{◌≡◌, ℕ};
-ghost use Rattle.weave_report.specs.RightReport as right;
+ghost use Rattle.report_rules.specs.RightReport as right;
 ghost use Rattle.order_witness.specs.Bits.{leads};
 ghost use Rattle.order_witness.specs.Begun.{request_precedes, is_conflict_in_place};
 ghost use Rattle.order_witness.specs.Judgement.{IsFirstFault};
@@ -10,7 +10,7 @@ use crate::pairs::is_committed_and_names;
 use crate::relation::Relation;
 use crate::words::{names_vertex, same_session};
 use program_defs::Script;
-use weave_report::{ReplyState, Report};
+use report_rules::{ReplyState, Report};
 
 /// The first reply line that breaks the clause, from 1.
 pub fn first_fault(script: &Script, report: &Report, precedence: &Relation) -> Option<u64>

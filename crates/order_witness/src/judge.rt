@@ -1,15 +1,15 @@
 //! The judge of reports.
 ghost use Rattle.std.specs.Prelude.{◌≡◌, ◌↔◌, ℕ, IsTrue, IfOk};
-ghost use Rattle.weave_report.specs.declared.report.Clause.{Clause};
-ghost use Rattle.weave_report.specs.RightReport.{BreaksFirst, IsRightReport};
+ghost use Rattle.report_rules.specs.declared.report.Clause.{Clause};
+ghost use Rattle.report_rules.specs.RightReport.{BreaksFirst, IsRightReport};
 ghost use Rattle.order_witness.specs.Judgement as judgement;
 
 use crate::precedence::precedence_of;
 use crate::{conflicts, listing, numbers, order, pairs, refusals, replay, replies};
 use program_defs::{Script, Work};
+use report_rules::laws::{right_report_breaks_nowhere, wrong_report_breaks_first_once};
+use report_rules::{Clause, Report};
 use std::alloc::{AllocError, Global};
-use weave_report::laws::{right_report_breaks_nowhere, wrong_report_breaks_first_once};
-use weave_report::{Clause, Report};
 
 /// Whether a report is right.
 #[derive(Clone, Copy, PartialEq, Eq, Debug)]

@@ -34,4 +34,4 @@ mod words;
 
 pub use judge::{Judged, has_no_program, has_short_transactions, judge_report};
 pub use printed::{has_order, order_of};
-pub use weave_report::Clause;
+pub use report_rules::Clause;

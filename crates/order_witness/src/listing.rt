@@ -1,12 +1,12 @@
 //! The clause on listing: the order lists each committed transaction and each finished program once, and nothing else.
 ghost use Rattle.std.specs.Prelude.{◌≡◌, ◌&&◌, not, IsTrue};
-ghost use Rattle.weave_report.specs.Facts.{facts_in_turn};
-ghost use Rattle.weave_report.specs.RightReport as right;
-ghost use Rattle.weave_report.specs.Words as told;
+ghost use Rattle.proof_base.specs.Facts.{facts_in_turn};
+ghost use Rattle.report_rules.specs.RightReport as right;
+ghost use Rattle.report_rules.specs.Lookups as told;
 ghost use Rattle.order_witness.specs.Judgement.{IsFirstFault};
 
 use crate::words::{is_committed_or_finished, may_be_listed};
-use weave_report::Report;
+use report_rules::Report;
 
 /// The first place in the order that repeats an earlier one or may not be listed, from 1; else one more than its length
 /// where a request is missing.

@@ -2,9 +2,9 @@
 ghost use Rattle.std.specs.Prelude.{◌≡◌, ◌+◌, ◌≤◌, IsTrue, IfOk, OnOk, Some, false, length, replicate, slice_index_or};
 ghost use Rattle.std.specs.Option.{option_and_then};
 ghost use Rattle.graph_ops.specs.Graphs.{plain_of};
-ghost use Rattle.weave_report.specs.Meetings.{is_change};
-ghost use Rattle.weave_report.specs.Replay.{IsWorkRefused, graph_after_commit, graph_if_work_passed, the_only};
-ghost use Rattle.weave_report.specs.Words as told;
+ghost use Rattle.program_defs.specs.Works.{is_change};
+ghost use Rattle.report_rules.specs.Replay.{IsWorkRefused, graph_after_commit, graph_if_work_passed, the_only};
+ghost use Rattle.report_rules.specs.Lookups as told;
 ghost use Rattle.order_witness.specs.Judgement.{has_few_operations, has_no_program, has_short_transactions};
 ghost use Rattle.order_witness.specs.Refusals.{AreMarked, AreMarkedOn, IsMarkedOn, IsRefusedOn, IsThere, Marks, numbered_in};
 
@@ -12,8 +12,8 @@ use crate::trial::{passes, stops};
 use crate::words::{commits, number_of, request_at};
 use graph_ops::{Graph, Reason};
 use program_defs::{Script, Work};
+use report_rules::{Reply, ReplyState, Report};
 use std::alloc::{AllocError, Global};
-use weave_report::{Reply, ReplyState, Report};
 
 /// The marks of the replies, for a script without programs.
 pub fn marks_of(alloc: Global, script: &Script, report: &Report) -> Result<Vec<bool>, AllocError>

@@ -1,14 +1,14 @@
 //! The clause on numbers: the commit numbers are 1 up to their count, each once.
 ghost use Rattle.std.specs.Prelude.{◌≡◌, ◌==◌, IsTrue};
 ghost use Rattle.std.specs.List.{list_any};
-ghost use Rattle.weave_report.specs.declared.report.Reply.{Reply};
-ghost use Rattle.weave_report.specs.Facts.{facts_in_turn};
-ghost use Rattle.weave_report.specs.RightReport as right;
-ghost use Rattle.weave_report.specs.Words as told;
+ghost use Rattle.report_rules.specs.declared.report.Reply.{Reply};
+ghost use Rattle.proof_base.specs.Facts.{facts_in_turn};
+ghost use Rattle.report_rules.specs.RightReport as right;
+ghost use Rattle.report_rules.specs.Lookups as told;
 ghost use Rattle.order_witness.specs.Judgement.{IsFirstFault};
 
 use crate::words::{commits, number_of};
-use weave_report::{Reply, Report};
+use report_rules::{Reply, Report};
 
 /// The first reply line whose number is 0, repeats an earlier one or is above the count, from 1.
 pub fn first_fault(report: &Report) -> Option<u64>

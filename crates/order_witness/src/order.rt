@@ -2,8 +2,8 @@
 //! order.
 ghost use Rattle.std.specs.Prelude.{◌≡◌, ◌||◌, ℕ, not, nat_lt};
 ghost use Rattle.std.specs.List.{list_all};
-ghost use Rattle.weave_report.specs.RightReport as right;
-ghost use Rattle.weave_report.specs.Words as told;
+ghost use Rattle.report_rules.specs.RightReport as right;
+ghost use Rattle.report_rules.specs.Lookups as told;
 ghost use Rattle.order_witness.specs.Bits.{leads};
 ghost use Rattle.order_witness.specs.Begun.{request_precedes, is_listed_in_order};
 ghost use Rattle.order_witness.specs.Judgement.{IsFirstFault};
@@ -11,7 +11,7 @@ ghost use Rattle.order_witness.specs.Judgement.{IsFirstFault};
 use crate::relation::Relation;
 use crate::words::same_session;
 use program_defs::Script;
-use weave_report::Report;
+use report_rules::Report;
 
 /// The first place in the order that breaks the clause with itself or an earlier place, from 1.
 pub fn first_fault(script: &Script, report: &Report, precedence: &Relation) -> Option<u64>

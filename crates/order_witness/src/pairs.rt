@@ -1,15 +1,15 @@
 //! The clause on pairs: the stamps are unordered, and both requests meet at the vertex.
 ghost use Rattle.std.specs.Prelude.{◌≡◌, IsTrue, ◌&&◌};
 ghost use Rattle.vector_stamp.specs.Order as stamps;
-ghost use Rattle.weave_report.specs.RightReport as right;
-ghost use Rattle.weave_report.specs.Words as told;
+ghost use Rattle.report_rules.specs.RightReport as right;
+ghost use Rattle.report_rules.specs.Lookups as told;
 ghost use Rattle.order_witness.specs.Judgement.{IsFirstFault, has_no_program};
 
 use crate::stamps::unordered;
 use crate::words::{is_committed, names_vertex, stamp_at};
 use program_defs::Script;
+use report_rules::{Pair, Report};
 use weave_data::Name;
-use weave_report::{Pair, Report};
 
 /// The first pair that breaks the clause, from 1, for a script without programs.
 pub fn first_fault(script: &Script, report: &Report) -> Option<u64>

@@ -5,9 +5,9 @@ ghost use Rattle.order_witness.specs.Begun.{request_precedes, StampsDiffer, is_b
 
 use crate::relation::Relation;
 use crate::stamps::stamp_before;
+use report_rules::{Pair, Reply, Report};
 use std::alloc::{AllocError, Global};
 use vector_stamp::Stamp;
-use weave_report::{Pair, Reply, Report};
 
 /// The relation between the requests of a report, by number: which precedes which. No two begun ones may have one stamp.
 pub fn precedence_of(alloc: Global, report: &Report) -> Result<Relation, AllocError>

@@ -1,10 +1,10 @@
 //! The printed order.
 ghost use Rattle.std.specs.Prelude.{◌≡◌, ◌==◌, ◌&&◌, ℕ, [], ◌∷◌, ◌++◌, ◌<◌, ◌↔◌, false, not, IsTrue, IfOk, OnOk, MatchBool};
 ghost use Rattle.std.specs.List.{filter, list_any};
-ghost use Rattle.weave_report.specs.Facts.{AllHold};
-ghost use Rattle.weave_report.specs.RightReport.{replies_clause};
-ghost use Rattle.weave_report.specs.PrintedOrder.{IsPrintedOrder};
-ghost use Rattle.weave_report.specs.Words as told;
+ghost use Rattle.proof_base.specs.Facts.{AllHold};
+ghost use Rattle.report_rules.specs.RightReport.{replies_clause};
+ghost use Rattle.report_rules.specs.PrintedOrder.{IsPrintedOrder};
+ghost use Rattle.report_rules.specs.Lookups as told;
 ghost use Rattle.order_witness.specs.Bits.{leads};
 ghost use Rattle.order_witness.specs.Begun.{NonePrecedesItself};
 ghost use Rattle.order_witness.specs.Choices.{IsBest, begun_in, home_at, is_better, is_free};
@@ -14,8 +14,8 @@ use crate::relation::Relation;
 use crate::replies;
 use crate::words::{may_be_listed, stamp_at};
 use program_defs::Script;
+use report_rules::{Reply, Report};
 use std::alloc::{AllocError, Global};
-use weave_report::{Reply, Report};
 
 /// Whether the report has a printed order: the clause on replies holds, and no request precedes itself.
 pub fn has_order(alloc: Global, script: &Script, report: &Report) -> Result<bool, AllocError>

@@ -2,17 +2,17 @@
 //! of its session.
 ghost use Rattle.std.specs.Prelude.{◌≡◌, ◌||◌, not, false, IsTrue, IfOk, slice_index_or};
 ghost use Rattle.std.specs.List.{list_all};
-ghost use Rattle.weave_report.specs.declared.report.Reply.{Reply};
-ghost use Rattle.weave_report.specs.RightReport as right;
-ghost use Rattle.weave_report.specs.Words as told;
+ghost use Rattle.report_rules.specs.declared.report.Reply.{Reply};
+ghost use Rattle.report_rules.specs.RightReport as right;
+ghost use Rattle.report_rules.specs.Lookups as told;
 ghost use Rattle.order_witness.specs.Judgement.{IsFirstFault, has_no_program, has_short_transactions};
 ghost use Rattle.order_witness.specs.Refusals.{AreMarked, is_refusal_in_place};
 
 use crate::marks::marks_of;
 use crate::words::{commits, number_of, same_session};
 use program_defs::Script;
+use report_rules::{Reply, ReplyState, Report};
 use std::alloc::{AllocError, Global};
-use weave_report::{Reply, ReplyState, Report};
 
 /// The first reply line that breaks the clause, from 1, for a script without programs.
 pub fn first_fault(

@@ -3,10 +3,10 @@
 ghost use Rattle.std.specs.Prelude.{◌≤◌, IsTrue, IfOk, length};
 ghost use Rattle.graph_ops.specs.Graphs.{plain_of};
 ghost use Rattle.graph_ops.specs.PlainGraph.{graph_left, transaction};
-ghost use Rattle.weave_report.specs.Meetings.{is_change};
-ghost use Rattle.weave_report.specs.RightReport as right;
-ghost use Rattle.weave_report.specs.Replay.{ComesTo, IsTold, graph_after, graph_after_work};
-ghost use Rattle.weave_report.specs.Words as told;
+ghost use Rattle.program_defs.specs.Works.{is_change};
+ghost use Rattle.report_rules.specs.RightReport as right;
+ghost use Rattle.report_rules.specs.Replay.{MatchesReply, OutcomeMatchesReply, graph_after, graph_after_work};
+ghost use Rattle.report_rules.specs.Lookups as told;
 ghost use Rattle.order_witness.specs.Judgement.{IsFirstFault, has_few_operations, has_no_program, has_short_transactions};
 ghost use Rattle.order_witness.specs.Replayed.{ComesToReply, GivesAnswers, TellsOf};
 
@@ -14,8 +14,8 @@ use crate::records::same_answers;
 use crate::words::{reply_at, request_at};
 use graph_ops::{Got, Graph, Op, TxFault};
 use program_defs::{Script, Work};
+use report_rules::{ReplyState, Report};
 use std::alloc::{AllocError, Global};
-use weave_report::{ReplyState, Report};
 
 /// The first place in the order that doesn't come to what its reply says, from 1, for a script without programs.
 pub fn first_fault(
@@ -66,7 +66,7 @@ fn replay_work(
 ) -> Result<bool, AllocError>
     requires change { IsTrue (is_change work.now) }
     requires short { IsTrue (has_few_operations work.now) }
-    ensures { IfOk result (TellsOf (ComesTo (plain_of graph.old) work.now state.now) (plain_of graph.new) (graph_after_work (plain_of graph.old) work.now)) }
+    ensures { IfOk result (TellsOf (MatchesReply (plain_of graph.old) work.now state.now) (plain_of graph.new) (graph_after_work (plain_of graph.old) work.now)) }
 {
     match work {
         Work::Change(ops) => replay_transaction(alloc, graph, ops.as_slice(), state),
@@ -81,7 +81,7 @@ fn replay_transaction(
     state: &ReplyState,
 ) -> Result<bool, AllocError>
     requires { length ops.now ≤ 64 }
-    ensures { IfOk result (TellsOf (IsTold (transaction ops.now (plain_of graph.old)) state.now) (plain_of graph.new) (graph_left (plain_of graph.old) (transaction ops.now (plain_of graph.old)))) }
+    ensures { IfOk result (TellsOf (OutcomeMatchesReply (transaction ops.now (plain_of graph.old)) state.now) (plain_of graph.new) (graph_left (plain_of graph.old) (transaction ops.now (plain_of graph.old)))) }
 {
     match state {
         ReplyState::Committed { answers, .. } => gives(alloc, graph, ops, answers.as_slice()),

@@ -2,17 +2,17 @@
 //! those of its session.
 ghost use Rattle.std.specs.Prelude.{◌≡◌, ◌==◌, ◌&&◌, nat_lt, IsTrue, length};
 ghost use Rattle.std.specs.List.{list_all};
-ghost use Rattle.weave_report.specs.declared.report.Reply.{Reply};
-ghost use Rattle.weave_report.specs.Facts.{facts_in_turn};
-ghost use Rattle.weave_report.specs.RightReport as right;
-ghost use Rattle.weave_report.specs.Words.{is_none_or, request_at};
+ghost use Rattle.report_rules.specs.declared.report.Reply.{Reply};
+ghost use Rattle.proof_base.specs.Facts.{facts_in_turn};
+ghost use Rattle.report_rules.specs.RightReport as right;
+ghost use Rattle.report_rules.specs.Lookups.{is_none_or, request_at};
 ghost use Rattle.order_witness.specs.Judgement.{IsFirstFault};
 
 use crate::stamps::{are_apart, stamp_before};
 use crate::words::{request_at, same_session};
 use program_defs::Script;
+use report_rules::{Reply, Report};
 use vector_stamp::Stamp;
-use weave_report::{Reply, Report};
 
 /// The first reply line that breaks the clause, from 1; one more than the last where lines are missing.
 pub fn first_fault(script: &Script, report: &Report) -> Option<u64>

@@ -3,11 +3,11 @@
 use crate::{Clause, Judged};
 use graph_ops::{Got, Graph, Op, TxFault};
 use program_defs::{Request, Script, Work};
+use report_rules::{Reply, ReplyState, Report};
 use std::alloc::Global;
 use std::process::Abort;
 use vector_stamp::{Relation, Stamp};
 use weave_data::Name;
-use weave_report::{Reply, ReplyState, Report};
 
 /// The first clause that breaks, and its first place.
 pub fn slow_judge(rt: &impl Abort, alloc: Global, script: &Script, report: &Report) -> Judged {

@@ -4,9 +4,9 @@ use crate::cases::{Asked, Line, report, script};
 use crate::slow::slow_judge;
 use crate::{Clause, Judged, has_no_program, has_short_transactions, judge_report};
 use program_defs::Script;
+use report_rules::Report;
 use std::alloc::Global;
 use std::process::Abort;
-use weave_report::Report;
 
 /// What a row wants: the clause and its place, or none where the report is right.
 pub type Want = Option<(Clause, u64)>;

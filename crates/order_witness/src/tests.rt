@@ -4,11 +4,11 @@ use crate::tables::{Row, assert_rows, judge};
 use crate::{Clause, Judged, has_no_program, has_order, has_short_transactions, order_of};
 use graph_ops::{Op, Reason};
 use program_defs::{Program, Request, Script, Work};
+use report_rules::{Pair, Reply, ReplyState, Report};
 use std::alloc::Global;
 use std::process::Abort;
 use vector_stamp::{Clock, Stamp};
 use weave_data::Items;
-use weave_report::{Pair, Reply, ReplyState, Report};
 
 /// One session at each of two gatekeepers: the one makes a vertex, the other one sets a key of it.
 pub const TWO: [Asked; 2] = [(0, 0, &[Do::Create(b'v')]), (1, 1, &[Do::Set(b'v')])];

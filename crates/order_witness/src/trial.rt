@@ -4,7 +4,7 @@ ghost use Rattle.graph_ops.specs.declared.op.Op.{Op};
 ghost use Rattle.graph_ops.specs.Graphs.{plain_of};
 ghost use Rattle.graph_ops.specs.Operations.{vertex_of};
 ghost use Rattle.graph_ops.specs.PlainGraph.{transaction};
-ghost use Rattle.weave_report.specs.Replay.{graph_if_passed};
+ghost use Rattle.report_rules.specs.Replay.{graph_if_passed};
 ghost use Rattle.order_witness.specs.Refusals.{IsThere, Marks};
 
 use graph_ops::{Graph, Op, Reason, TxFault};

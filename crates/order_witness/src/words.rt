@@ -5,13 +5,13 @@ ghost use Rattle.weave_data.specs.Names.{same_name};
 ghost use Rattle.graph_ops.specs.Operations.{vertex_of};
 ghost use Rattle.graph_ops.specs.declared.op.Op.{Op};
 ghost use Rattle.order_witness.specs.Begun.{numbers_in};
-ghost use Rattle.weave_report.specs.Words as told;
+ghost use Rattle.report_rules.specs.Lookups as told;
 
 use graph_ops::Op;
 use program_defs::{Request, Script, Work};
+use report_rules::{Reply, ReplyState, Report};
 use vector_stamp::Stamp;
 use weave_data::Name;
-use weave_report::{Reply, ReplyState, Report};
 
 /// Request r of the script.
 pub fn request_at(script: &Script, r: u32) -> Option<&Request>

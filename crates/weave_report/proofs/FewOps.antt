@@ -5,9 +5,9 @@ use Rattle.std.specs.List.{AllByRecursion}
 use Rattle.std.specs.Option.{option_map_or}
 use Rattle.program_defs.specs.declared.script.Request.{Request}
 use Rattle.program_defs.specs.declared.script.Script.{Script}
-use Rattle.weave_report.specs.PlainRun.{ops_of}
+use Rattle.program_defs.specs.Works.{ops_of}
 use Rattle.weave_report.specs.ReadingReplies.{ops_at}
-use Rattle.weave_report.specs.TextOf.{TellsByName}
+use Rattle.weave_report.specs.TextOf.{HasDistinctNames}
 
 few_in_place : (requests : List Request) (r : ℕ) → AllByRecursion (λ (request : Request). length (ops_of request.work) < 2 ^ 32) requests
     → length (option_map_or (λ (request : Request). ops_of request.work) (slice_get requests r) []) < 2 ^ 32
@@ -15,5 +15,5 @@ few_in_place [] r h = lit< tt
 few_in_place (request ∷ requests) zero h = h.0
 few_in_place (request ∷ requests) (suc r) h = few_in_place requests r h.1
 
-pub few_ops_at : (script : Script) (r : ℕ) → TellsByName script → length (ops_at script r) < 2 ^ 32
+pub few_ops_at : (script : Script) (r : ℕ) → HasDistinctNames script → length (ops_at script r) < 2 ^ 32
 few_ops_at script r h = few_in_place script.requests r h.few_ops

@@ -10,11 +10,11 @@ use Rattle.weave_report.specs.declared.fault.ReportCause.TheVariants as cause
 use Rattle.weave_report.specs.declared.read.parts.Place.{Place}
 use Rattle.weave_report.specs.declared.read.parts.Place.TheVariants.{Start, Replies, Gots, Pairs, Answers, Ended}
 use Rattle.weave_report.specs.declared.read.parts.Reading.{Reading}
-use Rattle.weave_report.specs.declared.report.Report.{Report}
+use Rattle.report_rules.specs.declared.report.Report.{Report}
 use Rattle.weave_report.specs.ReadingFields.{Read, ◌>>=◌}
 use Rattle.weave_report.specs.Reading.{Refusal, after_any_line, after_line, after_lines, behind_line, report_in, start, whole_report}
 use Rattle.weave_report.specs.FirstRefusal.{IsFirstRefusal, IsRefusedAt, is_ended, read_over}
-use Rattle.weave_report.proofs.FieldsRead.{ok_is, bind_ok}
+use Rattle.weave_report.proofs.ReadSteps.{ok_is, bind_ok}
 
 abbrev refused : Refusal → Result Report Refusal
 refused refusal = Err refusal

@@ -6,7 +6,7 @@ use Rattle.program_defs.specs.declared.script.Script.{Script}
 use Rattle.weave_report.specs.declared.fault.ReportCause.{ReportCause}
 use Rattle.weave_report.specs.declared.fault.ReportFault.{ReportFault}
 use Rattle.weave_report.specs.declared.fault.ReportFault.TheVariants.{Refused, Memory}
-use Rattle.weave_report.specs.declared.report.Report.{Report}
+use Rattle.report_rules.specs.declared.report.Report.{Report}
 use Rattle.weave_report.specs.ReadAnswers.{Answers, IfRefused, IfRefusedAs, IsReadAs}
 use Rattle.weave_report.specs.TextOf.{IsReportTextOf}
 

@@ -1,12 +1,10 @@
 -- Steps of loops that read words one after another.
-use Rattle.std.proofs.Common.{◌≡◌, ℕ, suc, ◌+◌, ◌<◌, List, [], ◌∷◌, ◌++◌, length, map, drop, get_or, Bor, refl, sym, ap, ◌∙◌, add-one}
-use Rattle.std.specs.Prelude.{Result, Ok, Err}
+use Rattle.std.proofs.Common.{◌≡◌, ℕ, suc, ◌+◌, ◌<◌, List, ◌∷◌, length, map, drop, get_or, Bor, sym, ap, ◌∙◌, add-one}
+use Rattle.std.specs.Prelude.{Ok, Err}
 use Rattle.std.proofs.Math.Seq.{drop-cons}
 use Rattle.std.proofs.lemmas.List.{drop-map}
-use Rattle.weave_text.specs.Lines.{Word}
 use Rattle.weave_report.specs.declared.fault.LineFault.{LineFault}
 use Rattle.weave_report.specs.declared.fault.LineFault.TheVariants.{Refused, Memory}
-use Rattle.weave_report.specs.declared.fault.ReportCause.{ReportCause}
 use Rattle.weave_report.specs.ReadAnswers.{Gives, Changes}
 use Rattle.weave_report.specs.ReadingFields.{Read, ◌>>=◌}
 

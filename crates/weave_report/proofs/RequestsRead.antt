@@ -1,6 +1,6 @@
 -- Requests are found by their names, and told by them.
-use Rattle.std.proofs.Common.{◌≡◌, ℕ, zero, suc, ◌+◌, ◌<◌, Bool, true, false, cond, ◌⊎◌, inl, inr, List, [], ◌∷◌, ◌++◌, length, map, refl, sym, ap, ◌∙◌, subst, append_assoc, append-nil, arith}
-use Rattle.std.specs.Prelude.{IsTrue, Option, Some, None, Result, Ok, Err, IsSomeAnd, option_and_then, slice_get, nat_lt}
+use Rattle.std.proofs.Common.{◌≡◌, ℕ, zero, suc, ◌+◌, ◌<◌, Bool, true, false, cond, List, [], ◌∷◌, ◌++◌, length, map, refl, sym, ap, ◌∙◌, subst, append_assoc, append-nil, arith}
+use Rattle.std.specs.Prelude.{IsTrue, Option, Some, None, Ok, IsSomeAnd, option_and_then, slice_get}
 use Rattle.std.specs.Cmp.{eq_by_cmp_equiv}
 use Rattle.std.specs.Cmp.Lexicographic.{nat_list_cmp_total}
 use Rattle.std.specs.List.{AllByRecursion, IsDistinct}
@@ -9,7 +9,7 @@ use Rattle.std.proofs.lemmas.Bool.{cond-true, cond-false, lt-ltb, ltb-true}
 use Rattle.std.proofs.lemmas.Map.Keys.{IsDistinct-head, IsDistinct-tail}
 use Rattle.std.proofs.lemmas.Option.{cond_some}
 use Rattle.vector_stamp.specs.declared.clock.Stamp.{Stamp}
-use Rattle.weave_data.specs.Names.{name_cmp, one_name, same_name}
+use Rattle.weave_data.specs.Names.{one_name, same_name}
 use Rattle.weave_data.specs.declared.name.Name.{Name}
 use Rattle.graph_ops.specs.declared.op.Op.{Op}
 use Rattle.program_defs.specs.declared.program.Program.{Program}
@@ -18,15 +18,14 @@ use Rattle.program_defs.specs.declared.script.Script.{Script}
 use Rattle.program_defs.specs.declared.script.Work.{Work}
 use Rattle.program_defs.specs.declared.script.Work.TheVariants.{Change, Look}
 use Rattle.weave_report.specs.declared.fault.ReportCause.TheVariants as cause
-use Rattle.weave_report.specs.declared.report.ReplyState.{ReplyState}
-use Rattle.weave_report.specs.PlainRun.{ops_of}
-use Rattle.weave_report.specs.ReadingFields.{Read, ◌>>=◌, or_cause}
+use Rattle.report_rules.specs.declared.report.ReplyState.{ReplyState}
+use Rattle.program_defs.specs.Works.{is_look, ops_of}
 use Rattle.weave_report.specs.ReadingReplies.{any_named, kind_named, named_from, of_kind, ops_at, program_named, program_of, request_from, request_named}
-use Rattle.weave_report.specs.ReportOf.{CanBeTold, is_request_of}
-use Rattle.weave_report.specs.ReportText.{is_look, is_program, name_at}
-use Rattle.weave_report.specs.TextOf.{IsName, IsTypedScript, TellsByName, names_of}
-use Rattle.weave_report.specs.Words.{request_at}
-use Rattle.weave_report.proofs.FieldsRead.{ok_is, bind_ok, then_ok, or_cause_read, or_cause_again}
+use Rattle.report_rules.specs.ReportOf.{MatchesWork, is_request_of}
+use Rattle.weave_report.specs.ReportText.{is_program, name_at}
+use Rattle.weave_report.specs.TextOf.{IsName, IsTypedScript, HasDistinctNames, names_of}
+use Rattle.report_rules.specs.Lookups.{request_at}
+use Rattle.weave_report.proofs.ReadSteps.{ok_is, bind_ok, then_ok, or_cause_read, or_cause_again}
 
 -- the name of the request of this number
 abbrev name_in_place : List Request → ℕ → Name
@@ -76,7 +75,7 @@ found_again n (request ∷ requests) (suc i) h k =
     cond-false (same_name request.name (name_in_place requests i)) _ _ (differs_at request.name requests i (IsDistinct-head same_name request.name (names_of requests) h) (omega arith))
     ∙ found_again (n + 1) requests i (IsDistinct-tail same_name request.name (names_of requests) h) (omega arith) ∙ ap (λ (n : ℕ). Some n) e
 
-pub named_again : (script : Script) (r : ℕ) → TellsByName script → r < length script.requests → request_named script (name_at script r) ≡ Some r
+pub named_again : (script : Script) (r : ℕ) → HasDistinctNames script → r < length script.requests → request_named script (name_at script r) ≡ Some r
 named_again script r h k = let e : 0 + r ≡ r = omega arith in found_again 0 script.requests r h.distinct k ∙ ap (λ (n : ℕ). Some n) e
 
 named_in_place : (requests : List Request) (i : ℕ) → AllByRecursion IsName (names_of requests) → i < length requests → IsName (name_in_place requests i)
@@ -98,7 +97,7 @@ request_within script r h = ltb-true r (length script.requests) h
 pub any_read : (script : Script) (name : Name) (r : ℕ) → any_named script name ≡ Ok r → IsNamed script name r
 any_read script name r e = named_read script name r (or_cause_read cause.Request (request_named script name) r e)
 
-pub any_again : (script : Script) (r : ℕ) → TellsByName script → r < length script.requests → any_named script (name_at script r) ≡ Ok r
+pub any_again : (script : Script) (r : ℕ) → HasDistinctNames script → r < length script.requests → any_named script (name_at script r) ≡ Ok r
 any_again script r h k = or_cause_again cause.Request (request_named script (name_at script r)) r (named_again script r h k)
 
 -- the requests of these names, and nothing more
@@ -121,7 +120,7 @@ all_read script before (name ∷ names) order e =
       each = (is_request script one.0 read.within, rest.each);
     }
 
-pub all_again : (script : Script) (before order : List ℕ) → TellsByName script → AllByRecursion (λ r. IsTrue (is_request_of script r)) order → named_from script before (map (name_at script) order) ≡ Ok (before ++ order)
+pub all_again : (script : Script) (before order : List ℕ) → HasDistinctNames script → AllByRecursion (λ r. IsTrue (is_request_of script r)) order → named_from script before (map (name_at script) order) ≡ Ok (before ++ order)
 all_again script before [] h k = ap (λ (order : List ℕ). Ok order) (sym (append-nil before))
 all_again script before (r ∷ order) h k =
     then_ok (any_named script (name_at script r)) (λ r. named_from script (before ++ r ∷ []) (map (name_at script) order)) r _ (any_again script r h (request_within script r k.0))
@@ -160,7 +159,7 @@ of_kind-is : (program : Bool) (script : Script) (r : ℕ) → is_program script 
 of_kind-is true script r h = cond-true (is_program script r) _ _ h
 of_kind-is false script r h = cond-false (is_program script r) _ _ h
 
-pub kind_again : (program : Bool) (script : Script) (r : ℕ) → TellsByName script → r < length script.requests → is_program script r ≡ program → kind_named program script (name_at script r) ≡ Ok r
+pub kind_again : (program : Bool) (script : Script) (r : ℕ) → HasDistinctNames script → r < length script.requests → is_program script r ≡ program → kind_named program script (name_at script r) ≡ Ok r
 kind_again program script r h k kind =
     or_cause_again cause.Request (option_and_then (of_kind program script) (request_named script (name_at script r))) r
     (ap (option_and_then (of_kind program script)) (named_again script r h k) ∙ of_kind-is program script r kind)
@@ -172,32 +171,32 @@ in_place [] i h = absurd (omega arith)
 in_place (x ∷ xs) zero h = (x, refl)
 in_place (x ∷ xs) (suc i) h = in_place xs i (omega arith)
 
-change_told : (script : Script) (work : Work) (stamp : Option Stamp) (state : ReplyState) → is_look work ≡ false → ((ops : List Op) → ops_of work ≡ ops → CanBeTold script (Change ops) stamp state) → CanBeTold script work stamp state
+change_told : (script : Script) (work : Work) (stamp : Option Stamp) (state : ReplyState) → is_look work ≡ false → ((ops : List Op) → ops_of work ≡ ops → MatchesWork script (Change ops) stamp state) → MatchesWork script work stamp state
 change_told script (Change ops) stamp state h told = told ops refl
 change_told script (Look program) stamp state h told = absurd cc
 
-look_told : (script : Script) (work : Work) (stamp : Option Stamp) (state : ReplyState) → is_look work ≡ true → ((program : Program) → program_of work ≡ Some program → CanBeTold script (Look program) stamp state) → CanBeTold script work stamp state
+look_told : (script : Script) (work : Work) (stamp : Option Stamp) (state : ReplyState) → is_look work ≡ true → ((program : Program) → program_of work ≡ Some program → MatchesWork script (Look program) stamp state) → MatchesWork script work stamp state
 look_told script (Change ops) stamp state h told = absurd cc
 look_told script (Look program) stamp state h told = told program refl
 
 -- what a line can tell of a request
-abbrev pub CanBeToldAt : Script → ℕ → Option Stamp → ReplyState → Type 0
-CanBeToldAt script r stamp state = IsSomeAnd (request_at script r) (λ (request : Request). CanBeTold script request.work stamp state)
+abbrev pub MatchesWorkAt : Script → ℕ → Option Stamp → ReplyState → Type 0
+MatchesWorkAt script r stamp state = IsSomeAnd (request_at script r) (λ (request : Request). MatchesWork script request.work stamp state)
 
 pub transaction_told : (script : Script) (r : ℕ) (stamp : Option Stamp) (state : ReplyState) → r < length script.requests → is_program script r ≡ false
-    → ((ops : List Op) → ops_at script r ≡ ops → CanBeTold script (Change ops) stamp state) → CanBeToldAt script r stamp state
+    → ((ops : List Op) → ops_at script r ≡ ops → MatchesWork script (Change ops) stamp state) → MatchesWorkAt script r stamp state
 transaction_told script r stamp state h kind told =
     let at = in_place script.requests r h in
-    let Told : Option Request → Type 0 = λ o. IsSomeAnd o (λ (request : Request). CanBeTold script request.work stamp state) in
+    let Told : Option Request → Type 0 = λ o. IsSomeAnd o (λ (request : Request). MatchesWork script request.work stamp state) in
     let look : is_look at.0.work ≡ false = sym (ap (λ (o : Option Request). option_map_or (λ (request : Request). is_look request.work) o false) at.1) ∙ kind in
     subst Told (sym at.1) (change_told script at.0.work stamp state look (λ ops e. told ops (ap (λ (o : Option Request). option_map_or (λ (request : Request). ops_of request.work) o []) at.1 ∙ e)))
 
 -- the work of a request that is there
-pub work_is : (script : Script) (r : ℕ) (stamp : Option Stamp) (state : ReplyState) → CanBeToldAt script r stamp state
-    → (request : Request) × (request_at script r ≡ Some request) × CanBeTold script request.work stamp state
+pub work_is : (script : Script) (r : ℕ) (stamp : Option Stamp) (state : ReplyState) → MatchesWorkAt script r stamp state
+    → (request : Request) × (request_at script r ≡ Some request) × MatchesWork script request.work stamp state
 work_is script r stamp state h = given (request_at script r) refl h
   where
-    given : (o : Option Request) → request_at script r ≡ o → IsSomeAnd o (λ (request : Request). CanBeTold script request.work stamp state) → (request : Request) × (request_at script r ≡ Some request) × CanBeTold script request.work stamp state
+    given : (o : Option Request) → request_at script r ≡ o → IsSomeAnd o (λ (request : Request). MatchesWork script request.work stamp state) → (request : Request) × (request_at script r ≡ Some request) × MatchesWork script request.work stamp state
     given None e k = absurd k
     given (Some request) e k = (request, e, k)
 
@@ -255,7 +254,7 @@ program_from script name (Some q) r program e k = at_request script name q (requ
 pub program_read : (script : Script) (name : Name) (r : ℕ) (program : Program) → program_named script name ≡ Some (r, program) → IsProgramAt script name r program
 program_read script name r program e = program_from script name (request_named script name) r program refl e
 
-pub program_again : (script : Script) (r : ℕ) (request : Request) (program : Program) → TellsByName script → request_at script r ≡ Some request → request.work ≡ Look program → program_named script (name_at script r) ≡ Some (r, program)
+pub program_again : (script : Script) (r : ℕ) (request : Request) (program : Program) → HasDistinctNames script → request_at script r ≡ Some request → request.work ≡ Look program → program_named script (name_at script r) ≡ Some (r, program)
 program_again script r request program h e w =
     ap (option_and_then (program_at script)) (named_again script r h (within_place script.requests r request e))
     ∙ ap (option_and_then (λ (request : Request). program_of_work r request.work)) e

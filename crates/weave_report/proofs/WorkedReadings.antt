@@ -1,26 +1,23 @@
 -- Texts of reports that are read, and texts that are refused at their first bad line, computed.
-use Rattle.std.proofs.Common.{◌≡◌, ℕ, List, [], ◌∷◌, ◌++◌, Some, None, refl}
-use Rattle.std.specs.Prelude.{codes, Result, Ok, Err}
+use Rattle.std.proofs.Common.{◌≡◌, ℕ, [], ◌∷◌, ◌++◌, Some, None, refl}
+use Rattle.std.specs.Prelude.{codes, Ok, Err}
 use Rattle.vector_stamp.specs.declared.clock.Stamp.{Stamp}
 use Rattle.weave_text.specs.Lines.{Bytes}
 use Rattle.weave_text.specs.Numbers.{number_of}
 use Rattle.graph_ops.specs.declared.op.Op.TheVariants.{Create, Get}
-use Rattle.graph_ops.specs.declared.op.Reason.TheVariants.{Missing}
-use Rattle.program_defs.specs.declared.program.Program.{Program}
 use Rattle.program_defs.specs.declared.program.Program.TheVariants.{Show, Reach, Around, Path}
-use Rattle.program_defs.specs.declared.program.Answer.TheVariants.{Shown, Reached, Found, Walk}
+use Rattle.program_defs.specs.declared.program.Answer.TheVariants.{Found, Walk}
 use Rattle.program_defs.specs.declared.script.Request.{Request}
 use Rattle.program_defs.specs.declared.script.Script.{Script}
 use Rattle.program_defs.specs.declared.script.Work.{Work}
 use Rattle.program_defs.specs.declared.script.Work.TheVariants.{Change, Look}
 use Rattle.weave_report.specs.declared.fault.ReportCause.{ReportCause}
 use Rattle.weave_report.specs.declared.fault.ReportCause.TheVariants as cause
-use Rattle.weave_report.specs.declared.report.Report.{Report}
-use Rattle.weave_report.specs.declared.report.Reply.{Reply}
-use Rattle.weave_report.specs.declared.report.ReplyState.{ReplyState}
-use Rattle.weave_report.specs.declared.report.ReplyState.TheVariants.{Unbegun, Begun, Committed, Conflict, Refused, Finished}
-use Rattle.weave_report.specs.declared.report.StepAnswer.TheVariants as step
-use Rattle.weave_report.specs.Reading.{report_in, Refusal}
+use Rattle.report_rules.specs.declared.report.Reply.{Reply}
+use Rattle.report_rules.specs.declared.report.ReplyState.{ReplyState}
+use Rattle.report_rules.specs.declared.report.ReplyState.TheVariants.{Unbegun, Begun, Committed, Conflict, Finished}
+use Rattle.report_rules.specs.declared.report.StepAnswer.TheVariants as step
+use Rattle.weave_report.specs.Reading.{report_in}
 
 abbrev v : Bytes
 v = codes "v"

@@ -10,11 +10,11 @@ use Rattle.program_defs.specs.declared.script.Work.{Work}
 use Rattle.program_defs.specs.declared.script.Work.TheVariants.{Change, Look}
 use Rattle.program_defs.specs.declared.program.Program.TheVariants.{Show}
 use Rattle.program_defs.specs.declared.program.Answer.TheVariants.{Shown}
-use Rattle.weave_report.specs.declared.report.Report.{Report}
-use Rattle.weave_report.specs.declared.report.Reply.{Reply}
-use Rattle.weave_report.specs.declared.report.ReplyState.{ReplyState}
-use Rattle.weave_report.specs.declared.report.ReplyState.TheVariants.{Unbegun, Begun, Committed, Conflict, Refused, Finished}
-use Rattle.weave_report.specs.declared.report.StepAnswer.TheVariants as step
+use Rattle.report_rules.specs.declared.report.Report.{Report}
+use Rattle.report_rules.specs.declared.report.Reply.{Reply}
+use Rattle.report_rules.specs.declared.report.ReplyState.{ReplyState}
+use Rattle.report_rules.specs.declared.report.ReplyState.TheVariants.{Unbegun, Begun, Committed, Conflict, Refused, Finished}
+use Rattle.report_rules.specs.declared.report.StepAnswer.TheVariants as step
 use Rattle.weave_text.specs.Lines.{Bytes}
 use Rattle.weave_report.specs.ReportText.{report_text}
 

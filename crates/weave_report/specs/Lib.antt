@@ -1,11 +1,11 @@
-pub mod Facts
-pub mod Words
-pub mod Replay
-pub mod RightReport
-pub mod PrintedOrder
-pub mod Meetings
-pub mod ReportOf
-pub mod PlainRun
+pub use Rattle.proof_base.specs.Facts
+pub use Rattle.report_rules.specs.Lookups
+pub use Rattle.report_rules.specs.Replay
+pub use Rattle.report_rules.specs.RightReport
+pub use Rattle.report_rules.specs.PrintedOrder
+pub use Rattle.report_rules.specs.Meetings
+pub use Rattle.report_rules.specs.ReportOf
+pub use Rattle.report_rules.specs.PlainRun
 pub mod ReportText
 pub mod ReadingFields
 pub mod ReadingStates
@@ -13,5 +13,6 @@ pub mod ReadingReplies
 pub mod Reading
 pub mod FirstRefusal
 pub mod TextOf
+pub mod TextLaws
 pub mod ReadAnswers
 pub mod Named

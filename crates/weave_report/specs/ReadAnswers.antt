@@ -1,13 +1,13 @@
--- What a reader of reports answers.
+-- What a reader of reports answers. No public contract cites the first three.
 use Rattle.std.specs.Prelude.{◌≡◌, ℕ, Result, Ok, Err, ⊤}
 use Rattle.weave_report.specs.declared.fault.LineFault.{LineFault}
 use Rattle.weave_report.specs.declared.fault.LineFault.TheVariants as line
 use Rattle.weave_report.specs.declared.fault.ReportCause.{ReportCause}
 use Rattle.weave_report.specs.declared.fault.ReportFault.{ReportFault}
 use Rattle.weave_report.specs.declared.fault.ReportFault.TheVariants.{Refused, Memory}
-use Rattle.weave_report.specs.declared.report.Report.{Report}
+use Rattle.report_rules.specs.declared.report.Report.{Report}
 
--- a function answers what reading a line or a part of it gives, unless memory is wanting
+-- a function answers what reading a line or a part of it gives, unless memory runs out
 abbrev pub Gives : {A : Type 0} → Result A LineFault → Result A ReportCause → Type 0
 Gives (Ok value) read = read ≡ Ok value
 Gives (Err (line.Refused cause)) read = read ≡ Err cause
@@ -25,24 +25,24 @@ GivesAt number (Ok value) read = read ≡ Ok value
 GivesAt number (Err (Refused line cause)) read = (line ≡ number) × (read ≡ Err cause)
 GivesAt number (Err Memory) read = ⊤
 
--- the reader answers what reading the text gives, unless memory is wanting
+-- the reader answers what reading the text gives, unless memory runs out
 abbrev pub Answers : Result Report ReportFault → Result Report (ℕ × ReportCause) → Type 0
 Answers (Ok report) read = read ≡ Ok report
 Answers (Err (Refused line cause)) read = read ≡ Err (line, cause)
 Answers (Err Memory) read = ⊤
 
--- the report, or want of memory
+-- the report, or out of memory
 abbrev pub IsReadAs : Report → Result Report ReportFault → Type 0
 IsReadAs report (Ok other) = other ≡ report
 IsReadAs report (Err (Refused line cause)) = ⊥
 IsReadAs report (Err Memory) = ⊤
 
--- where a line was refused, this is true
+-- if a line was refused, this is true
 abbrev pub IfRefused : Result Report ReportFault → Type 0 → Type 0
 IfRefused (Err (Refused line cause)) P = P
 IfRefused _ P = ⊤
 
--- where a line was refused, this is true of its number with the cause
+-- if a line was refused, this is true of its number with the cause
 abbrev pub IfRefusedAs : Result Report ReportFault → (ℕ × ReportCause → Type 0) → Type 0
 IfRefusedAs (Err (Refused line cause)) P = P (line, cause)
 IfRefusedAs _ P = ⊤

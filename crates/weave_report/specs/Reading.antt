@@ -1,5 +1,5 @@
 -- A report read from the lines of a text, one after another.
-use Rattle.std.specs.Prelude.{ℕ, Bool, true, false, ◌+◌, ◌&&◌, ◌==◌, nat_lt, List, [], ◌∷◌, ◌++◌, length, Option, Some, None, Result, Ok, Err, slice_get, codes, if◌then◌else◌}
+use Rattle.std.specs.Prelude.{ℕ, ◌+◌, ◌&&◌, nat_lt, List, [], ◌∷◌, ◌++◌, length, Option, Some, None, Result, Ok, Err, slice_get, codes, if◌then◌else◌}
 use Rattle.std.specs.Str.{bytes_eq}
 use Rattle.weave_text.specs.Cutting.{is_skipped, lines_of, words_of}
 use Rattle.weave_text.specs.Lines.{Bytes, Word, Line}
@@ -13,11 +13,11 @@ use Rattle.weave_report.specs.declared.read.parts.Place.TheVariants.{Start, Repl
 use Rattle.weave_report.specs.declared.read.parts.Reading.{Reading}
 use Rattle.weave_report.specs.declared.read.parts.ReplyLine.{ReplyLine}
 use Rattle.weave_report.specs.declared.read.parts.ReplyLine.TheVariants.{Whole, Committed}
-use Rattle.weave_report.specs.declared.report.Pair.{Pair}
-use Rattle.weave_report.specs.declared.report.Reply.{Reply}
-use Rattle.weave_report.specs.declared.report.ReplyState.TheVariants as told
-use Rattle.weave_report.specs.declared.report.Report.{Report}
-use Rattle.weave_report.specs.declared.report.StepAnswer.{StepAnswer}
+use Rattle.report_rules.specs.declared.report.Pair.{Pair}
+use Rattle.report_rules.specs.declared.report.Reply.{Reply}
+use Rattle.report_rules.specs.declared.report.ReplyState.TheVariants as told
+use Rattle.report_rules.specs.declared.report.Report.{Report}
+use Rattle.report_rules.specs.declared.report.StepAnswer.{StepAnswer}
 use Rattle.weave_report.specs.ReadingFields.{Read, ◌>>=◌, name_in, names_in, this_number_in}
 use Rattle.weave_report.specs.ReadingStates.{is_empty, is_step_form, step_answer_in}
 use Rattle.weave_report.specs.ReadingReplies.{any_named, named_from, got_in, program_in, transaction_in}

@@ -1,8 +1,7 @@
 -- The lines of replies as they are read. The number of words and the fixed ones are judged first, then the fields from the left, and last whether the request is the script's and of the line's kind.
-use Rattle.std.specs.Prelude.{ℕ, Bool, true, false, not, ◌+◌, ◌&&◌, ◌==◌, nat_eq, List, [], ◌∷◌, ◌++◌, Option, Some, None, Ok, Err, option_and_then, codes, if◌then◌else◌}
+use Rattle.std.specs.Prelude.{ℕ, Bool, true, false, ◌+◌, ◌&&◌, List, [], ◌∷◌, ◌++◌, Option, Some, None, Ok, Err, option_and_then, codes, if◌then◌else◌}
 use Rattle.std.specs.Option.{option_map_or}
 use Rattle.std.specs.Str.{bytes_eq}
-use Rattle.vector_stamp.specs.declared.clock.Stamp.{Stamp}
 use Rattle.weave_data.specs.Names.{same_name}
 use Rattle.weave_data.specs.declared.name.Name.{Name}
 use Rattle.weave_text.specs.Lines.{Word}
@@ -14,16 +13,15 @@ use Rattle.program_defs.specs.declared.script.Request.{Request}
 use Rattle.program_defs.specs.declared.script.Work.{Work}
 use Rattle.program_defs.specs.declared.script.Work.TheVariants.{Change, Look}
 use Rattle.weave_report.specs.declared.fault.ReportCause.TheVariants as cause
-use Rattle.weave_report.specs.declared.read.parts.Commit.{Commit}
 use Rattle.weave_report.specs.declared.read.parts.ReplyLine.{ReplyLine}
 use Rattle.weave_report.specs.declared.read.parts.ReplyLine.TheVariants.{Whole, Committed}
-use Rattle.weave_report.specs.declared.report.ReplyState.TheVariants as told
-use Rattle.weave_report.specs.PlainRun.{ops_of}
+use Rattle.report_rules.specs.declared.report.ReplyState.TheVariants as told
+use Rattle.program_defs.specs.Works.{ops_of}
 use Rattle.weave_report.specs.ReadingFields.{Read, ◌>>=◌, or_cause, name_in, number_in, small_number_in, this_number_in, reason_in, stamp_in}
 use Rattle.weave_report.specs.ReadingStates.{is_empty, is_state_form, state_in, is_answer_form, answer_in}
-use Rattle.weave_report.specs.ReportOf.{numbers_of_gets}
+use Rattle.report_rules.specs.ReportOf.{numbers_of_gets}
 use Rattle.weave_report.specs.ReportText.{is_program}
-use Rattle.weave_report.specs.Words.{request_at}
+use Rattle.report_rules.specs.Lookups.{request_at}
 
 -- Requests by name
 

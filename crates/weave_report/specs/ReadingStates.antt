@@ -17,8 +17,8 @@ use Rattle.program_defs.specs.declared.program.Answer.TheVariants.{Shown, Reache
 use Rattle.weave_report.specs.declared.fault.ReportCause.TheVariants as cause
 use Rattle.weave_report.specs.declared.read.parts.Item.{Item}
 use Rattle.weave_report.specs.declared.read.parts.Item.TheVariants.{Property, Link}
-use Rattle.weave_report.specs.declared.report.StepAnswer.{StepAnswer}
-use Rattle.weave_report.specs.declared.report.StepAnswer.TheVariants as step
+use Rattle.report_rules.specs.declared.report.StepAnswer.{StepAnswer}
+use Rattle.report_rules.specs.declared.report.StepAnswer.TheVariants as step
 use Rattle.weave_report.specs.ReadingFields.{Read, ◌>>=◌, name_in, names_in, small_number_in, or_cause}
 
 -- there are no words

@@ -13,28 +13,22 @@ use Rattle.graph_ops.specs.declared.op.Reason.{Reason}
 use Rattle.graph_ops.specs.declared.op.Reason.TheVariants.{Exists, Missing, NoKey, EdgeExists, NoEdge, Full}
 use Rattle.program_defs.specs.declared.script.Script.{Script}
 use Rattle.program_defs.specs.declared.script.Request.{Request}
-use Rattle.program_defs.specs.declared.script.Work.{Work}
-use Rattle.program_defs.specs.declared.script.Work.TheVariants.{Change, Look}
+use Rattle.program_defs.specs.Works.{is_look}
 use Rattle.program_defs.specs.declared.program.Answer.{Answer}
 use Rattle.program_defs.specs.declared.program.Answer.TheVariants.{Shown, Reached, Found, Walk}
-use Rattle.weave_report.specs.declared.report.Report.{Report}
-use Rattle.weave_report.specs.declared.report.Reply.{Reply}
-use Rattle.weave_report.specs.declared.report.Pair.{Pair}
-use Rattle.weave_report.specs.declared.report.ReplyState.{ReplyState}
-use Rattle.weave_report.specs.declared.report.ReplyState.TheVariants.{Unbegun, Begun, Committed, Conflict, Refused, Finished}
-use Rattle.weave_report.specs.declared.report.StepAnswer.{StepAnswer}
-use Rattle.weave_report.specs.declared.report.StepAnswer.TheVariants as step
+use Rattle.report_rules.specs.declared.report.Report.{Report}
+use Rattle.report_rules.specs.declared.report.Reply.{Reply}
+use Rattle.report_rules.specs.declared.report.Pair.{Pair}
+use Rattle.report_rules.specs.declared.report.ReplyState.{ReplyState}
+use Rattle.report_rules.specs.declared.report.ReplyState.TheVariants.{Unbegun, Begun, Committed, Conflict, Refused, Finished}
+use Rattle.report_rules.specs.declared.report.StepAnswer.{StepAnswer}
+use Rattle.report_rules.specs.declared.report.StepAnswer.TheVariants as step
 use Rattle.weave_text.specs.Lines.{Bytes, Line, joined_texts, lines_text, marked_texts}
-use Rattle.weave_report.specs.Words.{request_at}
+use Rattle.report_rules.specs.Lookups.{request_at}
 
 -- the name of a request; one that the script doesn't have has an empty name
 abbrev pub name_at : Script → ℕ → Bytes
 name_at script r = option_map_or (λ (request : Request). request.name) (request_at script r) []
-
--- the work is a program
-abbrev pub is_look : Work → Bool
-is_look (Change ops) = false
-is_look (Look program) = true
 
 -- whether a request is a program; one that the script doesn't have is told as a transaction
 abbrev pub is_program : Script → ℕ → Bool

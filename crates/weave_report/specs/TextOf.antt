@@ -14,15 +14,15 @@ use Rattle.program_defs.specs.declared.program.Answer.{Answer}
 use Rattle.program_defs.specs.declared.program.Answer.TheVariants.{Shown, Reached, Found, Walk}
 use Rattle.program_defs.specs.declared.script.Script.{Script}
 use Rattle.program_defs.specs.declared.script.Request.{Request}
-use Rattle.weave_report.specs.declared.report.Pair.{Pair}
-use Rattle.weave_report.specs.declared.report.Reply.{Reply}
-use Rattle.weave_report.specs.declared.report.ReplyState.{ReplyState}
-use Rattle.weave_report.specs.declared.report.ReplyState.TheVariants.{Unbegun, Begun, Committed, Conflict, Refused, Finished}
-use Rattle.weave_report.specs.declared.report.Report.{Report}
-use Rattle.weave_report.specs.declared.report.StepAnswer.{StepAnswer}
-use Rattle.weave_report.specs.declared.report.StepAnswer.TheVariants as step
-use Rattle.weave_report.specs.PlainRun.{ops_of}
-use Rattle.weave_report.specs.ReportOf.{IsReportOf}
+use Rattle.report_rules.specs.declared.report.Pair.{Pair}
+use Rattle.report_rules.specs.declared.report.Reply.{Reply}
+use Rattle.report_rules.specs.declared.report.ReplyState.{ReplyState}
+use Rattle.report_rules.specs.declared.report.ReplyState.TheVariants.{Unbegun, Begun, Committed, Conflict, Refused, Finished}
+use Rattle.report_rules.specs.declared.report.Report.{Report}
+use Rattle.report_rules.specs.declared.report.StepAnswer.{StepAnswer}
+use Rattle.report_rules.specs.declared.report.StepAnswer.TheVariants as step
+use Rattle.program_defs.specs.Works.{ops_of}
+use Rattle.report_rules.specs.ReportOf.{IsReportOf}
 use Rattle.weave_report.specs.ReportText.{report_lines}
 
 -- What the types of the program say of its values, beside what their definitions know: names are names, keys rise, and numbers are within their ranges
@@ -96,7 +96,7 @@ abbrev pub names_of : List Request → List Name
 names_of requests = map (λ (request : Request). request.name) requests
 
 -- a script whose requests are told by their names: no two have one name, and there are fewer than 2^32 of them and of the operations of each
-pub record TellsByName (script : Script) : Type 0 where
+pub record HasDistinctNames (script : Script) : Type 0 where
   pub distinct : IsDistinct same_name (names_of script.requests)
   pub few_requests : length script.requests < 2 ^ 32
   pub few_ops : AllByRecursion (λ (request : Request). length (ops_of request.work) < 2 ^ 32) script.requests

@@ -1,8 +1,9 @@
-//! Reports: what a run tells, when it is right, and its text.
+//! The text of reports: how a report is printed, and how it is read.
+//!
+//! What a report is, and when it is right, is said in the crate below, and given on from here.
 #![tactic(auto)]
 
 mod fault;
-pub mod laws;
 mod print;
 #[cfg(test)]
 mod print_tests;
@@ -10,9 +11,7 @@ mod read;
 #[cfg(test)]
 mod read_tests;
 mod reading_laws;
-mod report;
-#[cfg(test)]
-mod tests;
+mod text_laws;
 
 pub use fault::{ReportCause, ReportFault};
 pub use print::print_report;
@@ -21,4 +20,4 @@ pub use reading_laws::{
     printed_reports_come_back, printed_text_is_text, read_texts_are_texts, refusals_are_first,
     text_is_of_one_report,
 };
-pub use report::{Clause, Pair, Reply, ReplyState, Report, StepAnswer};
+pub use report_rules::{Clause, Pair, Reply, ReplyState, Report, StepAnswer, laws};

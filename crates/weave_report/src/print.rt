@@ -2,7 +2,7 @@
 ghost use Rattle.std.specs.Prelude.{◌≡◌, ◌++◌, OnOk, IfOk};
 ghost use Rattle.std.specs.List.{AllByRecursion, flat_map};
 ghost use Rattle.weave_text.specs.Lines.{lines_text};
-ghost use Rattle.weave_report.specs.declared.report.Reply.{Reply};
+ghost use Rattle.report_rules.specs.declared.report.Reply.{Reply};
 ghost use Rattle.weave_report.specs.ReportText.{reply_lines, report_text};
 ghost use Rattle.weave_report.specs.TextOf.{IsTypedReplyState, IsTypedReport};
 
@@ -13,8 +13,8 @@ mod words;
 
 use crate::print::lines::{print_answers, print_order, print_pairs};
 use crate::print::reply::print_reply;
-use crate::report::{Reply, Report};
 use program_defs::Script;
+use report_rules::{Reply, Report};
 use std::alloc::{AllocError, Global};
 use weave_text::Text;
 

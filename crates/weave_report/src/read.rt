@@ -1,13 +1,13 @@
 //! Reports read from their texts.
 ghost use Rattle.std.specs.Prelude.{◌≡◌, ◌≤◌, ◌<◌, ◌+◌, ◌^◌, length, IfOk};
 ghost use Rattle.program_defs.specs.declared.script.Script.{Script};
-ghost use Rattle.weave_report.specs.declared.report.Report.{Report};
+ghost use Rattle.report_rules.specs.declared.report.Report.{Report};
 ghost use Rattle.weave_report.specs.FirstRefusal.{IsFirstRefusal};
 ghost use Rattle.weave_report.specs.ReadAnswers.{Answers, GivesAt, IfRefused, IfRefusedAs, IsReadAs};
 ghost use Rattle.weave_report.specs.Reading.{after_any_line, after_lines, report_in, start, whole_report};
-ghost use Rattle.weave_report.specs.ReportOf.{IsReportOf};
+ghost use Rattle.report_rules.specs.ReportOf.{IsReportOf};
 ghost use Rattle.weave_report.specs.ReportText.{report_text};
-ghost use Rattle.weave_report.specs.TextOf.{IsReportTextOf, IsTypedReport, TellsByName};
+ghost use Rattle.weave_report.specs.TextOf.{IsReportTextOf, IsTypedReport, HasDistinctNames};
 ghost use Rattle.weave_text.specs.Cutting.{lines_of};
 
 mod fields;
@@ -24,8 +24,8 @@ use crate::read::lines::after_line;
 use crate::read::named::Named;
 use crate::read::parts::{Place, Reading};
 use crate::reading_laws::{printed_reports_come_back, read_texts_are_texts, refusals_are_first};
-use crate::report::Report;
 use program_defs::Script;
+use report_rules::Report;
 use std::alloc::Global;
 use weave_data::Items;
 use weave_text::is_skipped;
@@ -39,7 +39,7 @@ pub fn read_report(
     bytes: &[u8],
     first_line: u32,
 ) -> Result<Report, ReportFault>
-    requires told_by_name { TellsByName script.now }
+    requires told_by_name { HasDistinctNames script.now }
     requires from_one { 1 ≤ first_line }
     requires room { first_line + length bytes.now < 2 ^ 32 }
 

@@ -1,5 +1,5 @@
 ghost use Rattle.std.specs.Prelude.{◌≡◌, length};
-ghost use Rattle.weave_report.specs.TextOf.{TellsByName};
+ghost use Rattle.weave_report.specs.TextOf.{HasDistinctNames};
 
 use crate::{Report, ReportCause, ReportFault, print_report, read_report};
 use graph_ops::{Name, Op};
@@ -39,7 +39,7 @@ fn change(rt: &impl Abort, alloc: Global) -> Items<Op>
 
 // Six requests: a transaction with a `get`, one without operations, and a program of each form.
 fn script(rt: &impl Abort, alloc: Global, gates: u32) -> Script
-    ensures { TellsByName result }
+    ensures { HasDistinctNames result }
 {
     let v = name(rt, b"v");
     let t = request(rt, b"t", Work::Change(change(rt, alloc)));
@@ -82,21 +82,21 @@ fn read_from(
     text: &[u8],
     first_line: u32,
 ) -> Result<Report, ReportFault>
-    requires { TellsByName script.now }
+    requires { HasDistinctNames script.now }
 {
     assert!(rt; first_line >= 1 && text.len() <= (u32::MAX - first_line) as usize);
     read_report(alloc, script, text, first_line)
 }
 
 fn read(rt: &impl Abort, alloc: Global, script: &Script, text: &[u8]) -> Result<Report, ReportFault>
-    requires { TellsByName script.now }
+    requires { HasDistinctNames script.now }
 {
     read_from(rt, alloc, script, text, 1)
 }
 
 // The text is read, and printed again.
 fn assert_read(rt: &impl Abort, alloc: Global, script: &Script, text: &[u8])
-    requires { TellsByName script.now }
+    requires { HasDistinctNames script.now }
 {
     let report = read(rt, alloc, script, text).expect(rt, "a report");
     let printed = print_report(alloc, script, &report).expect(rt, "memory");
@@ -112,7 +112,7 @@ fn assert_refused(
     line: u32,
     cause: ReportCause,
 )
-    requires { TellsByName script.now }
+    requires { HasDistinctNames script.now }
 {
     let fault = read(rt, alloc, script, text).err();
     assert!(rt;

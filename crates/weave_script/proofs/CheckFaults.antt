@@ -5,16 +5,17 @@ use Rattle.std.proofs.lemmas.Bool.{and_parts, cond-true, cond-false, le-ltb, lt-
 use Rattle.program_defs.specs.declared.script.Script.{Script}
 use Rattle.weave_report.specs.FirstRefusal.{IsFirstRefusal}
 use Rattle.weave_report.specs.Reading as report
-use Rattle.weave_report.specs.declared.report.Report.{Report}
+use Rattle.report_rules.specs.declared.report.Report.{Report}
 use Rattle.weave_text.specs.Cutting.{lines_of, words_of, is_skipped, kept_lines}
 use Rattle.weave_text.specs.Lines.{Bytes}
 use Rattle.weave_script.specs.CheckFaults.{begins_report, IsFirstCheckFault, InScript, NoReport, InReport}
-use Rattle.weave_script.specs.CheckText.{IsHead, behind, cause_of, check_text}
+use Rattle.weave_script.specs.CheckText.{IsHead}
+use Rattle.weave_script.specs.CheckReading.{behind, cause_of, check_text}
 use Rattle.weave_script.specs.Faults.{IsFirstFault}
 use Rattle.weave_script.specs.Fields.{Read, ◌>>=◌}
 use Rattle.weave_script.specs.ReadText.{Fault, Part, at_line, is_open, is_report, read_on, script_at, head_before}
 use Rattle.weave_script.specs.Reading.{start, after_line}
-use Rattle.weave_script.specs.Texts.{IsTextOf}
+use Rattle.weave_script.specs.ScriptLines.{IsTextOf}
 use Rattle.weave_script.specs.declared.fault.Cause.{Cause}
 use Rattle.weave_script.specs.declared.fault.Cause.TheVariants as causes
 use Rattle.weave_script.specs.declared.reading.Place.{Place}

@@ -8,11 +8,12 @@ use Rattle.program_defs.specs.declared.script.Script.{Script}
 use Rattle.program_defs.specs.declared.script.Step.{Step}
 use Rattle.weave_report.specs.ReportText.{report_text}
 use Rattle.weave_report.specs.Reading as report
-use Rattle.weave_report.specs.TextOf.{IsName, IsReportTextOf, IsTypedScript, TellsByName}
-use Rattle.weave_report.specs.declared.report.Report.{Report}
+use Rattle.weave_report.specs.TextOf.{IsName, IsReportTextOf, IsTypedScript, HasDistinctNames}
+use Rattle.report_rules.specs.declared.report.Report.{Report}
 use Rattle.weave_text.specs.Cutting.{lines_of, kept_lines, is_clean_line}
 use Rattle.weave_text.specs.Lines.{Bytes, Line, joined_words, lines_text}
-use Rattle.weave_script.specs.CheckText.{IsHead, IsCheckTextOf, behind, check_text}
+use Rattle.weave_script.specs.CheckText.{IsHead, IsCheckTextOf}
+use Rattle.weave_script.specs.CheckReading.{behind, check_text}
 use Rattle.weave_script.specs.Fields.{◌>>=◌}
 use Rattle.weave_script.specs.ReadText.{Fault, Head, Part, at_line, is_open, read_on, script_at, head_before, head_of}
 use Rattle.weave_script.specs.Reading.{start}
@@ -32,7 +33,7 @@ use Rattle.weave_script.proofs.TextLaws.{long}
 
 -- ---- what a report's reader wants of the script
 
-pub script_told : (script : Script) → IsScript script → TellsByName script
+pub script_told : (script : Script) → IsScript script → HasDistinctNames script
 script_told script is = told_by_name script is (few_requests script is) (small_transactions script is)
 
 each_named : (gates : ℕ) (requests : List Request) → AllByRecursion (IsRequest gates) requests → AllByRecursion IsName (names_of requests)
@@ -44,14 +45,14 @@ script_typed script is = record { gates = omega (arith, is.gates.1); names = eac
 
 -- what is read as a report is a text of it, and a text of a report is read as it
 abbrev pub ReadsTexts : Type 0
-ReadsTexts = (script : Script) (first_line : ℕ) (bytes : Bytes) (told : Report) → TellsByName script → IsTypedScript script → report.report_in script first_line bytes ≡ Ok told → IsReportTextOf script bytes told
+ReadsTexts = (script : Script) (first_line : ℕ) (bytes : Bytes) (told : Report) → HasDistinctNames script → IsTypedScript script → report.report_in script first_line bytes ≡ Ok told → IsReportTextOf script bytes told
 
 abbrev pub EveryText : Type 0
-EveryText = (script : Script) (first_line : ℕ) (bytes : Bytes) (told : Report) → TellsByName script → IsTypedScript script → IsReportTextOf script bytes told → report.report_in script first_line bytes ≡ Ok told
+EveryText = (script : Script) (first_line : ℕ) (bytes : Bytes) (told : Report) → HasDistinctNames script → IsTypedScript script → IsReportTextOf script bytes told → report.report_in script first_line bytes ≡ Ok told
 
 -- no text is of two reports
 abbrev pub OneReport : Type 0
-OneReport = (script : Script) (bytes : Bytes) (a b : Report) → TellsByName script → IsTypedScript script → IsReportTextOf script bytes a → IsReportTextOf script bytes b → a ≡ b
+OneReport = (script : Script) (bytes : Bytes) (a b : Report) → HasDistinctNames script → IsTypedScript script → IsReportTextOf script bytes a → IsReportTextOf script bytes b → a ≡ b
 
 -- ---- reading on
 

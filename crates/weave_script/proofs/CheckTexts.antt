@@ -1,5 +1,5 @@
 -- A script and the report that follows it, read together.
-use Rattle.std.proofs.Common.{◌≡◌, ℕ, ◌<◌, ◌≤◌, ◌^◌, List, [], ◌∷◌, length, Ok, Err, ap, subst, ◌∙◌, arith}
+use Rattle.std.proofs.Common.{◌≡◌, ℕ, ◌<◌, ◌≤◌, ◌^◌, List, [], ◌∷◌, ◌++◌, length, Ok, Err, ap, subst, ◌∙◌, arith}
 use Rattle.std.specs.Prelude.{Result}
 use Rattle.std.specs.List.{AllByRecursion}
 use Rattle.program_defs.specs.declared.script.Request.{Request}
@@ -7,16 +7,18 @@ use Rattle.program_defs.specs.declared.script.Script.{Script}
 use Rattle.weave_report.specs.declared.fault.ReportCause.{ReportCause}
 use Rattle.weave_report.specs.declared.fault.ReportFault.{ReportFault}
 use Rattle.weave_report.specs.declared.fault.ReportFault.TheVariants.{Refused}
-use Rattle.weave_report.specs.declared.report.Report.{Report}
+use Rattle.report_rules.specs.declared.report.Report.{Report}
 use Rattle.weave_report.specs.ReadAnswers.{Answers}
-use Rattle.weave_report.specs.PlainRun.{ops_of}
+use Rattle.program_defs.specs.Works.{ops_of}
 use Rattle.weave_report.specs.Reading.{Refusal, after_lines, start, report_in}
-use Rattle.weave_report.specs.TextOf.{IsReportTextOf, TellsByName}
+use Rattle.weave_report.specs.TextOf.{IsReportTextOf, HasDistinctNames}
 use Rattle.weave_text.specs.Cutting.{lines_of}
 use Rattle.weave_text.specs.Lines.{Bytes}
-use Rattle.weave_script.specs.CheckText.{IsHead, IsCheckTextOf, behind, check_text}
+use Rattle.weave_script.specs.CheckText.{IsHead, IsCheckTextOf}
+use Rattle.weave_script.specs.CheckReading.{behind, check_text}
 use Rattle.weave_script.specs.Fields.{◌>>=◌}
 use Rattle.weave_script.specs.ReadText.{Fault, Head, head_of}
+use Rattle.weave_script.specs.ScriptLines.{IsTextOf}
 use Rattle.weave_script.specs.Scripts.{IsScript}
 
 few_each : (requests : List Request) → AllByRecursion (λ (request : Request). length (ops_of request.work) ≤ 64) requests → AllByRecursion (λ (request : Request). length (ops_of request.work) < 2 ^ 32) requests
@@ -24,7 +26,7 @@ few_each [] each = tt
 few_each (request ∷ requests) each = (let few = each.0 in omega (arith, few), few_each requests each.1)
 
 -- a script that has a text is told by the names of its requests
-pub told_by_name : (script : Script) → IsScript script → length script.requests ≤ 10000 → AllByRecursion (λ (request : Request). length (ops_of request.work) ≤ 64) script.requests → TellsByName script
+pub told_by_name : (script : Script) → IsScript script → length script.requests ≤ 10000 → AllByRecursion (λ (request : Request). length (ops_of request.work) ≤ 64) script.requests → HasDistinctNames script
 told_by_name script is few each = record { distinct = is.distinct; few_requests = omega (arith, few); few_ops = few_each script.requests each }
 
 abbrev head_with : Script → ℕ → Bytes → Head
@@ -54,3 +56,9 @@ both_texts bytes left script told head text = record {
 -- a report that is refused at a line
 pub refused_at : (fault : ReportFault) (line : ℕ) (cause : ReportCause) (read : Result Report Refusal) → fault ≡ Refused line cause → Answers (Err fault) read → read ≡ Err (line, cause)
 refused_at fault line cause read is answers = subst (λ (f : ReportFault). Answers (Err f) read) is answers
+
+-- a text of a script that ends with a line feed, and then one of a report
+pub in_turn : (front text : Bytes) (script : Script) (told : Report) → lines_of (front ++ 10 ∷ text) ≡ lines_of (front ++ 10 ∷ []) ++ lines_of text
+    → IsTextOf (front ++ 10 ∷ []) script → IsReportTextOf script text told → IsCheckTextOf (front ++ 10 ∷ text) script told
+unfolding IsTextOf
+in_turn front text script told cut head back = both_texts (front ++ 10 ∷ text) text script told (record { front = lines_of (front ++ 10 ∷ []); cut = cut; of_script = head.0; script_is = head.1 }) back

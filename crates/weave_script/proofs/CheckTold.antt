@@ -6,16 +6,17 @@ use Rattle.std.proofs.lemmas.Bool.{cond-true, cond-false, eqb-true, le-ltb}
 use Rattle.program_defs.specs.declared.script.Script.{Script}
 use Rattle.weave_report.specs.FirstRefusal.{IsFirstRefusal}
 use Rattle.weave_report.specs.Reading as report
-use Rattle.weave_report.specs.declared.report.Report.{Report}
+use Rattle.report_rules.specs.declared.report.Report.{Report}
 use Rattle.weave_text.specs.Cutting.{lines_of, words_of, is_skipped}
 use Rattle.weave_text.specs.Lines.{Bytes, Line}
 use Rattle.weave_script.specs.CheckFaults.{begins_report, IsFirstCheckFault, InScript, NoReport, InReport}
-use Rattle.weave_script.specs.CheckText.{IsHead, behind, check_text}
+use Rattle.weave_script.specs.CheckText.{IsHead}
+use Rattle.weave_script.specs.CheckReading.{behind, check_text}
 use Rattle.weave_script.specs.Faults.{IsRefusedAt, IsFirstFault}
 use Rattle.weave_script.specs.Fields.{◌>>=◌}
 use Rattle.weave_script.specs.ReadText.{Fault, Part, at_line, is_open, is_report, read_on, head_before}
 use Rattle.weave_script.specs.Reading.{start}
-use Rattle.weave_script.specs.Texts.{IsTextOf}
+use Rattle.weave_script.specs.ScriptLines.{IsTextOf}
 use Rattle.weave_script.specs.declared.fault.Cause.TheVariants as causes
 use Rattle.weave_script.specs.declared.reading.Reading.{Reading}
 use Rattle.weave_script.proofs.CheckLaws.{finish, told_behind, open_last}

@@ -1,8 +1,9 @@
 -- The lines of a script have clean words.
-use Rattle.std.proofs.Common.{◌≡◌, ℕ, ◌+◌, ◌≤◌, ◌<◌, ◌^◌, Bool, true, false, ◌&&◌, List, [], ◌∷◌, ◌++◌, map, Option, Some, None, refl, arith}
+use Rattle.std.proofs.Common.{◌≡◌, ℕ, ◌+◌, ◌≤◌, ◌<◌, ◌^◌, true, List, [], ◌∷◌, ◌++◌, map, Option, Some, None, refl, arith}
 use Rattle.std.specs.Prelude.{IsTrue, length, codes}
 use Rattle.std.specs.Fmt.{decimal}
 use Rattle.std.specs.List.{AllByRecursion, list_all}
+use Rattle.proof_base.proofs.Lists.{all-append, list_all-from}
 use Rattle.weave_data.specs.Names.{is_name}
 use Rattle.graph_ops.specs.declared.op.Op.{Op}
 use Rattle.graph_ops.specs.declared.op.Op.TheVariants.{Create, Delete, Set, Unset, Link, Unlink, Tag, Untag, Get}
@@ -32,20 +33,8 @@ IsClean word = is_clean word ≡ true
 abbrev pub IsCleanLine : Line → Type 0
 IsCleanLine line = is_clean_line line ≡ true
 
-both : (a b : Bool) → a ≡ true → b ≡ true → (a && b) ≡ true
-both true b h k = k
-both false b h k = absurd cc
-
-all_true : {A : Type 0} (test : A → Bool) (xs : List A) → AllByRecursion (λ x. test x ≡ true) xs → list_all test xs ≡ true
-all_true test [] h = refl
-all_true test (x ∷ xs) h = both (test x) (list_all test xs) h.0 (all_true test xs h.1)
-
 words_clean : (words : List Word) → AllByRecursion IsClean words → list_all is_clean words ≡ true
-words_clean words h = all_true is_clean words h
-
-All-append : {A : Type 0} (P : A → Type 0) (xs ys : List A) → AllByRecursion P xs → AllByRecursion P ys → AllByRecursion P (xs ++ ys)
-All-append P [] ys h k = k
-All-append P (x ∷ xs) ys h k = (h.0, All-append P xs ys h.1 k)
+words_clean words h = list_all-from is_clean words h
 
 module _ (laws : CleanLaws) where
   name : (word : Word) → IsName word → IsClean word
@@ -91,7 +80,7 @@ module _ (laws : CleanLaws) where
       go : (work : Work) → IsWork work → AllByRecursion IsCleanLine (work_lines request.name request.session request.gate work)
       go (Change ops) h = (
         words_clean (request.name ∷ decimal request.session ∷ decimal request.gate ∷ []) (name request.name is.name, (session, (gate, tt))),
-        All-append IsCleanLine (map op_line ops) (end_line ∷ []) (ops_clean ops h.0) (refl, tt),
+        all-append IsCleanLine (map op_line ops) (end_line ∷ []) (ops_clean ops h.0) (refl, tt),
       )
       go (Look program) h =
           (words_clean (request.name ∷ decimal request.session ∷ decimal request.gate ∷ program_words program) (name request.name is.name, (session, (gate, program_clean program h))), tt)
@@ -103,8 +92,8 @@ module _ (laws : CleanLaws) where
   items_clean : (gates : ℕ) → gates ≤ 8 → (n : ℕ) (requests : List Request) (phases : List ℕ) → AllByRecursion (IsRequest gates) requests → AllByRecursion IsCleanLine (item_lines n requests phases)
   items_clean gates few n [] phases h = phases_clean phases
   items_clean gates few n (request ∷ requests) phases h =
-      All-append IsCleanLine (phase_lines (due_phases n phases) ++ request_lines request) (item_lines (n + 1) requests (later_phases n phases))
-      (All-append IsCleanLine (phase_lines (due_phases n phases)) (request_lines request) (phases_clean (due_phases n phases)) (work_clean gates few request request.work h.0 h.0.work))
+      all-append IsCleanLine (phase_lines (due_phases n phases) ++ request_lines request) (item_lines (n + 1) requests (later_phases n phases))
+      (all-append IsCleanLine (phase_lines (due_phases n phases)) (request_lines request) (phases_clean (due_phases n phases)) (work_clean gates few request request.work h.0 h.0.work))
       (items_clean gates few (n + 1) requests (later_phases n phases) h.1)
 
   step_clean : (gates shards : ℕ) (requests : List Request) → gates ≤ 8 → shards ≤ 16 → AllByRecursion (IsRequest gates) requests → (step : Step) → IsStep gates shards (length requests) step → IsCleanLine (step_line requests step)
@@ -147,8 +136,8 @@ module _ (laws : CleanLaws) where
   -- every line of a script is clean
   pub script_is_clean : (script : Script) → IsScript script → IsTrue (list_all is_clean_line (script_lines script))
   script_is_clean script h =
-      all_true is_clean_line (script_lines script) (
+      list_all-from is_clean_line (script_lines script) (
         words_clean (codes "1" ∷ decimal script.gates ∷ decimal script.shards ∷ []) (refl, (small script.gates 8 h.gates.1 (omega arith), (small script.shards 16 h.shards.1 (omega arith), tt))),
-        All-append IsCleanLine (item_lines 0 script.requests script.phases) (steps_lines script.requests script.steps) (items_clean script.gates h.gates.1 0 script.requests script.phases h.requests)
+        all-append IsCleanLine (item_lines 0 script.requests script.phases) (steps_lines script.requests script.steps) (items_clean script.gates h.gates.1 0 script.requests script.phases h.requests)
             (steps_clean script.gates script.shards script.requests h.gates.1 h.shards.1 h.requests script.steps h.steps),
       )

@@ -1,7 +1,7 @@
 -- The fault that is told is the first.
-use Rattle.std.proofs.Common.{◌≡◌, ℕ, suc, ◌+◌, ◌≤◌, Bool, true, false, cond, List, [], ◌∷◌, length, Ok, Err, refl, sym, ap, ◌∙◌, arith}
+use Rattle.std.proofs.Common.{◌≡◌, ℕ, suc, ◌+◌, ◌<◌, ◌≤◌, Bool, true, false, cond, List, [], ◌∷◌, ◌++◌, length, Ok, Err, refl, sym, ap, ◌∙◌, arith}
 use Rattle.std.specs.Prelude.{Result, nat_lt}
-use Rattle.std.proofs.lemmas.Bool.{cond-true, cond-false, le-ltb}
+use Rattle.std.proofs.lemmas.Bool.{cond-true, cond-false, le-ltb, lt-ltb}
 use Rattle.program_defs.specs.declared.script.Script.{Script}
 use Rattle.weave_text.specs.Cutting.{lines_of, words_of, is_skipped}
 use Rattle.weave_text.specs.Lines.{Bytes}
@@ -12,6 +12,7 @@ use Rattle.weave_script.specs.Fields.{Read, ◌>>=◌}
 use Rattle.weave_script.specs.Faults.{IsRefusedAt, IsFirstFault}
 use Rattle.weave_script.specs.ReadText.{Fault, Part, at_line, read_on, read_text, script_at}
 use Rattle.weave_script.specs.Reading.{start, after_line}
+use Rattle.weave_script.proofs.Binds.{ok_is}
 
 abbrev pub err : {A E : Type 0} → E → Result A E
 err e = Err e
@@ -90,3 +91,40 @@ pub first_fault_of_text : (bytes : Bytes) (fault : Fault) → length bytes ≤ 4
 first_fault_of_text bytes fault short e =
     first_fault 1 start (lines_of bytes) fault
     (sym (ap (λ part. part >>= finish) (cond-false (nat_lt 4194304 (length bytes)) (Err (record { line = 0; cause = causes.TooLong })) (read_on false 1 start (lines_of bytes)) (le-ltb 4194304 (length bytes) short))) ∙ e)
+
+-- ---- the first fault is reported
+
+-- lines that were accepted are read past
+past : (n : ℕ) (reading : Reading) (front back : List Bytes) (part : Part) → read_on false n reading front ≡ Ok part → read_on false n reading (front ++ back) ≡ read_on false part.line part.reading back
+past n reading [] back part e = ap (λ (p : Part). read_on false p.line p.reading back) (ok_is {E = Fault} (record { reading = reading; line = n; left = [] }) part e)
+past n reading (line ∷ front) back part e = go (λ next e. past (suc n) next front back part e) (is_skipped line) (after_line reading (words_of line)) e
+  where
+    go : ((next : Reading) → read_on false (suc n) next front ≡ Ok part → read_on false (suc n) next (front ++ back) ≡ read_on false part.line part.reading back)
+        → (b : Bool) (read : Read Reading)
+        → cond b (read_on false (suc n) reading front) (at_line n read >>= λ next. read_on false (suc n) next front) ≡ Ok part
+        → cond b (read_on false (suc n) reading (front ++ back)) (at_line n read >>= λ next. read_on false (suc n) next (front ++ back)) ≡ read_on false part.line part.reading back
+    go rest true read e = rest reading e
+    go rest false (Ok next) e = rest next e
+    go rest false (Err cause) e = absurd cc
+
+-- the first of the lines is refused, or the script can't end there
+refused_there : (n : ℕ) (reading : Reading) (rest : List Bytes) (fault : Fault) → fault.line ≡ n → IsRefusedAt reading rest fault.cause → (read_on false n reading rest >>= finish) ≡ Err fault
+refused_there n reading [] fault number refused =
+    ap (λ read. at_line n read) refused ∙ ap (λ k. Err (record { line = k; cause = fault.cause })) (sym number)
+refused_there n reading (line ∷ lines) fault number refused =
+    ap (λ part. part >>= finish) (cond-false (is_skipped line) _ _ refused.0 ∙ ap (λ read. at_line n read >>= λ next. read_on false (suc n) next lines) refused.1)
+    ∙ ap (λ k. Err (record { line = k; cause = fault.cause })) (sym number)
+
+-- of a text that isn't too long
+pub first_fault_told : (bytes : Bytes) (fault : Fault) → length bytes ≤ 4194304 → IsFirstFault 1 start (lines_of bytes) fault → read_text bytes ≡ Err fault
+first_fault_told bytes fault short first =
+    ap (λ part. part >>= finish)
+    (cond-false (nat_lt 4194304 (length bytes)) (Err (record { line = 0; cause = causes.TooLong })) (read_on false 1 start (lines_of bytes)) (le-ltb 4194304 (length bytes) short)
+    ∙ ap (λ lines. read_on false 1 start lines) first.parts
+    ∙ past 1 start first.before first.rest (record { reading = first.reading; line = 1 + length first.before; left = [] }) first.accepted)
+    ∙ refused_there (1 + length first.before) first.reading first.rest fault first.number first.refused
+
+-- one that is too long
+pub too_long_text : (bytes : Bytes) → 4194304 < length bytes → read_text bytes ≡ Err (record { line = 0; cause = causes.TooLong })
+too_long_text bytes long =
+    ap (λ part. part >>= finish) (cond-true (nat_lt 4194304 (length bytes)) (Err (record { line = 0; cause = causes.TooLong })) (read_on false 1 start (lines_of bytes)) (lt-ltb 4194304 (length bytes) long))

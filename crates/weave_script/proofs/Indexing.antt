@@ -14,8 +14,9 @@ use Rattle.graph_ops.specs.declared.op.Op.{Op}
 use Rattle.graph_ops.specs.declared.op.Op.TheVariants.{Create, Delete, Set, Unset, Link, Unlink, Tag, Untag, Get}
 use Rattle.program_defs.specs.declared.script.Request.{Request}
 use Rattle.program_defs.specs.declared.script.Work.TheVariants.{Change}
+use Rattle.program_defs.specs.Works.{is_look}
 use Rattle.weave_script.specs.Indexed.{IsSetOf, IsPlaces, IsNew}
-use Rattle.weave_script.specs.Limits.{with_names, vertices_of, vertices_of_work, vertices_of_op, programs_of, is_program, gets_of, gets_of_work, is_get}
+use Rattle.weave_script.specs.Limits.{with_names, vertices_of, vertices_of_work, vertices_of_op, programs_of, gets_of, gets_of_work, is_get}
 use Rattle.weave_script.specs.RequestLines.{request_of}
 use Rattle.weave_script.specs.StepLines.{place_of}
 use Rattle.weave_script.specs.declared.reading.Opening.{Opening}
@@ -82,8 +83,8 @@ vertices_of-push requests request =
 pub gets_of-push : (requests : List Request) (request : Request) → gets_of (requests ++ request ∷ []) ≡ gets_of requests + gets_of_work request.work
 gets_of-push requests request = sum_by-append (λ (r : Request). gets_of_work r.work) requests (request ∷ []) ∙ omega arith
 
-pub programs_of-push : (requests : List Request) (request : Request) → programs_of (requests ++ request ∷ []) ≡ programs_of requests + cond (is_program request.work) 1 0
-programs_of-push requests request = sum_by-append (λ (r : Request). cond (is_program r.work) 1 0) requests (request ∷ []) ∙ omega arith
+pub programs_of-push : (requests : List Request) (request : Request) → programs_of (requests ++ request ∷ []) ≡ programs_of requests + cond (is_look request.work) 1 0
+programs_of-push requests request = sum_by-append (λ (r : Request). cond (is_look r.work) 1 0) requests (request ∷ []) ∙ omega arith
 
 -- ---- a transaction, and its operations
 

@@ -4,6 +4,7 @@ use Rattle.std.specs.declared.cmp.Ordering.TheVariants.{Less, Equal, Greater}
 use Rattle.std.specs.List.{position_from}
 use Rattle.std.specs.Ordering.{is_eq, match_ordering, ordering_reverse}
 use Rattle.std.specs.Cmp.Lexicographic.{nat_list_cmp_total}
+use Rattle.proof_base.proofs.Lists.{none-of_both}
 use Rattle.weave_data.specs.Names.{name_cmp, same_name, one_name}
 use Rattle.weave_data.specs.Pairs.{at_key, put}
 
@@ -64,23 +65,15 @@ module _ {X : Type 0} where
   pub length-put : (k : List ℕ) (v : X) (es : List (List ℕ × X)) → at_key k es ≡ None → length (put k v es) ≡ suc (length es)
   length-put k v [] none = refl
   length-put k v (e ∷ es) none =
-      let parts = apart (same_name k e.0) none in
+      let parts = none-of_both (same_name k e.0) e.1 (at_key k es) none in
       one_more k v e es (put k v es) (name_cmp k e.0) refl parts.0 (length-put k v es parts.1)
-    where
-      apart : (b : Bool) → cond b (Some e.1) (at_key k es) ≡ None → (b ≡ false) × (at_key k es ≡ None)
-      apart true h = absurd cc
-      apart false h = (refl, h)
 
 module _ {K : Type 0} (test : K → Bool) where
-  apart : (b : Bool) (i : ℕ) (rest : Option ℕ) → cond b (Some i) rest ≡ None → (b ≡ false) × (rest ≡ None)
-  apart true i rest h = absurd cc
-  apart false i rest h = (refl, h)
-
   -- one more at the end is the first that passes
   pub position_from-push_yes : (i : ℕ) (xs : List K) (x : K) → position_from test i xs ≡ None → test x ≡ true → position_from test i (xs ++ x ∷ []) ≡ Some (i + length xs)
   position_from-push_yes i [] x none passes = ap (λ b. cond b (Some i) None) passes ∙ ap (λ n. Some n) (omega arith)
   position_from-push_yes i (y ∷ xs) x none passes =
-      let parts = apart (test y) i (position_from test (i + 1) xs) none in
+      let parts = none-of_both (test y) i (position_from test (i + 1) xs) none in
       ap (λ b. cond b (Some i) (position_from test (i + 1) (xs ++ x ∷ []))) parts.0 ∙ position_from-push_yes (i + 1) xs x parts.1 passes ∙ ap (λ n. Some n) (omega arith)
 
   -- one more that doesn't pass changes nothing

@@ -11,9 +11,10 @@ use Rattle.graph_ops.specs.Mentions.{is_among, with_name}
 use Rattle.graph_ops.specs.declared.op.Op.{Op}
 use Rattle.program_defs.specs.declared.script.Request.{Request}
 use Rattle.program_defs.specs.declared.script.Work.TheVariants.{Change}
+use Rattle.program_defs.specs.Works.{is_look}
 use Rattle.weave_script.specs.declared.fault.Cause.{Cause}
 use Rattle.weave_script.specs.declared.reading.Opening.{Opening}
-use Rattle.weave_script.specs.Limits.{over_limit, counts_of, with_names, vertices_of, vertices_of_op, vertices_of_work, is_get, gets_of, gets_of_work, is_program, programs_of}
+use Rattle.weave_script.specs.Limits.{over_limit, counts_of, with_names, vertices_of, vertices_of_op, vertices_of_work, is_get, gets_of, gets_of_work, programs_of}
 use Rattle.weave_script.specs.RequestLines.{request_of}
 use Rattle.weave_script.proofs.Indexing.{vertices_of-push, gets_of-push, programs_of-push}
 
@@ -63,7 +64,7 @@ front_few front back h =
     ∙ fold-append (λ so_far name. with_name name so_far) [] (flat_map (λ (r : Request). vertices_of_work r.work) front) (flat_map (λ (r : Request). vertices_of_work r.work) back) in
     record {
       requests_few = omega (arith, length-append front back, h.requests_few);
-      programs_few = omega (arith, sum_by-append (λ (r : Request). cond (is_program r.work) 1 0) front back, h.programs_few);
+      programs_few = omega (arith, sum_by-append (λ (r : Request). cond (is_look r.work) 1 0) front back, h.programs_few);
       gets_few = omega (arith, sum_by-append (λ (r : Request). gets_of_work r.work) front back, h.gets_few);
       vertices_few = omega (arith, ap length vertices, with_names-grow (vertices_of front) (flat_map (λ (r : Request). vertices_of_work r.work) back), h.vertices_few);
     }

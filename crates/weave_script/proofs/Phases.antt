@@ -1,7 +1,7 @@
 -- Phases that rise.
-use Rattle.std.proofs.Common.{◌≡◌, ℕ, ◌+◌, ◌≤◌, Bool, true, false, cond, ◌&&◌, List, [], ◌∷◌, ◌++◌, refl, ap, arith}
+use Rattle.std.proofs.Common.{◌≡◌, ℕ, ◌+◌, ◌≤◌, Bool, true, false, cond, List, [], ◌∷◌, ◌++◌, refl, ap, arith}
 use Rattle.std.specs.Prelude.{nat_le}
-use Rattle.std.proofs.lemmas.Bool.{le-leb, leb-true, leb-false}
+use Rattle.std.proofs.lemmas.Bool.{and_from, le-leb, leb-true, leb-false}
 use Rattle.weave_script.specs.ScriptLines.{due_phases, later_phases}
 use Rattle.weave_script.specs.Scripts.{RiseTo}
 use Rattle.weave_script.proofs.Items.{are_at_most}
@@ -16,14 +16,10 @@ pub rise-push : (low high : ℕ) (phases : List ℕ) → low ≤ high → RiseTo
 rise-push low high [] some h = (some, omega arith, tt)
 rise-push low high (phase ∷ phases) some h = (h.0, h.1, rise-push phase high phases h.1 h.2)
 
-both : (a b : Bool) → a ≡ true → b ≡ true → (a && b) ≡ true
-both true b h k = k
-both false b h k = absurd cc
-
 -- each is at most the end
 pub rising-at_most : (low high : ℕ) (phases : List ℕ) → RiseTo low high phases → are_at_most high phases ≡ true
 rising-at_most low high [] h = refl
-rising-at_most low high (phase ∷ phases) h = both (nat_le phase high) (are_at_most high phases) (le-leb phase high h.1) (rising-at_most phase high phases h.2)
+rising-at_most low high (phase ∷ phases) h = and_from (nat_le phase high) (are_at_most high phases) (le-leb phase high h.1) (rising-at_most phase high phases h.2)
 
 -- ---- phases that are due
 

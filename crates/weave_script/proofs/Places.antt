@@ -1,6 +1,7 @@
 -- Names of requests, and their places.
 use Rattle.std.proofs.Common.{◌≡◌, ℕ, suc, zero, ◌+◌, ◌<◌, Bool, true, false, cond, List, [], ◌∷◌, ◌++◌, length, Option, Some, None, refl, ap, ◌∙◌, subst, arith}
 use Rattle.std.specs.List.{AllByRecursion, IsDistinct, position_from}
+use Rattle.proof_base.proofs.Lists.{none-of_both}
 use Rattle.weave_data.specs.Names.{same_name, one_name}
 use Rattle.weave_data.specs.declared.name.Name.{Name}
 use Rattle.program_defs.specs.declared.script.Request.{Request}
@@ -13,14 +14,10 @@ use Rattle.weave_script.proofs.Keys.{same_itself}
 abbrev pub IsFree : Name → List Request → Type 0
 IsFree name requests = AllByRecursion (λ other. same_name other name ≡ false) (names_of requests)
 
-apart : (b : Bool) (i : ℕ) (rest : Option ℕ) → cond b (Some i) rest ≡ None → (b ≡ false) × (rest ≡ None)
-apart true i rest h = absurd cc
-apart false i rest h = (refl, h)
-
 free_from : (name : Name) (k : ℕ) (requests : List Request) → position_from (λ r. same_name r.name name) k requests ≡ None → IsFree name requests
 free_from name k [] h = tt
 free_from name k (request ∷ requests) h =
-    let parts = apart (same_name request.name name) k (position_from (λ (r : Request). same_name r.name name) (k + 1) requests) h in
+    let parts = none-of_both (same_name request.name name) k (position_from (λ (r : Request). same_name r.name name) (k + 1) requests) h in
     (parts.0, free_from name (k + 1) requests parts.1)
 
 pub free-from_place_of : (name : Name) (requests : List Request) → place_of name requests ≡ None → IsFree name requests

@@ -4,6 +4,7 @@ use Rattle.std.specs.Prelude.{codes, is_some}
 use Rattle.std.specs.List.{AllByRecursion, IsDistinct}
 use Rattle.std.specs.Str.{bytes_eq}
 use Rattle.std.proofs.lemmas.List.{append-nil, length_push, map-append}
+use Rattle.proof_base.proofs.Lists.{all-push}
 use Rattle.weave_data.specs.Names.{same_name}
 use Rattle.weave_data.specs.declared.name.Name.{Name}
 use Rattle.graph_ops.specs.declared.op.Op.{Op}
@@ -85,10 +86,6 @@ pub record Leads (lines : List Line) (line : Line) (next : Reading) : Type 0 whe
   pub good : IsGoodReading next
   pub told : lines_of_reading next ≡ lines ++ line ∷ []
 
-All-push : {A : Type 0} (P : A → Type 0) (xs : List A) (x : A) → AllByRecursion P xs → P x → AllByRecursion P (xs ++ x ∷ [])
-All-push P [] x h k = (k, tt)
-All-push P (y ∷ xs) x h k = (h.0, All-push P xs x h.1 k)
-
 free_name : {A : Type 0} (name : Name) (requests : List Request) (value next : A) → unless_taken name requests value ≡ Ok next → IsFree name requests × (value ≡ next)
 free_name name requests value next e = go (place_of name requests) refl e
   where
@@ -102,7 +99,7 @@ request_good : (n m : ℕ) (requests : List Request) (phases : List ℕ) (reques
 request_good n m requests phases request good is free = (
   record {
     sizes = good.sizes;
-    each = All-push (IsRequest n) requests request good.each is;
+    each = all-push (IsRequest n) requests request good.each is;
     distinct = distinct-push requests request good.distinct free;
     rising = rise_further 0 (length requests) (length (requests ++ request ∷ [])) phases (omega (arith, length_push requests request)) good.rising;
   },
@@ -223,7 +220,7 @@ module _ (laws : NumberLaws) where
       let front = front_lines n m requests phases in
       let first = opening_line opening.name opening.session opening.gate in
       subst (Leads (open_lines n m requests phases opening ops) line) (ok_is {E = Cause} (at n m requests phases (Inside opening (ops ++ step.0 ∷ []))) next step.2) (record {
-        good = (good, record { opened = begun.opened; free = begun.free; each = All-push IsOperation ops step.0 begun.each read.0 });
+        good = (good, record { opened = begun.opened; free = begun.free; each = all-push IsOperation ops step.0 begun.each read.0 });
         told = ap (λ lines. front ++ first ∷ lines) (map-append op_line ops (step.0 ∷ []) ∙ ap (λ line. map op_line ops ++ line ∷ []) (sym read.1))
             ∙ sym (append_assoc front (first ∷ map op_line ops) (line ∷ []));
       })
@@ -243,7 +240,7 @@ module _ (laws : NumberLaws) where
       let read = step_of-ok laws n m good.sizes requests line step.0 step.1 in
       let front = front_lines n m requests phases in
       subst (Leads (front ++ steps_line ∷ map (step_line requests) steps) line) (ok_is {E = Cause} (at n m requests phases (Behind (steps ++ step.0 ∷ []))) next step.2) (record {
-        good = (good, All-push (IsStep n m (length requests)) steps step.0 each read.0);
+        good = (good, all-push (IsStep n m (length requests)) steps step.0 each read.0);
         told = ap (λ lines. front ++ steps_line ∷ lines) (map-append (step_line requests) steps (step.0 ∷ []) ∙ ap (λ line. map (step_line requests) steps ++ line ∷ []) (sym read.1))
             ∙ sym (append_assoc front (steps_line ∷ map (step_line requests) steps) (line ∷ []));
       })

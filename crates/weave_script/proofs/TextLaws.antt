@@ -11,9 +11,8 @@ use Rattle.weave_script.specs.declared.reading.Reading.{Reading}
 use Rattle.weave_script.specs.Fields.{Read, ◌>>=◌}
 use Rattle.weave_script.specs.ReadText.{Fault, Part, at_line, read_on, read_part, read_text, script_at}
 use Rattle.weave_script.specs.Reading.{start, after_line}
-use Rattle.weave_script.specs.ScriptLines.{script_lines, script_text}
+use Rattle.weave_script.specs.ScriptLines.{script_lines, script_text, IsTextOf}
 use Rattle.weave_script.specs.Scripts.{IsScript}
-use Rattle.weave_script.specs.Texts.{IsTextOf}
 use Rattle.weave_script.proofs.Binds.{bind_ok, bind_at, ok_is}
 use Rattle.weave_script.proofs.FieldLaws.{NumberLaws}
 use Rattle.weave_script.proofs.Reached.{after_lines, lines_lead, script_reached}

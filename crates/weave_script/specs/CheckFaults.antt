@@ -6,11 +6,12 @@ use Rattle.weave_report.specs.Reading as report
 use Rattle.weave_report.specs.declared.fault.ReportCause.{ReportCause}
 use Rattle.weave_text.specs.Cutting.{lines_of, words_of}
 use Rattle.weave_text.specs.Lines.{Bytes}
-use Rattle.weave_script.specs.CheckText.{IsHead, cause_of}
+use Rattle.weave_script.specs.CheckText.{IsHead}
+use Rattle.weave_script.specs.CheckReading.{cause_of}
 use Rattle.weave_script.specs.Faults.{IsFirstFault}
 use Rattle.weave_script.specs.ReadText.{Fault, is_open, is_report}
 use Rattle.weave_script.specs.Reading.{start}
-use Rattle.weave_script.specs.Texts.{IsTextOf}
+use Rattle.weave_script.specs.ScriptLines.{IsTextOf}
 use Rattle.weave_script.specs.declared.fault.Cause.TheVariants as causes
 
 -- the first of the lines has the first word of a report

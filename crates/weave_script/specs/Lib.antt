@@ -2,6 +2,7 @@ pub mod Answers
 pub mod CauseTexts
 pub mod CheckFaults
 pub mod CheckText
+pub mod CheckReading
 pub mod Faults
 pub mod Fields
 pub mod HeaderLine
@@ -15,5 +16,3 @@ pub mod RequestLines
 pub mod ScriptLines
 pub mod Scripts
 pub mod StepLines
-pub mod Texts
-pub mod Unbuilt

@@ -10,6 +10,7 @@ use Rattle.program_defs.specs.declared.program.Program.TheVariants.{Show, Reach,
 use Rattle.program_defs.specs.declared.script.Request.{Request}
 use Rattle.program_defs.specs.declared.script.Work.{Work}
 use Rattle.program_defs.specs.declared.script.Work.TheVariants.{Change, Look}
+use Rattle.program_defs.specs.Works.{is_look}
 use Rattle.weave_script.specs.declared.fault.Cause.{Cause}
 use Rattle.weave_script.specs.declared.fault.Cause.TheVariants as causes
 use Rattle.weave_script.specs.declared.reading.Counts.{Counts}
@@ -57,11 +58,6 @@ with_names so_far names = fold (λ so_far name. with_name name so_far) so_far na
 abbrev pub vertices_of : List Request → List Name
 vertices_of requests = with_names [] (flat_map (λ request. vertices_of_work request.work) requests)
 
--- the work is a program
-abbrev pub is_program : Work → Bool
-is_program (Change ops) = false
-is_program (Look program) = true
-
 -- the operation is a `get`
 abbrev pub is_get : Op → Bool
 is_get (Get v) = true
@@ -78,7 +74,7 @@ gets_of requests = sum_by (λ request. gets_of_work request.work) requests
 
 -- how many requests are programs
 abbrev pub programs_of : List Request → ℕ
-programs_of requests = count_by (λ request. is_program request.work) requests
+programs_of requests = count_by (λ request. is_look request.work) requests
 
 -- the counts of so many operations of an open transaction, of requests, and of so many steps
 abbrev pub counts_of : ℕ → List Request → ℕ → Counts

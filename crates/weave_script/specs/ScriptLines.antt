@@ -1,8 +1,9 @@
 -- The lines of a script.
-use Rattle.std.specs.Prelude.{ℕ, ◌+◌, nat_le, List, [], ◌∷◌, ◌++◌, map, Option, Some, None, codes, if◌then◌else◌}
+use Rattle.std.specs.Prelude.{ℕ, ◌≡◌, ◌+◌, nat_le, List, [], ◌∷◌, ◌++◌, map, Option, Some, None, codes, if◌then◌else◌}
 use Rattle.std.specs.Fmt.{decimal}
 use Rattle.std.specs.List.{slice_get}
 use Rattle.std.specs.Option.{option_map_or}
+use Rattle.weave_text.specs.Cutting.{lines_of, kept_lines}
 use Rattle.weave_text.specs.Lines.{Bytes, Word, Line, lines_text}
 use Rattle.weave_data.specs.declared.name.Name.{Name}
 use Rattle.graph_ops.specs.declared.op.Op.{Op}
@@ -16,6 +17,7 @@ use Rattle.program_defs.specs.declared.script.Step.{Step}
 use Rattle.program_defs.specs.declared.script.Step.TheVariants.{Begin, Judge, Send, Say, Hear, Nop, Deliver, Apply, Visit, Reply, Collect, Epoch}
 use Rattle.program_defs.specs.declared.script.Work.{Work}
 use Rattle.program_defs.specs.declared.script.Work.TheVariants.{Change, Look}
+use Rattle.weave_script.specs.Scripts.{IsScript}
 
 -- the first line, with the numbers of gatekeepers and shards
 abbrev pub header_line : ℕ → ℕ → Line
@@ -124,3 +126,7 @@ script_lines script = header_line script.gates script.shards ∷ item_lines 0 sc
 -- a script's one printed text
 abbrev pub script_text : Script → Bytes
 script_text script = lines_text (script_lines script)
+
+-- the bytes are a text of the script: its lines, between which others may be skipped
+unfoldable pub IsTextOf : Bytes → Script → Type 0
+IsTextOf bytes script = IsScript script × (kept_lines (lines_of bytes) ≡ script_lines script)

@@ -1,7 +1,8 @@
 //! Reads a script and the report that follows it.
 ghost use Rattle.std.specs.Prelude.{◌≡◌, Ok, Err, IfOk};
 ghost use Rattle.weave_script.specs.Answers.{IfRefused};
-ghost use Rattle.weave_script.specs.CheckText.{IsCheckTextOf, cause_of, check_text};
+ghost use Rattle.weave_script.specs.CheckText.{IsCheckTextOf};
+ghost use Rattle.weave_script.specs.CheckReading.{cause_of, check_text};
 
 use crate::fault::{Cause, ScriptFault};
 use crate::head::{Head, read_head};
@@ -10,7 +11,7 @@ use program_defs::Script;
 use std::alloc::Global;
 use weave_report::{Report, ReportCause, ReportFault, read_report};
 
-/// The script and the report of which the bytes are a text, the one behind the other, or the first fault of the text.
+/// The script and the report of which the bytes are a text, first the script's and then the report's, or the first fault of the text.
 /// Lines are counted from the first one of all.
 pub fn read_check(alloc: Global, bytes: &[u8]) -> Result<(Script, Report), ScriptFault>
     ensures read { IfOk result (λ told. check_text bytes.now ≡ Ok told) }

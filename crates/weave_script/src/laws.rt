@@ -1,34 +1,44 @@
-//! What holds of every text of a script.
+//! What holds of every valid script.
 ghost use Rattle.std.specs.Prelude.{◌≡◌, ◌≤◌, ◌<◌, ◌^◌, ℕ, List, length, Ok, Err, false};
-ghost use Rattle.std.specs.List.{AllByRecursion};
+ghost use Rattle.std.specs.List.{AllByRecursion, list_any};
+ghost use Rattle.program_defs.specs.Works.{is_look, ops_of};
 ghost use Rattle.program_defs.specs.declared.script.Script.{Script};
-ghost use Rattle.weave_report.specs.PlainRun.{IsPlainTransaction, ops_of};
+ghost use Rattle.report_rules.specs.PlainRun.{IsPlainScript};
 ghost use Rattle.weave_text.specs.Cutting.{lines_of};
 ghost use Rattle.weave_text.specs.Lines.{Bytes};
 ghost use Rattle.weave_script.specs.CheckText.{IsHead};
 ghost use Rattle.weave_script.specs.Faults.{IsFirstFault};
 ghost use Rattle.weave_script.specs.ReadText.{Fault, Head, head_of, read_text};
 ghost use Rattle.weave_script.specs.Reading.{start};
-ghost use Rattle.weave_script.specs.ScriptLines.{script_text};
+ghost use Rattle.weave_script.specs.ScriptLines.{IsTextOf, script_text};
 ghost use Rattle.weave_script.specs.Scripts.{IsScript};
-ghost use Rattle.weave_script.specs.Texts.{IsTextOf};
-ghost use Rattle.weave_script.specs.Unbuilt.{has_program, has_more_gatekeepers};
 
+use crate::fault::Cause;
 use weave_text::{clean_lines_come_back, numbers_come_back, words_are_clean};
 
-/// What is read is a text of that script, and every text of a script that isn't too long is read as it. What is refused and isn't too long is a text of no script.
+/// What is read is a text of that script, and every text of a script that isn't too long is read as it.
+/// What is refused and isn't too long is a text of no script.
 pub fn texts_are_read()
     ensures read { (bytes : Bytes) (script : Script) → read_text bytes ≡ Ok script → IsTextOf bytes script }
     ensures short { (bytes : Bytes) (script : Script) → read_text bytes ≡ Ok script → length bytes ≤ 4194304 }
-    ensures every_text { (bytes : Bytes) (script : Script) → length bytes ≤ 4194304 → IsTextOf bytes script → read_text bytes ≡ Ok script }
-    ensures refused { (bytes : Bytes) (fault : Fault) (script : Script) → length bytes ≤ 4194304 → read_text bytes ≡ Err fault → ¬ IsTextOf bytes script }
+    ensures every_text { (bytes : Bytes) (script : Script) → length bytes ≤ 4194304
+        → IsTextOf bytes script → read_text bytes ≡ Ok script }
+    ensures refused { (bytes : Bytes) (fault : Fault) (script : Script) → length bytes ≤ 4194304
+        → read_text bytes ≡ Err fault → ¬ IsTextOf bytes script }
 {
     numbers_come_back();
 }
 
-/// The fault that is told of a text that isn't too long is its first one: the lines before it are accepted, and it is refused for that cause behind them.
+/// The fault that is reported of a text that isn't too long is its first one: the lines before it are accepted, and
+/// after them it is refused for that cause. It is reported whenever there is one. A text that is too long is refused
+/// as a whole.
 pub fn faults_are_first()
-    ensures { (bytes : Bytes) (fault : Fault) → length bytes ≤ 4194304 → read_text bytes ≡ Err fault → IsFirstFault 1 start (lines_of bytes) fault }
+    ensures first { (bytes : Bytes) (fault : Fault) → length bytes ≤ 4194304
+        → read_text bytes ≡ Err fault → IsFirstFault 1 start (lines_of bytes) fault }
+    ensures reported { (bytes : Bytes) (fault : Fault) → length bytes ≤ 4194304
+        → IsFirstFault 1 start (lines_of bytes) fault → read_text bytes ≡ Err fault }
+    ensures too_long { (bytes : Bytes) → 4194304 < length bytes
+        → read_text bytes ≡ Err (record { line = 0; cause = Cause.TooLong }) }
 {}
 
 /// No text is of two scripts, and what has a text is a script whose numbers, names and counts are in their ranges.
@@ -39,10 +49,11 @@ pub fn texts_are_of_one_script()
     numbers_come_back();
 }
 
-/// A script's printed text is one of its texts, and is read as it where it isn't too long.
+/// A script's printed text is one of its texts, and is read as it if it isn't too long.
 pub fn printed_scripts_come_back()
     ensures text { (script : Script) → IsScript script → IsTextOf (script_text script) script }
-    ensures read { (script : Script) → IsScript script → length (script_text script) ≤ 4194304 → read_text (script_text script) ≡ Ok script }
+    ensures read { (script : Script) → IsScript script
+        → length (script_text script) ≤ 4194304 → read_text (script_text script) ≡ Ok script }
 {
     clean_lines_come_back();
     words_are_clean();
@@ -57,12 +68,14 @@ pub fn heads_are_texts()
 }
 
 /// A script without programs at one gatekeeper asks for transactions at gatekeeper 0 alone.
-pub fn all_are_plain()
-    ensures { (script : Script) → IsScript script → has_program script ≡ false → has_more_gatekeepers script ≡ false → AllByRecursion IsPlainTransaction script.requests }
+pub fn transactions_at_one_gatekeeper_are_plain()
+    ensures { (script : Script) → IsScript script → list_any (λ request. is_look request.work) script.requests ≡ false
+        → script.gates ≤ 1 → IsPlainScript script }
 {}
 
 /// A script has few requests, and its transactions few operations.
 pub fn scripts_are_small()
     ensures requests { (script : Script) → IsScript script → length script.requests ≤ 10000 }
-    ensures operations { (script : Script) → IsScript script → AllByRecursion (λ request. length (ops_of request.work) ≤ 64) script.requests }
+    ensures operations { (script : Script) → IsScript script
+        → AllByRecursion (λ request. length (ops_of request.work) ≤ 64) script.requests }
 {}

@@ -26,24 +26,22 @@ mod reader;
 mod reading;
 mod requests;
 mod steps;
-mod unbuilt;
 
 pub use check::read_check;
 pub use check_laws::{
     check_faults_are_first, checks_are_of_one_report, checks_are_read, printed_checks_come_back,
-    scripts_tell_by_name,
+    report_texts_follow_script_texts, script_names_are_distinct,
 };
 pub use fault::{Cause, ScriptFault};
 pub use laws::{
-    all_are_plain, faults_are_first, heads_are_texts, printed_scripts_come_back, scripts_are_small,
-    texts_are_of_one_script, texts_are_read,
+    faults_are_first, heads_are_texts, printed_scripts_come_back, scripts_are_small,
+    texts_are_of_one_script, texts_are_read, transactions_at_one_gatekeeper_are_plain,
 };
 pub use limits::{
     MOST_BYTES, MOST_GETS, MOST_OPS, MOST_PROGRAMS, MOST_REQUESTS, MOST_STEPS, MOST_VERTICES,
 };
 pub use print::print_script;
 pub use read::read_script;
-pub use unbuilt::{has_more_gatekeepers, has_program};
 
 #[cfg(test)]
 mod tests;

@@ -1,19 +1,26 @@
 //! Reads a script from its text.
-ghost use Rattle.std.specs.Prelude.{◌≡◌, Ok, Err, IfOk};
+ghost use Rattle.std.specs.Prelude.{◌≡◌, ◌≤◌, length, Ok, Err, IfOk};
+ghost use Rattle.program_defs.specs.declared.script.Script.{Script};
 ghost use Rattle.weave_script.specs.Answers.{IfRefused};
 ghost use Rattle.weave_script.specs.ReadText.{Fault, script_at, read_text};
+ghost use Rattle.weave_script.specs.ScriptLines.{IsTextOf};
 
 use crate::fault::{Cause, ScriptFault};
+use crate::laws::texts_are_read;
 use crate::part::{Part, read_part};
 use crate::reading::{Place, Reading};
 use program_defs::Script;
 use std::alloc::Global;
 
-/// The script of which the bytes are a text, or the first fault of the text. Whoever wants the laws of texts calls those of `laws`.
+/// The script of which the bytes are a text, or the first fault of the text.
 pub fn read_script(alloc: Global, bytes: &[u8]) -> Result<Script, ScriptFault>
+    ensures text { IfOk result (λ script. IsTextOf bytes.now script) }
     ensures read { IfOk result (λ script. read_text bytes.now ≡ Ok script) }
     ensures refused { IfRefused result (λ line cause. read_text bytes.now ≡ Err (record { line = line; cause = cause })) }
+    ensures not_valid { length bytes.now ≤ 4194304
+        → IfRefused result (λ line cause. (script : Script) → ¬ IsTextOf bytes.now script) }
 {
+    texts_are_read();
     let Part {
         reader,
         line,

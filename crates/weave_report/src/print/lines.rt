@@ -2,13 +2,13 @@
 ghost use Rattle.std.specs.Prelude.{◌≡◌, ◌++◌, ◌<◌, ◌^◌, length, map, OnOk};
 ghost use Rattle.std.specs.List.{AllByRecursion, enumerate_from};
 ghost use Rattle.weave_text.specs.Lines.{line_text, lines_text, spaced_words};
-ghost use Rattle.weave_report.specs.declared.report.Pair.{Pair};
+ghost use Rattle.report_rules.specs.declared.report.Pair.{Pair};
 ghost use Rattle.weave_report.specs.TextOf.{IsName, IsTypedStepAnswer};
 ghost use Rattle.weave_report.specs.ReportText.{did_line, name_at, order_line, pair_line, step_answer_words};
 
 use crate::print::words::name_at;
-use crate::report::{Pair, StepAnswer};
 use program_defs::Script;
+use report_rules::{Pair, StepAnswer};
 use std::alloc::AllocError;
 use weave_text::Text;
 

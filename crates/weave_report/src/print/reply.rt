@@ -8,9 +8,9 @@ ghost use Rattle.weave_report.specs.ReportText.{got_line, got_lines, reply_line,
 
 use crate::print::state::print_state;
 use crate::print::words::{begun_text, is_program, kind_text, name_at, print_answer, reason_text};
-use crate::report::{Reply, ReplyState};
 use graph_ops::Got;
 use program_defs::Script;
+use report_rules::{Reply, ReplyState};
 use std::alloc::AllocError;
 use vector_stamp::Stamp;
 use weave_text::Text;

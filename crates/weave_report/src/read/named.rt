@@ -3,13 +3,13 @@ ghost use Rattle.std.specs.Prelude.{◌≡◌, ◌<◌, ◌^◌, ℕ, List, leng
 ghost use Rattle.std.specs.BTreeMap.{get};
 ghost use Rattle.weave_data.specs.Names.{name_cmp};
 ghost use Rattle.std.specs.List.{AllByRecursion};
-ghost use Rattle.weave_report.specs.PlainRun.{ops_of};
+ghost use Rattle.program_defs.specs.Works.{ops_of};
 ghost use Rattle.weave_report.specs.ReadAnswers.{Gives};
 ghost use Rattle.weave_report.specs.ReadingReplies.{any_named, gets_of, kind_named, ops_at, program_named, program_of, request_from, request_named};
-ghost use Rattle.weave_report.specs.ReportOf.{numbers_of_gets};
+ghost use Rattle.report_rules.specs.ReportOf.{numbers_of_gets};
 ghost use Rattle.weave_report.specs.ReportText.{is_program};
-ghost use Rattle.weave_report.specs.TextOf.{IsName, IsTypedScript, TellsByName, names_of};
-ghost use Rattle.weave_report.specs.Words.{request_at};
+ghost use Rattle.weave_report.specs.TextOf.{IsName, IsTypedScript, HasDistinctNames, names_of};
+ghost use Rattle.report_rules.specs.Lookups.{request_at};
 
 use crate::fault::{LineFault, ReportCause};
 use graph_ops::{Name, Op};
@@ -41,7 +41,7 @@ impl<'a> Model for Named<'a> {
 impl<'a> Named<'a> {
     /// The script with its requests by name. The one error is want of memory.
     pub(crate) fn new(alloc: Global, script: &'a Script) -> Result<Named<'a>, AllocError>
-        requires { TellsByName script.now }
+        requires { HasDistinctNames script.now }
         ensures script { IfOk result (λ named. named ≡ script.now) }
         ensures typed { OnOk result (IsTypedScript script.now) }
     {

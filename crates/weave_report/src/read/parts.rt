@@ -1,7 +1,7 @@
 //! What lines are read as, before it is a report.
 
-use crate::report::{Reply, Report};
 use graph_ops::{Edge, Got};
+use report_rules::{Reply, Report};
 use vector_stamp::Stamp;
 use weave_data::{Items, Name};
 

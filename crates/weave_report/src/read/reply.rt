@@ -10,9 +10,9 @@ use crate::read::named::{Named, any_named, gets_of, kind_named};
 use crate::read::parts::{Commit, ReplyLine};
 use crate::read::stamp::stamp_in;
 use crate::read::state::{answer_in, is_answer_form, is_state_form, state_in};
-use crate::report::{Reply, ReplyState};
 use graph_ops::Got;
 use program_defs::Program;
+use report_rules::{Reply, ReplyState};
 use std::alloc::Global;
 use weave_text::is;
 

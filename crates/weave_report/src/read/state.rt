@@ -7,9 +7,9 @@ ghost use Rattle.weave_report.specs.ReadingFields.{or_cause};
 use crate::fault::{LineFault, ReportCause};
 use crate::read::fields::{name_in, names_in, small_number_in};
 use crate::read::record::items_in;
-use crate::report::StepAnswer;
 use graph_ops::Record;
 use program_defs::{Answer, Program};
+use report_rules::StepAnswer;
 use std::alloc::Global;
 use weave_text::is;
 

@@ -1,8 +1,8 @@
 use Rattle.std.proofs.Common.{◌+◌, List, sym, ◌∙◌, subst}
 use Rattle.std.proofs.lemmas.Bool.{both_ways}
-use Rattle.weave_report.specs.declared.report.Reply.{Reply}
-use Rattle.weave_report.specs.Facts.{BreaksFirstAt, facts_of_each}
-use Rattle.weave_report.specs.RightReport.{IsConflictInPlace}
+use Rattle.report_rules.specs.declared.report.Reply.{Reply}
+use Rattle.proof_base.specs.Facts.{BreaksFirstAt, facts_of_each}
+use Rattle.report_rules.specs.RightReport.{IsConflictInPlace}
 use Rattle.order_witness.specs.Bits.{leads}
 use Rattle.order_witness.proofs.Loops.{each_step, each_breaks}
 use Rattle.order_witness.proofs.Testing.{conflict_fact, conflict_test}

@@ -1,7 +1,7 @@
 use Rattle.std.proofs.Common.{take}
-use Rattle.weave_report.specs.declared.report.Reply.{Reply}
-use Rattle.weave_report.specs.Facts.{AllHold, facts_of_each}
-use Rattle.weave_report.specs.RightReport.{IsConflictInPlace}
+use Rattle.report_rules.specs.declared.report.Reply.{Reply}
+use Rattle.proof_base.specs.Facts.{AllHold, facts_of_each}
+use Rattle.report_rules.specs.RightReport.{IsConflictInPlace}
 use Rattle.order_witness.proofs.conflicts.first_fault.Given as goal
 
 abbrev pub invariant-loop-place : goal.invariant-loop-place

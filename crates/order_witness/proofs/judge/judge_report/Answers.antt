@@ -2,10 +2,10 @@ use Rattle.std.proofs.Common.{◌≡◌, ℕ, Result, Ok, Err, refl, ap, ◌∙�
 use Rattle.std.specs.Prelude.{◌↔◌, IfOk}
 use Rattle.std.specs.declared.alloc.AllocError.{AllocError}
 use Rattle.program_defs.specs.declared.script.Script.{Script}
-use Rattle.weave_report.specs.declared.report.Report.{Report}
-use Rattle.weave_report.specs.declared.report.Clause.{Clause}
-use Rattle.weave_report.specs.Facts.{BreaksFirstAt}
-use Rattle.weave_report.specs.RightReport.{facts_of, IsRightReport, BreaksFirst}
+use Rattle.report_rules.specs.declared.report.Report.{Report}
+use Rattle.report_rules.specs.declared.report.Clause.{Clause}
+use Rattle.proof_base.specs.Facts.{BreaksFirstAt}
+use Rattle.report_rules.specs.RightReport.{facts_of, IsRightReport, BreaksFirst}
 use Rattle.order_witness.specs.declared.judge.Judged.{Judged}
 use Rattle.order_witness.specs.declared.judge.Judged.TheVariants.{Yes, No}
 use Rattle.order_witness.specs.Judgement.{IsJudgement}

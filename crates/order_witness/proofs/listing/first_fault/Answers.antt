@@ -1,9 +1,9 @@
 use Rattle.std.proofs.Common.{IsTrue, not, ◌&&◌, ◌+◌, List, [], ◌∷◌, ◌++◌, ℕ, length, sym, ◌∙◌, subst}
 use Rattle.std.proofs.lemmas.Bool.{both_ways}
-use Rattle.weave_report.specs.declared.report.Report.{Report}
-use Rattle.weave_report.specs.Facts.{Facts, AllHold, BreaksFirstAt, facts_in_turn}
-use Rattle.weave_report.specs.Words.{is_in, may_be_listed}
-use Rattle.weave_report.specs.RightReport.{all_are_listed}
+use Rattle.report_rules.specs.declared.report.Report.{Report}
+use Rattle.proof_base.specs.Facts.{Facts, AllHold, BreaksFirstAt, facts_in_turn}
+use Rattle.report_rules.specs.Lookups.{is_in, may_be_listed}
+use Rattle.report_rules.specs.RightReport.{all_are_listed}
 use Rattle.order_witness.proofs.Loops.{within_breaks, end_breaks, all_hold}
 use Rattle.order_witness.proofs.listing.first_fault.Goals as goal
 

@@ -1,7 +1,7 @@
 use Rattle.std.proofs.Common.{IsTrue, not, ◌&&◌, sym, ◌∙◌, get_or}
 use Rattle.std.proofs.lemmas.Bool.{both_ways}
 use Rattle.std.proofs.lemmas.List.{get_or_default}
-use Rattle.weave_report.specs.Words.{is_in, may_be_listed}
+use Rattle.report_rules.specs.Lookups.{is_in, may_be_listed}
 use Rattle.order_witness.proofs.Loops.{turn_step, turn_breaks}
 use Rattle.order_witness.proofs.listing.first_out_of_place.Goals as goal
 

@@ -1,6 +1,6 @@
 use Rattle.std.proofs.Common.{IsTrue, not, ◌&&◌, take}
-use Rattle.weave_report.specs.Facts.{AllHold, facts_in_turn}
-use Rattle.weave_report.specs.Words.{is_in, may_be_listed}
+use Rattle.proof_base.specs.Facts.{AllHold, facts_in_turn}
+use Rattle.report_rules.specs.Lookups.{is_in, may_be_listed}
 use Rattle.order_witness.proofs.listing.first_out_of_place.Given as goal
 
 abbrev pub invariant-loop-place : goal.invariant-loop-place

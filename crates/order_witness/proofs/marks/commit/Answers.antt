@@ -3,8 +3,8 @@ use Rattle.std.specs.Prelude.{IfOk}
 use Rattle.std.specs.Option.{option_and_then}
 use Rattle.graph_ops.specs.Graphs.{plain_of}
 use Rattle.program_defs.specs.declared.script.Request.{Request}
-use Rattle.weave_report.specs.Words.{request_at}
-use Rattle.weave_report.specs.Replay.{graph_after_commit}
+use Rattle.report_rules.specs.Lookups.{request_at}
+use Rattle.report_rules.specs.Replay.{graph_after_commit}
 use Rattle.order_witness.specs.Refusals.{IsThere}
 use Rattle.order_witness.proofs.Testing.{is_changes, is_short}
 use Rattle.order_witness.proofs.marks.commit.Goals as goal

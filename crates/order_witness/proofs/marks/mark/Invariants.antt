@@ -1,7 +1,7 @@
 use Rattle.std.proofs.Common.{◌≡◌, ◌<◌, ◌≤◌, ℕ, Some, false, get_or, length}
 use Rattle.std.specs.Prelude.{slice_get}
 use Rattle.graph_ops.specs.Graphs.{plain_of}
-use Rattle.weave_report.specs.declared.report.Reply.{Reply}
+use Rattle.report_rules.specs.declared.report.Reply.{Reply}
 use Rattle.order_witness.specs.Refusals.{IsMarkedOn}
 use Rattle.order_witness.proofs.marks.mark.Given as goal
 

@@ -6,10 +6,10 @@ use Rattle.std.proofs.lemmas.List.{get_or-replicate, get_or_past, length-replica
 use Rattle.graph_ops.specs.Graphs.{plain_of}
 use Rattle.graph_ops.specs.PlainGraph.{PlainGraph}
 use Rattle.program_defs.specs.declared.script.Script.{Script}
-use Rattle.weave_report.specs.declared.report.Report.{Report}
-use Rattle.weave_report.specs.declared.report.Reply.{Reply}
-use Rattle.weave_report.specs.Words.{request_at}
-use Rattle.weave_report.specs.Replay.{graph_after_commit, graph_of_commits, the_only}
+use Rattle.report_rules.specs.declared.report.Report.{Report}
+use Rattle.report_rules.specs.declared.report.Reply.{Reply}
+use Rattle.report_rules.specs.Lookups.{request_at}
+use Rattle.report_rules.specs.Replay.{graph_after_commit, graph_of_commits, the_only}
 use Rattle.order_witness.specs.Refusals.{AreMarkedOn, IsThere, numbered_in}
 use Rattle.order_witness.proofs.MarkSteps.{at_start, one_more, at_end, next_commit}
 use Rattle.order_witness.proofs.marks.marks_of.Goals as goal

@@ -1,6 +1,6 @@
 use Rattle.std.proofs.Common.{◌≡◌, Some, length}
 use Rattle.graph_ops.specs.Graphs.{plain_of}
-use Rattle.weave_report.specs.Replay.{graph_of_commits}
+use Rattle.report_rules.specs.Replay.{graph_of_commits}
 use Rattle.order_witness.proofs.MarkSteps.{AreSoFar}
 use Rattle.order_witness.proofs.marks.marks_of.Given as goal
 

@@ -1,7 +1,7 @@
 use Rattle.std.proofs.Common.{sym, ap, ◌∙◌, Option, ℕ, Some, eqb}
 use Rattle.std.specs.Option.{option_eq}
-use Rattle.weave_report.specs.declared.report.Reply.{Reply}
-use Rattle.weave_report.specs.Words.{is_some_and, number_of}
+use Rattle.report_rules.specs.declared.report.Reply.{Reply}
+use Rattle.report_rules.specs.Lookups.{is_some_and, number_of}
 use Rattle.order_witness.proofs.Onlies.{compared, to_list, two_pass}
 use Rattle.order_witness.proofs.marks.the_only.Goals as goal
 

@@ -4,7 +4,7 @@ use Rattle.graph_ops.specs.declared.op.Op.{Op}
 use Rattle.graph_ops.specs.Graphs.{plain_of}
 use Rattle.graph_ops.specs.PlainGraph.{transaction}
 use Rattle.program_defs.specs.declared.script.Work.{Work}
-use Rattle.weave_report.specs.Replay.{IsWorkRefused}
+use Rattle.report_rules.specs.Replay.{IsWorkRefused}
 use Rattle.order_witness.specs.Refusals.{Marks}
 use Rattle.order_witness.proofs.marks.work_stops.Goals as goal
 

@@ -1,8 +1,8 @@
 use Rattle.std.proofs.Common.{IsTrue, sym, ◌∙◌}
 use Rattle.std.proofs.lemmas.Bool.{both_ways}
-use Rattle.weave_report.specs.declared.report.Reply.{Reply}
-use Rattle.weave_report.specs.RightReport.{is_number_in_place}
-use Rattle.weave_report.specs.Words.{number_of}
+use Rattle.report_rules.specs.declared.report.Reply.{Reply}
+use Rattle.report_rules.specs.RightReport.{is_number_in_place}
+use Rattle.report_rules.specs.Lookups.{number_of}
 use Rattle.order_witness.proofs.Loops.{turn_step, turn_breaks}
 use Rattle.order_witness.proofs.numbers.first_out_of_place.Goals as goal
 

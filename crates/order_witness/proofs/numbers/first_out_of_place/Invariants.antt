@@ -1,8 +1,8 @@
 use Rattle.std.proofs.Common.{IsTrue, take}
-use Rattle.weave_report.specs.declared.report.Reply.{Reply}
-use Rattle.weave_report.specs.Facts.{AllHold, facts_in_turn}
-use Rattle.weave_report.specs.RightReport.{is_number_in_place}
-use Rattle.weave_report.specs.Words.{number_of}
+use Rattle.report_rules.specs.declared.report.Reply.{Reply}
+use Rattle.proof_base.specs.Facts.{AllHold, facts_in_turn}
+use Rattle.report_rules.specs.RightReport.{is_number_in_place}
+use Rattle.report_rules.specs.Lookups.{number_of}
 use Rattle.order_witness.proofs.numbers.first_out_of_place.Given as goal
 
 abbrev pub invariant-loop-place : goal.invariant-loop-place

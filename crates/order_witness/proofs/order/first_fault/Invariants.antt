@@ -1,6 +1,6 @@
 use Rattle.std.proofs.Common.{take}
-use Rattle.weave_report.specs.Facts.{AllHold, facts_in_turn}
-use Rattle.weave_report.specs.RightReport.{IsListedInOrder}
+use Rattle.proof_base.specs.Facts.{AllHold, facts_in_turn}
+use Rattle.report_rules.specs.RightReport.{IsListedInOrder}
 use Rattle.order_witness.proofs.order.first_fault.Given as goal
 
 abbrev pub invariant-loop-place : goal.invariant-loop-place

@@ -1,8 +1,8 @@
 use Rattle.std.proofs.Common.{◌+◌, List, sym, ◌∙◌, subst}
 use Rattle.std.proofs.lemmas.Bool.{both_ways}
-use Rattle.weave_report.specs.declared.report.Pair.{Pair}
-use Rattle.weave_report.specs.Facts.{BreaksFirstAt, facts_of_each}
-use Rattle.weave_report.specs.RightReport.{IsPairInPlace}
+use Rattle.report_rules.specs.declared.report.Pair.{Pair}
+use Rattle.proof_base.specs.Facts.{BreaksFirstAt, facts_of_each}
+use Rattle.report_rules.specs.RightReport.{IsPairInPlace}
 use Rattle.order_witness.proofs.Loops.{each_step, each_breaks}
 use Rattle.order_witness.proofs.Testing.{pair_fact, pair_test}
 use Rattle.order_witness.proofs.pairs.first_fault.Goals as goal

@@ -1,6 +1,6 @@
 use Rattle.std.proofs.Common.{take}
-use Rattle.weave_report.specs.Facts.{AllHold, facts_of_each}
-use Rattle.weave_report.specs.RightReport.{IsPairInPlace}
+use Rattle.proof_base.specs.Facts.{AllHold, facts_of_each}
+use Rattle.report_rules.specs.RightReport.{IsPairInPlace}
 use Rattle.order_witness.proofs.pairs.first_fault.Given as goal
 
 abbrev pub invariant-loop-place : goal.invariant-loop-place

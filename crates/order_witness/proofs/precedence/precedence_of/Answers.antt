@@ -1,6 +1,6 @@
 use Rattle.std.proofs.Common.{◌||◌, List, ap, ◌∙◌}
-use Rattle.weave_report.specs.declared.report.Reply.{Reply}
-use Rattle.weave_report.specs.declared.report.Pair.{Pair}
+use Rattle.report_rules.specs.declared.report.Reply.{Reply}
+use Rattle.report_rules.specs.declared.report.Pair.{Pair}
 use Rattle.order_witness.specs.Bits.{leads}
 use Rattle.order_witness.specs.Begun.{stamps_lead, pairs_lead}
 use Rattle.order_witness.proofs.BegunLaws.{is_precedence}

@@ -1,5 +1,5 @@
 use Rattle.std.proofs.Common.{◌≡◌, ℕ, ◌+◌, ◌||◌, ◌&&◌, Bool, eqb, List, length, take, sym, ap, ◌∙◌}
-use Rattle.weave_report.specs.declared.report.Reply.{Reply}
+use Rattle.report_rules.specs.declared.report.Reply.{Reply}
 use Rattle.order_witness.specs.Bits.{leads}
 use Rattle.order_witness.specs.Begun.{is_before_reply, is_before_in}
 use Rattle.order_witness.proofs.Bases.{passes_more, adds, adds_none}

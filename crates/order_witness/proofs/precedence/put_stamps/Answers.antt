@@ -1,7 +1,7 @@
 use Rattle.std.proofs.Common.{◌≡◌, ℕ, ◌+◌, ◌||◌, ◌&&◌, true, false, Bool, eqb, List, Option, refl, length, take, sym, ap, ◌∙◌}
-use Rattle.weave_report.specs.declared.report.Reply.{Reply}
+use Rattle.report_rules.specs.declared.report.Reply.{Reply}
 use Rattle.vector_stamp.specs.declared.clock.Stamp.{Stamp}
-use Rattle.weave_report.specs.Words.{is_some_and}
+use Rattle.report_rules.specs.Lookups.{is_some_and}
 use Rattle.order_witness.specs.Bits.{leads}
 use Rattle.order_witness.specs.Begun.{is_before_in, stamps_lead}
 use Rattle.order_witness.proofs.Bases.{passes_more, or_false}

@@ -5,7 +5,7 @@ use Rattle.std.specs.List.{cons_option}
 use Rattle.std.proofs.lemmas.List.{take_more}
 use Rattle.std.proofs.lemmas.List.Elements.{filter_map-append}
 use Rattle.vector_stamp.specs.declared.clock.Stamp.{Stamp}
-use Rattle.weave_report.specs.declared.report.Reply.{Reply}
+use Rattle.report_rules.specs.declared.report.Reply.{Reply}
 use Rattle.order_witness.specs.Choices.{begun_in}
 use Rattle.order_witness.proofs.printed.begun_requests.Goals as goal
 use Rattle.order_witness.proofs.printed.begun_requests.Goals.{then-is_some+in_ok-push, else-is_some}

@@ -1,6 +1,6 @@
 use Rattle.std.proofs.Common.{length, ap}
-use Rattle.weave_report.specs.RightReport.{replies_clause}
-use Rattle.weave_report.proofs.FactsLaws.{none_breaks}
+use Rattle.report_rules.specs.RightReport.{replies_clause}
+use Rattle.proof_base.proofs.FactsLaws.{none_breaks}
 use Rattle.order_witness.specs.Bits.{leads}
 use Rattle.order_witness.proofs.Printing.{none_told}
 use Rattle.order_witness.proofs.Replying.{differ}

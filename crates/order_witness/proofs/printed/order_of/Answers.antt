@@ -1,9 +1,9 @@
 use Rattle.std.proofs.Common.{◌≡◌, ◌<◌, ◌++◌, ◌∷◌, [], ℕ, List, Option, Some, None, length, sym, ap, ◌∙◌, subst}
 use Rattle.std.specs.List.{filter, AllByRecursion}
 use Rattle.std.proofs.lemmas.List.Elements.{filter-append}
-use Rattle.weave_report.specs.declared.report.Report.{Report}
-use Rattle.weave_report.specs.Words.{may_be_listed}
-use Rattle.weave_report.specs.PrintedOrder.{begun_requests, without_request}
+use Rattle.report_rules.specs.declared.report.Report.{Report}
+use Rattle.report_rules.specs.Lookups.{may_be_listed}
+use Rattle.report_rules.specs.PrintedOrder.{begun_requests, without_request}
 use Rattle.order_witness.specs.Bits.{leads}
 use Rattle.order_witness.specs.Closure.{Test}
 use Rattle.order_witness.specs.Choices.{IsBest, begun_in}

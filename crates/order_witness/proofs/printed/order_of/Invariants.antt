@@ -1,7 +1,7 @@
 use Rattle.std.proofs.Common.{◌≡◌, ℕ, List, length}
 use Rattle.std.specs.List.{filter, AllByRecursion}
-use Rattle.weave_report.specs.Words.{may_be_listed}
-use Rattle.weave_report.specs.PrintedOrder.{begun_requests}
+use Rattle.report_rules.specs.Lookups.{may_be_listed}
+use Rattle.report_rules.specs.PrintedOrder.{begun_requests}
 use Rattle.order_witness.proofs.Printing.{AreTaken, IsBegun}
 use Rattle.order_witness.proofs.printed.order_of.Given as goal
 

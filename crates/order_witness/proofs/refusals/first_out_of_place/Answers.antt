@@ -3,11 +3,11 @@ use Rattle.std.specs.Prelude.{slice_get}
 use Rattle.std.proofs.lemmas.Bool.{both_ways}
 use Rattle.std.proofs.lemmas.Option.{slice_get_read}
 use Rattle.program_defs.specs.declared.script.Script.{Script}
-use Rattle.weave_report.specs.declared.report.Report.{Report}
-use Rattle.weave_report.specs.declared.report.Reply.{Reply}
-use Rattle.weave_report.specs.Replay.{graph_of_commits}
-use Rattle.weave_report.specs.Facts.{BreaksFirstAt, facts_of_each}
-use Rattle.weave_report.specs.RightReport.{IsRefusalInPlace}
+use Rattle.report_rules.specs.declared.report.Report.{Report}
+use Rattle.report_rules.specs.declared.report.Reply.{Reply}
+use Rattle.report_rules.specs.Replay.{graph_of_commits}
+use Rattle.proof_base.specs.Facts.{BreaksFirstAt, facts_of_each}
+use Rattle.report_rules.specs.RightReport.{IsRefusalInPlace}
 use Rattle.order_witness.specs.Refusals.{AreMarked, Marks, IsRefusedSo}
 use Rattle.order_witness.proofs.Loops.{each_step, each_breaks}
 use Rattle.order_witness.proofs.RefusalTests.{IsRight, refusal_fact, refusal_test}

@@ -2,9 +2,9 @@ use Rattle.std.proofs.Common.{◌+◌, ℕ, Bool, List, get_or, subst}
 use Rattle.std.proofs.lemmas.List.{get_or_default}
 use Rattle.graph_ops.specs.Graphs.{plain_of}
 use Rattle.graph_ops.specs.PlainGraph.{empty_graph}
-use Rattle.weave_report.specs.Facts.{BreaksFirstAt}
-use Rattle.weave_report.specs.Replay.{replay_from, graph_after}
-use Rattle.weave_report.specs.Words.{request_at}
+use Rattle.proof_base.specs.Facts.{BreaksFirstAt}
+use Rattle.report_rules.specs.Replay.{replay_from, graph_after}
+use Rattle.report_rules.specs.Lookups.{request_at}
 use Rattle.order_witness.specs.Replayed.{ComesToReply, TellsOf}
 use Rattle.order_witness.proofs.Replays.{one_more, first_break}
 use Rattle.order_witness.proofs.replay.first_fault.Goals as goal

@@ -4,11 +4,11 @@ use Rattle.graph_ops.specs.Graphs.{plain_of}
 use Rattle.graph_ops.specs.PlainGraph.{graph_left, transaction}
 use Rattle.graph_ops.specs.declared.op.Op.{Op}
 use Rattle.program_defs.specs.declared.script.Work.{Work}
-use Rattle.weave_report.specs.Replay.{ComesTo, IsTold, graph_after_work}
+use Rattle.report_rules.specs.Replay.{MatchesReply, OutcomeMatchesReply, graph_after_work}
 use Rattle.order_witness.specs.Replayed.{TellsOf}
 use Rattle.order_witness.proofs.replay.replay_work.Goals as goal
 
 pub returns-in-Change : goal.returns-in-Change
 returns-in-Change c =
-    subst (λ (work : Work). IfOk c.replay_transaction.result (TellsOf (ComesTo (plain_of c.args.graph.now) work c.args.state.now) (plain_of c.replay_transaction.new.graph) (graph_after_work (plain_of c.args.graph.now) work))) (sym c.in-Change.is)
-    (subst (λ (ops : List Op). IfOk c.replay_transaction.result (TellsOf (IsTold (transaction ops (plain_of c.args.graph.now)) c.args.state.now) (plain_of c.replay_transaction.new.graph) (graph_left (plain_of c.args.graph.now) (transaction ops (plain_of c.args.graph.now))))) c.as_slice.ensures c.replay_transaction.ensures)
+    subst (λ (work : Work). IfOk c.replay_transaction.result (TellsOf (MatchesReply (plain_of c.args.graph.now) work c.args.state.now) (plain_of c.replay_transaction.new.graph) (graph_after_work (plain_of c.args.graph.now) work))) (sym c.in-Change.is)
+    (subst (λ (ops : List Op). IfOk c.replay_transaction.result (TellsOf (OutcomeMatchesReply (transaction ops (plain_of c.args.graph.now)) c.args.state.now) (plain_of c.replay_transaction.new.graph) (graph_left (plain_of c.args.graph.now) (transaction ops (plain_of c.args.graph.now))))) c.as_slice.ensures c.replay_transaction.ensures)

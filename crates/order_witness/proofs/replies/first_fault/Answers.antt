@@ -2,9 +2,9 @@ use Rattle.std.proofs.Common.{IsTrue, ◌+◌, ◌<◌, ◌≤◌, List, [], ◌
 use Rattle.std.specs.Prelude.{nat_le}
 use Rattle.std.proofs.lemmas.Bool.{both_ways, lt-leb, le-leb}
 use Rattle.program_defs.specs.declared.script.Script.{Script}
-use Rattle.weave_report.specs.declared.report.Reply.{Reply}
-use Rattle.weave_report.specs.Facts.{Facts, AllHold, BreaksFirstAt, facts_in_turn}
-use Rattle.weave_report.specs.RightReport.{is_reply_in_place}
+use Rattle.report_rules.specs.declared.report.Reply.{Reply}
+use Rattle.proof_base.specs.Facts.{Facts, AllHold, BreaksFirstAt, facts_in_turn}
+use Rattle.report_rules.specs.RightReport.{is_reply_in_place}
 use Rattle.order_witness.proofs.Loops.{within_breaks, end_breaks, all_hold}
 use Rattle.order_witness.proofs.replies.first_fault.Goals as goal
 

@@ -1,7 +1,7 @@
 use Rattle.std.proofs.Common.{IsTrue, sym, ◌∙◌}
 use Rattle.std.proofs.lemmas.Bool.{both_ways}
-use Rattle.weave_report.specs.declared.report.Reply.{Reply}
-use Rattle.weave_report.specs.RightReport.{is_reply_in_place}
+use Rattle.report_rules.specs.declared.report.Reply.{Reply}
+use Rattle.report_rules.specs.RightReport.{is_reply_in_place}
 use Rattle.order_witness.proofs.Loops.{turn_step, turn_breaks}
 use Rattle.order_witness.proofs.replies.first_out_of_place.Goals as goal
 

@@ -1,7 +1,7 @@
 use Rattle.std.proofs.Common.{◌≡◌, ℕ, ◌+◌, cond, length, take, sym, ap, ◌∙◌, arith}
 use Rattle.std.specs.Prelude.{is_some}
-use Rattle.weave_report.specs.declared.report.Reply.{Reply}
-use Rattle.weave_report.specs.Words.{number_of}
+use Rattle.report_rules.specs.declared.report.Reply.{Reply}
+use Rattle.report_rules.specs.Lookups.{number_of}
 use Rattle.order_witness.specs.Begun.{numbers_in}
 use Rattle.order_witness.proofs.Counts.{counted_more}
 use Rattle.order_witness.proofs.words.commits_in.Goals as goal

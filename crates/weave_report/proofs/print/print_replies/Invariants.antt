@@ -1,6 +1,6 @@
 use Rattle.std.proofs.Common.{◌≡◌, ◌++◌, drop}
 use Rattle.std.specs.List.{AllByRecursion}
-use Rattle.weave_report.specs.declared.report.Reply.{Reply}
+use Rattle.report_rules.specs.declared.report.Reply.{Reply}
 use Rattle.weave_report.specs.TextOf.{IsTypedReplyState}
 use Rattle.std.specs.List.{flat_map}
 use Rattle.weave_text.specs.Lines.{lines_text}

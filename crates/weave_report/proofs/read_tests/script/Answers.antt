@@ -8,8 +8,8 @@ use Rattle.program_defs.specs.declared.script.Request.{Request}
 use Rattle.program_defs.specs.declared.script.Script.{Script}
 use Rattle.program_defs.specs.declared.script.Work.{Work}
 use Rattle.program_defs.specs.declared.script.Work.TheVariants.{Change, Look}
-use Rattle.weave_report.specs.PlainRun.{ops_of}
-use Rattle.weave_report.specs.TextOf.{TellsByName, names_of}
+use Rattle.program_defs.specs.Works.{ops_of}
+use Rattle.weave_report.specs.TextOf.{HasDistinctNames, names_of}
 use Rattle.weave_report.proofs.read_tests.script.Goals as goal
 
 six_differ : IsDistinct same_name (codes "t" ∷ codes "u" ∷ codes "p" ∷ codes "q" ∷ codes "r" ∷ codes "s" ∷ [])

@@ -1,6 +1,6 @@
 use Rattle.std.proofs.Common.{◌≡◌, ◌++◌, map, take, drop}
 use Rattle.std.specs.List.{AllByRecursion}
-use Rattle.weave_report.specs.declared.report.Pair.{Pair}
+use Rattle.report_rules.specs.declared.report.Pair.{Pair}
 use Rattle.weave_report.specs.TextOf.{IsName}
 use Rattle.weave_text.specs.Lines.{lines_text}
 use Rattle.weave_report.specs.ReportText.{pair_line}

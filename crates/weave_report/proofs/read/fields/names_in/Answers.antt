@@ -1,6 +1,6 @@
-use Rattle.std.proofs.Common.{◌≡◌, [], ◌∷◌, ◌++◌, map, get_or, drop, ◌+◌, sym, ap, ◌∙◌}
+use Rattle.std.proofs.Common.{[], ◌∷◌, ◌++◌, map, drop, ◌+◌, sym, ap, ◌∙◌}
 use Rattle.std.proofs.lemmas.Result.{err_from_is_err_and}
-use Rattle.weave_report.specs.ReadingFields.{name_in, names_in, names_from}
+use Rattle.weave_report.specs.ReadingFields.{names_from}
 use Rattle.weave_report.proofs.ReadingLoops.{word_at, fails, done}
 use Rattle.weave_report.proofs.read.fields.names_in.Goals as goal
 

@@ -1,5 +1,5 @@
 use Rattle.std.proofs.Common.{◌≡◌, ◌++◌, ◌+◌, drop}
-use Rattle.weave_report.specs.ReportOf.{numbers_of_gets}
+use Rattle.report_rules.specs.ReportOf.{numbers_of_gets}
 use Rattle.weave_report.proofs.read.named.numbers_of_gets.Given as goal
 
 -- the numbers so far, and then those of the operations that are left

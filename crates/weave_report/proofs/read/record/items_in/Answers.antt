@@ -1,4 +1,4 @@
-use Rattle.std.proofs.Common.{◌≡◌, [], ◌∷◌, map, get_or, drop, ◌+◌, sym, ap, ◌∙◌}
+use Rattle.std.proofs.Common.{[], map, drop, ◌+◌, sym, ap, ◌∙◌}
 use Rattle.std.proofs.lemmas.Result.{err_from_is_err_and}
 use Rattle.weave_report.specs.ReadingFields.{◌>>=◌}
 use Rattle.weave_report.specs.ReadingStates.{items_in, with_item}

@@ -1,4 +1,4 @@
-use Rattle.std.proofs.Common.{◌≡◌, [], drop, map}
+use Rattle.std.proofs.Common.{◌≡◌, drop, map}
 use Rattle.weave_report.specs.ReadingStates.{empty_record, items_in}
 use Rattle.weave_report.proofs.read.record.items_in.Given as goal
 

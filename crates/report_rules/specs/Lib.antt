@@ -1,0 +1,8 @@
+pub use Rattle.proof_base.specs.Facts
+pub mod Lookups
+pub mod Replay
+pub mod RightReport
+pub mod PrintedOrder
+pub mod Meetings
+pub mod ReportOf
+pub mod PlainRun
