@@ -1,12 +1,12 @@
--- The bytes that a source has left and those that a sink has taken. A source or a sink tells them, or it doesn't, and that never changes.
-use Rattle.std.specs.Prelude.{◌≡◌, ⊤, ℕ, ◌≤◌, List, ◌++◌, take, drop, length, Option, None, Some, IfSome}
+-- The bytes that a source has left and those that a sink has taken. They are known of a source or a sink, or they aren't, and that never changes.
+use Rattle.std.specs.Prelude.{◌≡◌, ◌⊎◌, ⊤, ℕ, ◌≤◌, List, [], ◌++◌, take, drop, length, Option, None, Some, IfSome}
 use Rattle.std.specs.Option.{option_map}
 
--- the bytes, where they are told
+-- the bytes, if they are known
 abbrev pub Told : Type 0
 Told = Option (List ℕ)
 
--- where they are told, they are these
+-- if they are known, they are these
 abbrev pub Tells : Told → List ℕ → Type 0
 Tells None bytes = ⊤
 Tells (Some told) bytes = told ≡ bytes
@@ -15,11 +15,11 @@ Tells (Some told) bytes = told ≡ bytes
 abbrev pub Takes : Told → Told → List ℕ → Type 0
 Takes before after bytes = before ≡ option_map (λ rest. bytes ++ rest) after
 
--- so many bytes came: there were as many, and what is left stands behind them
+-- `count` bytes were taken from the front: there were that many, and the rest is left
 abbrev pub TakesCount : Told → Told → ℕ → Type 0
 TakesCount before after count = (IfSome before (λ all. count ≤ length all)) × (after ≡ option_map (drop count) before)
 
--- at most so many bytes came, and what is left stands behind them
+-- at most `most` bytes were taken from the front, and the rest is left
 abbrev pub TakesAtMost : Told → Told → ℕ → Type 0
 TakesAtMost before after most = (count : ℕ) × (count ≤ most) × TakesCount before after count
 
@@ -30,3 +30,19 @@ Appends before after bytes = after ≡ option_map (λ written. written ++ bytes)
 -- some bytes from the start of this text were put at the end of what was written
 abbrev pub AppendsPrefix : Told → Told → List ℕ → Type 0
 AppendsPrefix before after text = (count : ℕ) × Appends before after (take count text)
+
+-- what was written before is still in front
+abbrev pub KeepsWritten : Told → Told → Type 0
+KeepsWritten before after = (more : List ℕ) × Appends before after more
+
+-- the input was read whole, or as far as shows that it is too long
+abbrev pub IsReadWhole : Told → Told → Type 0
+IsReadWhole before after = Tells after [] ⊎ TakesCount before after 4194305
+
+-- if the bytes that the source had left are known, a text that fits them was put at the end of what was written
+abbrev pub Writes : (List ℕ → List ℕ → Type 0) → Told → Told → Told → Type 0
+Writes Fits left before after = IfSome left (λ input. (text : List ℕ) × Fits input text × Appends before after text)
+
+-- or some of such a text, from its start
+abbrev pub WritesPrefix : (List ℕ → List ℕ → Type 0) → Told → Told → Told → Type 0
+WritesPrefix Fits left before after = IfSome left (λ input. (text : List ℕ) × Fits input text × AppendsPrefix before after text)

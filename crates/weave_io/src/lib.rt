@@ -23,4 +23,6 @@ pub use standard::{StdSink, StdSource};
 pub use writing::write_all;
 
 #[cfg(test)]
+mod standard_tests;
+#[cfg(test)]
 mod tests;

@@ -1,4 +1,4 @@
-//! The program: its words, standard input and standard output for `weave`.
+//! The program: its command line, standard input and standard output for `weave`.
 #![tactic(auto)]
 
 use std::process::ExitCode;
@@ -18,13 +18,13 @@ fn main(rt: HostRuntime) -> ExitCode {
             &NoPace,
         ),
         Err(error) if error.kind() == io::ErrorKind::OutOfMemory => Status::Memory,
-        // An argument that isn't text is no word of a command.
+        // An argument that isn't text names no command.
         Err(_) => Status::Words,
     };
-    ExitCode::from(status.number())
+    status.exit_code()
 }
 
-// The arguments behind the program's name.
+// The arguments after the program's name.
 fn words(rt: &(impl Env + AllocGlobal)) -> io::Result<Vec<String>> {
     let mut words = Vec::new(rt.alloc());
     for word in env::args(rt)?.skip(1) {

@@ -1,14 +1,13 @@
 -- What was read, and what was delivered of an answer to it.
 use Rattle.std.proofs.Common.{◌≡◌, ◌⊎◌, ℕ, ◌<◌, ◌≤◌, List, length, true, IsTrue, Option, Some, None, IfSome, inl, inr, refl, sym, ap, ◌∙◌, subst, arith}
-use Rattle.weave_io.specs.Told.{Told, Tells, AppendsPrefix}
+use Rattle.weave_io.specs.Told.{Told, Tells, Writes, WritesPrefix}
 use Rattle.weaver_top.specs.declared.answer.Answer.{Answer}
 use Rattle.weaver_top.specs.declared.status.Status.{Status}
 use Rattle.weaver_top.specs.declared.status.Status.TheVariants.{Done, Read, Refused, Write, Memory, Words, NotRight}
-use Rattle.weaver_top.specs.declared.words.Command.{Command}
-use Rattle.weaver_top.specs.declared.words.Command.TheVariants.{Run, Check}
+use Rattle.weaver_top.specs.declared.command.Command.{Command}
+use Rattle.weaver_top.specs.declared.command.Command.TheVariants.{Run, Check}
 use Rattle.weaver_top.specs.Answers.{IsAnswerTo, TellsAt, TellsAnswer, can_end, Delivers}
-use Rattle.weaver_top.specs.Endings.{TellsRefusal, Writes, WritesPrefix, CanBeRun}
-use Rattle.weaver_top.specs.Verdicts.{TellsCheckRefusal, CanBeJudged}
+use Rattle.weaver_top.specs.Refusals.{CanBeTaken, TellsRefusal, check_input, input_of, run_input}
 
 -- an answer to what was read is one to what the source told
 pub fits_told : (command : Command) (left : Told) (read bytes : List ℕ) (answer : Answer) → Tells left read → bytes ≡ read → IsAnswerTo command bytes answer → IfSome left (λ input. IsAnswerTo command input answer)
@@ -45,6 +44,11 @@ ended_so command end asked other left before after answer status Failed can othe
     let R : Status → Type 0 = λ one. can_end command one ≡ true in
     subst Q is (text_written command left before after answer status Failed (subst P same fits) ends (subst R (sym is) can))
 
+-- of a text that fits more, less is true
+pub writes_less : (Fits Less : List ℕ → List ℕ → Type 0) → ((input text : List ℕ) → Fits input text → Less input text) → (left before after : Told) → Writes Fits left before after → Writes Less left before after
+writes_less Fits Less less None before after written = tt
+writes_less Fits Less less (Some input) before after (text, fits, appended) = (text, less input text fits, appended)
+
 -- `check` alone says that a report isn't right
 only_check : (command : Command) → can_end command NotRight ≡ true → command ≡ Check
 only_check Run can = absurd (cc)
@@ -68,25 +72,37 @@ some_written command left before after answer status Failed fits ends (inl (is, 
 some_written command None before after answer status Failed fits ends (inr (is, failure, prefix)) failed = tt
 some_written command (Some input) before after answer status Failed fits ends (inr (is, failure, prefix)) failed = (answer.text.items, (answer.status, fits.tells), prefix)
 
+-- the same of the command that the words ask for
+pub prefix_so : (asked : Option Command) (other command : Command) (left before after : Told) (answer : Answer) (status : Status) (Failed : Type 0) → Some other ≡ asked → asked ≡ Some command → status ≡ Write → IfSome left (λ input. IsAnswerTo other input answer) → IsTrue (can_end other answer.status) → Delivers answer status before after Failed → WritesPrefix (TellsAnswer command) left before after
+prefix_so asked other command left before after answer status Failed other_is asks failed fits can ends =
+    let same : other ≡ command = cc in
+    let P : Command → Type 0 = λ one. WritesPrefix (TellsAnswer one) left before after in
+    subst P same (some_written other left before after answer status Failed fits can ends failed)
+
+-- an input that a command takes isn't refused
+not_refused : (command : Command) (input text : List ℕ) → CanBeTaken (input_of command) input → ¬ TellsRefusal (input_of command) input text
+not_refused command input text taken (inl fault) = fault.not_taken taken
+not_refused command input text taken (inr unbuilt) = unbuilt.not_taken taken
+
 -- an input that can be run has a report
-run_done : (status : Status) (input text : List ℕ) → TellsAt Run status input text → CanBeRun input → status ≡ Done
-run_done Done input text tells run = refl
-run_done Refused input text tells run = absurd (elim tells [ inl fault ↦ fault.not_run run | inr unbuilt ↦ unbuilt.not_run run ])
-run_done Read input text tells run = absurd tells
-run_done Write input text tells run = absurd tells
-run_done Memory input text tells run = absurd tells
-run_done Words input text tells run = absurd tells
-run_done NotRight input text tells run = absurd tells
+run_done : (status : Status) (input text : List ℕ) → TellsAt Run status input text → CanBeTaken run_input input → status ≡ Done
+run_done Done input text tells taken = refl
+run_done NotRight input text tells taken = absurd tells
+run_done Refused input text tells taken = absurd (not_refused Run input text taken tells)
+run_done Read input text tells taken = absurd tells
+run_done Write input text tells taken = absurd tells
+run_done Memory input text tells taken = absurd tells
+run_done Words input text tells taken = absurd tells
 
 -- and one that can be judged a verdict
-judged_done : (status : Status) (input text : List ℕ) → TellsAt Check status input text → CanBeJudged input → (status ≡ Done) ⊎ (status ≡ NotRight)
-judged_done Done input text tells judged = inl refl
-judged_done NotRight input text tells judged = inr refl
-judged_done Refused input text tells judged = absurd (elim tells [ inl fault ↦ fault.not_judged judged | inr unbuilt ↦ unbuilt.not_judged judged ])
-judged_done Read input text tells judged = absurd tells
-judged_done Write input text tells judged = absurd tells
-judged_done Memory input text tells judged = absurd tells
-judged_done Words input text tells judged = absurd tells
+judged_done : (status : Status) (input text : List ℕ) → TellsAt Check status input text → CanBeTaken check_input input → (status ≡ Done) ⊎ (status ≡ NotRight)
+judged_done Done input text tells taken = inl refl
+judged_done NotRight input text tells taken = inr refl
+judged_done Refused input text tells taken = absurd (not_refused Check input text taken tells)
+judged_done Read input text tells taken = absurd tells
+judged_done Write input text tells taken = absurd tells
+judged_done Memory input text tells taken = absurd tells
+judged_done Words input text tells taken = absurd tells
 
 -- where nothing fails the status is the answer's
 module _ (before after : Told) (answer : Answer) (status : Status) (Faults Stalls : Type 0) (ends : Delivers answer status before after (Faults ⊎ Stalls)) (no_fault : ¬ Faults) (no_stall : ¬ Stalls) where
@@ -96,7 +112,7 @@ module _ (before after : Told) (answer : Answer) (status : Status) (Faults Stall
     | inr (is, failure, prefix) ↦ absurd (elim failure [ inl fault ↦ no_fault fault | inr stall ↦ no_stall stall ])
   ]
 
-  pub all_run : (left : Told) → IfSome left (λ input. IsAnswerTo Run input answer) → IfSome left (λ input. CanBeRun input → (status ≡ Done) ⊎ (status ≡ Memory))
+  pub all_run : (left : Told) → IfSome left (λ input. IsAnswerTo Run input answer) → IfSome left (λ input. CanBeTaken run_input input → (status ≡ Done) ⊎ (status ≡ Memory))
   all_run None fits = tt
   all_run (Some input) fits = λ run. inl (as_answered ∙ run_done answer.status input answer.text.items fits.tells run)
 
@@ -104,6 +120,6 @@ module _ (before after : Told) (answer : Answer) (status : Status) (Faults Stall
   verdict (inl done) = inl (as_answered ∙ done)
   verdict (inr not_right) = inr (as_answered ∙ not_right)
 
-  pub all_judged : (left : Told) → IfSome left (λ input. IsAnswerTo Check input answer) → IfSome left (λ input. CanBeJudged input → ((status ≡ Done) ⊎ (status ≡ NotRight)) ⊎ (status ≡ Memory))
+  pub all_judged : (left : Told) → IfSome left (λ input. IsAnswerTo Check input answer) → IfSome left (λ input. CanBeTaken check_input input → ((status ≡ Done) ⊎ (status ≡ NotRight)) ⊎ (status ≡ Memory))
   all_judged None fits = tt
   all_judged (Some input) fits = λ judged. inl (verdict (judged_done answer.status input answer.text.items fits.tells judged))

@@ -1,18 +1,21 @@
 -- The printed report of a plain run tells a right report.
-use Rattle.std.proofs.Common.{◌≡◌, ℕ, ◌≤◌, false, List, [], length, ap, ◌∙◌}
+use Rattle.std.proofs.Common.{◌≡◌, ℕ, ◌≤◌, false, List, [], ◌∷◌, ◌++◌, length, refl, sym, ap, ◌∙◌, subst, append_assoc}
 use Rattle.program_defs.specs.declared.script.Script.{Script}
-use Rattle.weave_report.specs.declared.report.Report.{Report}
-use Rattle.weave_report.specs.PlainRun.{plain_report}
-use Rattle.weave_report.specs.Words.{EveryReplyIsFinal}
-use Rattle.weave_report.specs.ReportOf.{IsReportOf}
-use Rattle.weave_report.specs.RightReport.{IsRightReport}
-use Rattle.weave_report.specs.Meetings.{MeetingsAreOrdered, PhasesAreKept}
-use Rattle.weave_report.specs.PrintedOrder.{IsPrintedOrder}
+use Rattle.report_rules.specs.declared.report.Report.{Report}
+use Rattle.report_rules.specs.PlainRun.{IsPlainScript, plain_report}
+use Rattle.report_rules.specs.Lookups.{EveryReplyIsFinal}
+use Rattle.report_rules.specs.ReportOf.{IsReportOf}
+use Rattle.report_rules.specs.RightReport.{IsRightReport}
+use Rattle.report_rules.specs.Meetings.{MeetingsAreOrdered, PhasesAreKept}
+use Rattle.report_rules.specs.PrintedOrder.{IsPrintedOrder}
 use Rattle.weave_report.specs.ReportText.{report_text}
-use Rattle.weave_io.specs.declared.reading.TheConstants.{MOST_BYTES}
-use Rattle.weave_script.specs.Texts.{IsTextOf}
-use Rattle.weaver_top.specs.Built.{is_unbuilt}
-use Rattle.weaver_top.specs.Endings.{TellsRightReport}
+use Rattle.weave_script.specs.ScriptLines.{IsTextOf}
+use Rattle.weaver_top.specs.Built.{has_program, is_unbuilt}
+use Rattle.weave_report.specs.TextOf.{IsReportTextOf}
+use Rattle.weave_script.specs.CheckText.{IsCheckTextOf}
+use Rattle.weaver_top.specs.Acceptance.{IsAcceptedByCheck}
+use Rattle.weaver_top.specs.Answers.{TellsRun}
+use Rattle.weaver_top.specs.Headlines.{TellsRightReport}
 
 -- what the laws say of the plain run's report
 pub record IsWellRun (script : Script) (report : Report) : Type 0 where
@@ -25,7 +28,7 @@ pub record IsWellRun (script : Script) (report : Report) : Type 0 where
   pub no_steps : report.answers ≡ []
 
 -- the printed text of such a report is what the headline asks for
-pub tells : (input : List ℕ) (script : Script) (report : Report) (text : List ℕ) → length input ≤ MOST_BYTES → IsTextOf input script → is_unbuilt script ≡ false → report ≡ plain_report script.requests → text ≡ report_text script report → IsWellRun script (plain_report script.requests) → TellsRightReport input text
+pub tells : (input : List ℕ) (script : Script) (report : Report) (text : List ℕ) → length input ≤ 4194304 → IsTextOf input script → is_unbuilt script ≡ false → report ≡ plain_report script.requests → text ≡ report_text script report → IsWellRun script (plain_report script.requests) → TellsRightReport input text
 tells input script report text is_short is_text built is printed run =
     record {
       input_is_short = is_short;
@@ -41,4 +44,32 @@ tells input script report text is_short is_text built is printed run =
       every_reply_is_final = run.final;
       no_steps = run.no_steps;
       text_is_printed = printed ∙ ap (report_text script) is;
+    }
+
+-- a text of a report, after a text of its script
+abbrev pub FollowScripts : Type 0
+FollowScripts = (front text : List ℕ) (script : Script) (report : Report) → IsTextOf (front ++ 10 ∷ []) script → IsReportTextOf script text report → IsCheckTextOf (front ++ 10 ∷ text) script report
+
+-- `check` says of it that the report is right
+pub accepted : FollowScripts → (input text : List ℕ) (script : Script) (report : Report) → IsTextOf input script → IsReportTextOf script text report → has_program script ≡ false → IsRightReport script report → IsAcceptedByCheck input text
+accepted follow input text script report is_text is_report built right front ends short =
+    let together : front ++ 10 ∷ text ≡ input ++ text = sym (ap (λ (bytes : List ℕ). bytes ++ text) ends ∙ append_assoc front (10 ∷ []) text) in
+    let both = follow front text script report (subst (λ bytes. IsTextOf bytes script) ends is_text) is_report in
+    record {
+      input_is_short = short;
+      script = script;
+      report = report;
+      input_is_their_text = subst (λ bytes. IsCheckTextOf bytes script report) together both;
+      built = built;
+      report_is_right = right;
+      line = refl;
+    }
+
+-- all that is promised of what `run` writes
+pub run_told : (input : List ℕ) (script : Script) (report : Report) (text : List ℕ) → length input ≤ 4194304 → IsTextOf input script → is_unbuilt script ≡ false → IsPlainScript script → report ≡ plain_report script.requests → text ≡ report_text script report → IsWellRun script (plain_report script.requests) → IsAcceptedByCheck input text → TellsRun input text
+run_told input script report text is_short is_text built plain is printed run accept =
+    record {
+      right_report = tells input script report text is_short is_text built is printed run;
+      in_script_order = record { script = script; input_is_its_text = is_text; plain = plain; text_is_printed = printed ∙ ap (report_text script) is };
+      accepted_by_check = accept;
     }

@@ -4,5 +4,4 @@ pub mod Plain
 pub mod Headline
 pub mod Refused
 pub mod Refusals
-pub mod TooLong
 pub mod Verdicts

@@ -5,10 +5,10 @@ use Rattle.vector_stamp.specs.Clocks.{start_clock}
 use Rattle.graph_ops.specs.Graphs.{Vertices, plain_of}
 use Rattle.graph_ops.specs.PlainGraph.{PlainGraph, TxOutcome, empty_graph}
 use Rattle.program_defs.specs.declared.script.Request.{Request}
-use Rattle.weave_report.specs.declared.report.Reply.{Reply}
-use Rattle.weave_report.specs.PlainRun.{nth_stamp, count_after, plain_reply, plain_replies, listed, plain_order}
-use Rattle.weaver_top.specs.Runs.{StandsBefore, TakesIn, next_outcome}
-use Rattle.weaver_top.specs.declared.run.Progress.{Progress}
+use Rattle.report_rules.specs.declared.report.Reply.{Reply}
+use Rattle.report_rules.specs.PlainRun.{nth_stamp, count_after, plain_reply, plain_replies, listed, plain_order}
+use Rattle.weaver_top.specs.RunProgress.{StandsBefore, TakesIn, next_outcome}
+use Rattle.weaver_top.specs.declared.plain_run.Progress.{Progress}
 
 -- a run begins before all requests
 pub started : (requests : List Request) (clock : Clock) (graph : Vertices) (replies : List Reply) (order : List ℕ) → clock ≡ start_clock → plain_of graph ≡ empty_graph → replies ≡ [] → order ≡ [] → StandsBefore requests (record { clock = clock; graph = graph; commits = 0; replies = replies; order = order }) requests

@@ -6,12 +6,13 @@ use Rattle.program_defs.specs.declared.script.Request.{Request}
 use Rattle.program_defs.specs.declared.script.Script.{Script}
 use Rattle.program_defs.specs.declared.script.Work.{Work}
 use Rattle.program_defs.specs.declared.script.Work.TheVariants.{Change, Look}
-use Rattle.weave_report.specs.PlainRun.{IsPlainTransaction, ops_of}
+use Rattle.program_defs.specs.Works.{ops_of}
+use Rattle.report_rules.specs.PlainRun.{IsPlainTransaction}
 use Rattle.weave_script.specs.declared.fault.Cause.{Cause}
 use Rattle.weave_script.specs.declared.fault.Cause.TheVariants.{Operations, Requests}
 use Rattle.weave_script.specs.Limits.{over_limit, counts_of}
 use Rattle.weave_script.specs.Scripts.{IsScript, IsRequest, IsWork}
-use Rattle.weaver_top.specs.Runs.{IsRunnable, IsSmallTransaction}
+use Rattle.weaver_top.specs.RunProgress.{IsRunnable, IsSmallTransaction}
 
 few_ops : (work : Work) → IsWork work → length (ops_of work) < 2 ^ 32
 few_ops (Change ops) fits = let few = fits.1 in omega (arith, few)

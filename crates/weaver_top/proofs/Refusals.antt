@@ -1,33 +1,52 @@
--- What is told of an input that is refused.
-use Rattle.std.proofs.Common.{◌≡◌, ℕ, ◌<◌, ◌≤◌, List, length, true, nat_lt, inl, inr, refl, sym, ap, ◌∙◌, arith}
-use Rattle.std.specs.Prelude.{Err, codes}
+-- Inputs that are refused, by any command.
+use Rattle.std.proofs.Common.{◌≡◌, ℕ, ◌<◌, ◌≤◌, List, length, true, nat_lt, Err, codes, inl, inr, refl, sym, ◌∙◌, subst, arith}
 use Rattle.std.proofs.lemmas.Bool.{lt-ltb, both_ways}
-use Rattle.program_defs.specs.declared.script.Script.{Script}
 use Rattle.weave_script.specs.declared.fault.Cause.TheVariants.{TooLong}
 use Rattle.weave_script.specs.CauseTexts.{cause_text}
-use Rattle.weave_script.specs.ReadText.{Fault, read_text}
-use Rattle.weave_script.specs.Texts.{IsTextOf}
-use Rattle.weaver_top.specs.Built.{is_unbuilt}
-use Rattle.weaver_top.specs.Endings.{TellsRefusal, refusal_line}
+use Rattle.weave_script.specs.ReadText.{Fault}
+use Rattle.weaver_top.specs.declared.answer.Answer.{Answer}
+use Rattle.weaver_top.specs.declared.command.Command.{Command}
+use Rattle.weaver_top.specs.declared.command.Command.TheVariants.{Run, Check}
+use Rattle.weaver_top.specs.declared.status.Status.{Status}
+use Rattle.weaver_top.specs.declared.status.Status.TheVariants.{Refused}
+use Rattle.weaver_top.specs.Answers.{IsAnswerTo, TellsAt, can_end}
+use Rattle.weaver_top.specs.Refusals.{TellsRefusal, input_of, refusal_line}
 
--- an input that is too long has that fault
-pub too_long : (input text : List ℕ) → 4194304 < length input → text ≡ refusal_line 0 (cause_text TooLong) → TellsRefusal input text
-too_long input text long is =
-    let over : nat_lt 4194304 (length input) ≡ true = lt-ltb 4194304 (length input) long in
-    inl (record { not_run = λ run. (let short = run.input_is_short in omega (arith, short, long)); fault = record { line = 0; cause = TooLong }; is_first = rw over refl; line = is })
+-- an answer that refuses an input with such a text
+refuses : (command : Command) (input : List ℕ) (answer : Answer) → answer.status ≡ Refused → TellsRefusal (input_of command) input answer.text.items → IsAnswerTo command input answer
+refuses command input answer status tells =
+    let P : Status → Type 0 = λ status. TellsAt command status input answer.text.items in
+    let Q : Status → Type 0 = λ status. can_end command status ≡ true in
+    record { tells = subst P (sym status) tells; ends = subst Q (sym status) refl }
 
--- an input with a fault isn't run
-pub with_fault : (input text : List ℕ) (fault : Fault) → ((script : Script) → ¬ IsTextOf input script) → read_text input ≡ Err fault → text ≡ refusal_line fault.line (cause_text fault.cause) → TellsRefusal input text
-with_fault input text fault none first is = inl (record { not_run = λ run. none run.script run.input_is_its_text; fault = fault; is_first = first; line = is })
+-- an input that is too long is read as that fault
+too_long_read : (command : Command) (input : List ℕ) → 4194304 < length input → (input_of command).read input ≡ Err (record { line = 0; cause = TooLong })
+too_long_read Run input long = let over : nat_lt 4194304 (length input) ≡ true = lt-ltb 4194304 (length input) long in rw over refl
+too_long_read Check input long = let over : nat_lt 4194304 (length input) ≡ true = lt-ltb 4194304 (length input) long in rw over refl
 
--- nor is one that isn't built
-pub not_built : (input text : List ℕ) (script : Script) → ((other : Script) → IsTextOf input other → other ≡ script) → length input ≤ 4194304 → IsTextOf input script → is_unbuilt script ≡ true → text ≡ refusal_line 0 (codes "unbuilt") → TellsRefusal input text
-not_built input text script one short is_text unbuilt is =
-    inr (record {
-      not_run = λ run. both_ways (is_unbuilt script) (sym (ap is_unbuilt (one run.script run.input_is_its_text)) ∙ run.built) unbuilt;
-      input_is_short = short;
-      script = script;
-      input_is_its_text = is_text;
-      unbuilt = unbuilt;
+-- and is refused so
+pub too_long : (answer : Answer) → answer.status ≡ Refused → answer.text.items ≡ refusal_line 0 (cause_text TooLong) → (command : Command) (input : List ℕ) → 4194304 < length input → IsAnswerTo command input answer
+too_long answer status is command input long =
+    refuses command input answer status (inl (record {
+      not_taken = λ taken. (let short = taken.input_is_short in omega (arith, short, long));
+      fault = record { line = 0; cause = TooLong };
+      is_first = too_long_read command input long;
       line = is;
-    })
+    }))
+
+-- so is one that is a text of no value
+pub faulty : (command : Command) (input : List ℕ) (answer : Answer) (fault : Fault) → ((value : (input_of command).Value) → ¬ (input_of command).IsText input value) → (input_of command).read input ≡ Err fault → answer.status ≡ Refused → answer.text.items ≡ refusal_line fault.line (cause_text fault.cause) → IsAnswerTo command input answer
+faulty command input answer fault none first status is =
+    refuses command input answer status (inl (record { not_taken = λ taken. none taken.value taken.input_is_its_text; fault = fault; is_first = first; line = is }))
+
+-- and one that isn't built
+pub unbuilt : (command : Command) (input : List ℕ) (answer : Answer) (value : (input_of command).Value) → ((other : (input_of command).Value) → (input_of command).IsText input other → (input_of command).is_unbuilt other ≡ (input_of command).is_unbuilt value) → length input ≤ 4194304 → (input_of command).IsText input value → (input_of command).is_unbuilt value ≡ true → answer.status ≡ Refused → answer.text.items ≡ refusal_line 0 (codes "unbuilt") → IsAnswerTo command input answer
+unbuilt command input answer value same short is_text left_out status is =
+    refuses command input answer status (inr (record {
+      not_taken = λ taken. both_ways ((input_of command).is_unbuilt value) (sym (same taken.value taken.input_is_its_text) ∙ taken.built) left_out;
+      input_is_short = short;
+      value = value;
+      input_is_its_text = is_text;
+      unbuilt = left_out;
+      line = is;
+    }))

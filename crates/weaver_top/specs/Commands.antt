@@ -1,8 +1,8 @@
 -- The words of a command.
 use Rattle.std.specs.Prelude.{◌≡◌, ℕ, List, [], ◌∷◌, Option, Some, None, codes, nat_eq, if◌then◌else◌}
 use Rattle.std.specs.Cmp.Lexicographic.{pointwise}
-use Rattle.weaver_top.specs.declared.words.Command.{Command}
-use Rattle.weaver_top.specs.declared.words.Command.TheVariants.{Run, Check}
+use Rattle.weaver_top.specs.declared.command.Command.{Command}
+use Rattle.weaver_top.specs.declared.command.Command.TheVariants.{Run, Check}
 
 -- the command of this name
 abbrev pub command_named : List ℕ → Option Command

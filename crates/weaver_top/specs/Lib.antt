@@ -1,7 +1,10 @@
 pub mod Commands
-pub mod Runs
-pub mod Endings
-pub mod Verdicts
-pub mod Built
-pub mod Answers
 pub mod Statuses
+pub mod Built
+pub mod Headlines
+pub mod VerdictLines
+pub mod Refusals
+pub mod ScriptOrder
+pub mod Acceptance
+pub mod Answers
+pub mod RunProgress

@@ -3,12 +3,12 @@ use Rattle.std.specs.Prelude.{ℕ}
 use Rattle.weaver_top.specs.declared.status.Status.{Status}
 use Rattle.weaver_top.specs.declared.status.Status.TheVariants.{Done, Read, Refused, Write, Memory, Words, NotRight}
 
--- the exit status of the program
-abbrev pub exit_status : Status → ℕ
-exit_status Done = 0
-exit_status Read = 1
-exit_status Refused = 2
-exit_status Write = 3
-exit_status Memory = 4
-exit_status Words = 5
-exit_status NotRight = 6
+-- the number of a status, which is the exit code of the program
+abbrev pub status_number : Status → ℕ
+status_number Done = 0
+status_number Read = 1
+status_number Refused = 2
+status_number Write = 3
+status_number Memory = 4
+status_number Words = 5
+status_number NotRight = 6

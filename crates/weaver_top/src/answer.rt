@@ -1,13 +1,12 @@
 //! What a command answers to an input.
 ghost use Rattle.std.specs.Prelude.{◌≡◌, ◌≤◌, ◌<◌, ℕ, List, length, IfOk};
-ghost use Rattle.weave_io.specs.declared.reading.TheConstants.{MOST_BYTES};
 ghost use Rattle.weaver_top.specs.Answers.{IsAnswerTo};
-ghost use Rattle.weaver_top.specs.Endings.{refusal_line};
+ghost use Rattle.weaver_top.specs.Refusals.{refusal_line};
 
-use crate::judgement::verdict_on;
-use crate::running::report_on;
+use crate::check_command::verdict_on;
+use crate::command::Command;
+use crate::run_command::report_on;
 use crate::status::Status;
-use crate::words::Command;
 use std::alloc::{AllocError, Global};
 use weave_script::Cause;
 use weave_text::Text;
@@ -21,7 +20,7 @@ pub(crate) struct Answer {
 
 /// What the command answers to an input that was read whole.
 pub(crate) fn answer_to(alloc: Global, command: Command, input: &[u8]) -> Result<Answer, AllocError>
-    requires { length input.now ≤ MOST_BYTES }
+    requires { length input.now ≤ 4194304 }
     ensures { IfOk result (IsAnswerTo command input.now) }
 {
     match command {
@@ -32,7 +31,7 @@ pub(crate) fn answer_to(alloc: Global, command: Command, input: &[u8]) -> Result
 
 /// Says that the input is too long.
 pub(crate) fn too_long(alloc: Global) -> Result<Answer, AllocError>
-    ensures answer { IfOk result (λ answer. (command : Command) (input : List ℕ) → MOST_BYTES < length input → IsAnswerTo command input answer) }
+    ensures answer { IfOk result (λ answer. (command : Command) (input : List ℕ) → 4194304 < length input → IsAnswerTo command input answer) }
     ensures refused { IfOk result (λ answer. answer.status ≡ Status.Refused) }
 {
     refusal(alloc, 0, Cause::TooLong.text())

@@ -1,22 +1,25 @@
-//! The top call: a command's words, a source and a sink in, a status out.
+//! The top call: a command line, a source and a sink in, a status out.
 //!
-//! `weave` judges the words, reads the input whole, and writes one text: `run` reads the script from the input, runs it and writes its report; `check` reads a script and a report behind it, and writes whether the report is right for the script.
+//! `execute` finds the command, reads the input whole, and writes one text: `run` reads a script from the input, runs it and writes its report; `check` reads a script and a report after it, and writes whether the report is right for the script. `weave` is `execute` with a runtime, for threads to come.
 #![tactic(auto)]
 
 mod answer;
+mod built;
+mod check_command;
 #[cfg(test)]
 mod check_tests;
 mod command;
-mod judgement;
+mod execution;
 mod pace;
-mod run;
-mod running;
+mod plain_run;
+mod run_command;
 mod status;
 #[cfg(test)]
 mod tests;
-mod words;
+mod top_call;
 
-pub use command::weave;
+pub use command::Command;
+pub use execution::execute;
 pub use pace::{NoPace, Pace, WorkKind};
 pub use status::Status;
-pub use words::Command;
+pub use top_call::weave;

@@ -1,7 +1,9 @@
 //! How a command ends.
 ghost use Rattle.std.specs.Prelude.{◌≡◌};
 
-/// How a command ends. Its number is the program's exit status.
+use std::process::ExitCode;
+
+/// How a command ends. Its number is the program's exit code.
 #[derive(Clone, Copy, PartialEq, Eq, Debug)]
 pub enum Status {
     /// The work was done, and its text is written.
@@ -12,21 +14,29 @@ pub enum Status {
     Refused,
     /// The sink failed, or took nothing. A prefix of the text is written.
     Write,
-    /// Memory was wanting. Nothing is written.
+    /// Out of memory. Nothing is written.
     Memory,
-    /// The words are no command's. Nothing is read or written.
+    /// The command line has no command. Nothing is read or written.
     Words,
     /// `check`: the report isn't right. `no CLAUSE PLACE` is written.
     NotRight,
 }
 
 impl Status {
-    ghost use Rattle.weaver_top.specs.Statuses.{exit_status};
+    ghost use Rattle.std.specs.Process.{exit_status};
+    ghost use Rattle.weaver_top.specs.Statuses.{status_number};
 
-    /// The exit status of the program, 0 to 6.
+    /// The number of the status, 0 to 6.
     pub fn number(self) -> u8
-        ensures { result ≡ exit_status self }
+        ensures { result ≡ status_number self }
     {
         self as u8
+    }
+
+    /// The exit code of a program that ends with this status.
+    pub fn exit_code(self) -> ExitCode
+        ensures { exit_status result ≡ status_number self }
+    {
+        ExitCode::from(self.number())
     }
 }

@@ -2,6 +2,7 @@ ghost use Rattle.std.specs.Prelude.{◌+◌, ◌<◌};
 
 use crate::{NoPace, Status, weave};
 use std::alloc::{AllocError, Global};
+use std::process::ExitCode;
 use std::sync::Wait;
 use std::test::Fail;
 use std::thread::Threads;
@@ -323,5 +324,69 @@ fn statuses_have_their_numbers(rt: HostRuntime) {
     ];
     for (number, status) in statuses.iter().enumerate() {
         assert_eq!(rt; usize::from(status.number()), number);
+        assert!(rt; status.exit_code() == ExitCode::from(status.number()));
     }
+}
+
+// A command line and an input, and what comes of them: the status, its number and the text.
+type Row = (
+    &'static [&'static str],
+    &'static [u8],
+    Outside,
+    Status,
+    u8,
+    &'static [u8],
+);
+
+// Each status but out of memory.
+const STATUSES: [Row; 8] = [
+    (&["run"], FIRST, HONEST, Status::Done, 0, FIRST_REPORT),
+    (&["check"], RIGHT, HONEST, Status::Done, 0, b"yes\n"),
+    (&["run"], FIRST, UNREADABLE, Status::Read, 1, b""),
+    (
+        &["run"],
+        b"weaver 1\n",
+        HONEST,
+        Status::Refused,
+        2,
+        b"refused 1 header\n",
+    ),
+    (
+        &["check"],
+        FIRST,
+        HONEST,
+        Status::Refused,
+        2,
+        b"refused 9 end\n",
+    ),
+    (&["run"], FIRST, UNWRITABLE, Status::Write, 3, b""),
+    (&["go"], FIRST, HONEST, Status::Words, 5, b""),
+    (&["check"], WRONG, HONEST, Status::NotRight, 6, b"no iv 2\n"),
+];
+
+const UNREADABLE: Outside = Outside {
+    source_fails: 1,
+    ..HONEST
+};
+
+const UNWRITABLE: Outside = Outside {
+    sink_fails: 1,
+    ..HONEST
+};
+
+const RIGHT: &[u8] =
+    b"weaver 1 1 1\ntx a 0 0\ncreate v\nend\nreport 1\ntx a 0:0:1 committed 1\norder a\nend\n";
+
+const WRONG: &[u8] =
+    b"weaver 1 1 1\ntx a 0 0\ncreate v\nend\ntx b 0 0\nget v\nend\nreport 1\ntx a 0:0:1 committed 1\ntx b 0:0:2 committed 2\ngot 1 absent\norder a b\nend\n";
+
+#[test]
+fn each_status_has_its_text_and_exit_code(rt: HostRuntime) -> Result<(), Fail> {
+    for (words, input, outside, status, code, text) in STATUSES {
+        let (ended, written) = call(&rt, rt.alloc(), words, input, outside)?;
+        assert_eq!(rt; ended, status);
+        assert!(rt; ended.exit_code() == ExitCode::from(code));
+        assert_eq!(rt; written.as_slice(), text);
+    }
+    Ok(())
 }

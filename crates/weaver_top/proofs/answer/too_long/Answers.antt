@@ -1,7 +1,7 @@
 use Rattle.std.proofs.Common.{ap, ◌∙◌}
-use Rattle.weaver_top.specs.Endings.{refusal_line}
+use Rattle.weaver_top.specs.Refusals.{refusal_line}
 use Rattle.weaver_top.proofs.Refused.{refused}
-use Rattle.weaver_top.proofs.TooLong.{too_long}
+use Rattle.weaver_top.proofs.Refusals.{too_long}
 use Rattle.weaver_top.proofs.answer.too_long.Goals as goal
 
 pub returns-clause-answer : goal.returns-clause-answer

@@ -1,12 +1,13 @@
--- A run in progress: transactions one after another at gatekeeper 0, on a plain graph.
+-- A run in progress: transactions one after another at gatekeeper 0, on a plain graph. No public contract cites this.
 use Rattle.std.specs.Prelude.{suc, ◌+◌, ◌≡◌, ◌≤◌, ◌<◌, ◌^◌, List, [], ◌∷◌, ◌++◌, length}
 use Rattle.std.specs.List.{AllByRecursion}
 use Rattle.graph_ops.specs.Graphs.{plain_of}
 use Rattle.graph_ops.specs.PlainGraph.{TxOutcome, empty_graph, graph_left}
 use Rattle.program_defs.specs.declared.script.Request.{Request}
 use Rattle.program_defs.specs.declared.script.Script.{Script}
-use Rattle.weave_report.specs.PlainRun.{IsPlainTransaction, ops_of, outcome_of, nth_stamp, count_after, plain_reply, plain_replies, listed, plain_order}
-use Rattle.weaver_top.specs.declared.run.Progress.{Progress}
+use Rattle.program_defs.specs.Works.{ops_of}
+use Rattle.report_rules.specs.PlainRun.{IsPlainTransaction, outcome_of, nth_stamp, count_after, plain_reply, plain_replies, listed, plain_order}
+use Rattle.weaver_top.specs.declared.plain_run.Progress.{Progress}
 
 -- a transaction at gatekeeper 0, of fewer operations than a u32 counts
 abbrev pub IsSmallTransaction : Request → Type 0
@@ -17,7 +18,7 @@ pub record IsRunnable (script : Script) : Type 0 where
   pub transactions : AllByRecursion IsSmallTransaction script.requests
   pub few : length script.requests < 2 ^ 32
 
--- what the next request comes to
+-- the outcome of the next request
 abbrev pub next_outcome : Progress → Request → TxOutcome
 next_outcome run request = outcome_of request (plain_of run.graph)
 
@@ -35,7 +36,7 @@ pub record IsReady (run : Progress) : Type 0 where
   pub commits : run.commits ≤ length run.replies
   pub room : length run.replies < 2 ^ 32
 
--- the run stands before the rest of the requests: run on from here, they give the whole report
+-- the run is before the rest of the requests: run on from here, they give the whole report
 pub record StandsBefore (requests : List Request) (run : Progress) (rest : List Request) : Type 0 where
   pub clock : run.clock ≡ (nth_stamp (length run.replies)).clock
   pub commits : run.commits ≤ length run.replies

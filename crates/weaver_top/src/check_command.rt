@@ -1,27 +1,27 @@
 //! What `check` answers to an input.
 ghost use Rattle.std.specs.Prelude.{◌≡◌, ◌≤◌, ℕ, List, length, IfOk};
-ghost use Rattle.weave_io.specs.declared.reading.TheConstants.{MOST_BYTES};
 ghost use Rattle.weave_script.specs.CheckText.{IsCheckTextOf};
 ghost use Rattle.weave_script.specs.Scripts.{IsScript};
-ghost use Rattle.weaver_top.specs.Answers.{IsCheckAnswer};
-ghost use Rattle.weaver_top.specs.Verdicts.{clause_text, no_line, yes_line};
+ghost use Rattle.weaver_top.specs.Answers.{IsAnswerTo};
+ghost use Rattle.weaver_top.specs.VerdictLines.{clause_text, no_line, yes_line};
 
 use crate::answer::{Answer, refusal};
+use crate::built::has_program;
+use crate::command::Command;
 use crate::status::Status;
 use order_witness::{Clause, Judged, judge_report};
 use program_defs::Script;
 use std::alloc::{AllocError, Global};
 use weave_report::Report;
 use weave_script::{
-    ScriptFault, checks_are_of_one_report, checks_are_read, has_program, read_check,
-    scripts_are_small,
+    ScriptFault, checks_are_of_one_report, checks_are_read, read_check, scripts_are_small,
 };
 use weave_text::Text;
 
 /// Reads the script and the report behind it, and says whether the report is right; or says why the input is refused.
 pub(crate) fn verdict_on(alloc: Global, input: &[u8]) -> Result<Answer, AllocError>
-    requires { length input.now ≤ MOST_BYTES }
-    ensures { IfOk result (IsCheckAnswer input.now) }
+    requires { length input.now ≤ 4194304 }
+    ensures { IfOk result (IsAnswerTo Command.Check input.now) }
 {
     checks_are_read();
     match read_check(alloc, input) {
@@ -34,7 +34,7 @@ pub(crate) fn verdict_on(alloc: Global, input: &[u8]) -> Result<Answer, AllocErr
 // Judges the report where the script has no program.
 fn verdict_for(alloc: Global, script: &Script, report: &Report) -> Result<Answer, AllocError>
     requires { IsScript script.now }
-    ensures { IfOk result (λ answer. (input : List ℕ) → length input ≤ MOST_BYTES → IsCheckTextOf input script.now report.now → IsCheckAnswer input answer) }
+    ensures { IfOk result (λ answer. (input : List ℕ) → length input ≤ 4194304 → IsCheckTextOf input script.now report.now → IsAnswerTo Command.Check input answer) }
 {
     checks_are_of_one_report();
     scripts_are_small();

@@ -1,18 +1,19 @@
 use Rattle.std.proofs.Common.{◌≡◌, Err, ap, ◌∙◌}
 use Rattle.program_defs.specs.declared.script.Script.{Script}
-use Rattle.weave_report.specs.declared.report.Report.{Report}
-use Rattle.weave_script.specs.CheckText.{check_text}
+use Rattle.report_rules.specs.declared.report.Report.{Report}
+use Rattle.weave_script.specs.CheckReading.{check_text}
 use Rattle.weave_script.specs.ReadText.{Fault}
-use Rattle.weaver_top.specs.Endings.{refusal_line}
+use Rattle.weaver_top.specs.declared.command.Command.TheVariants.{Check}
+use Rattle.weaver_top.specs.Refusals.{refusal_line}
 use Rattle.weaver_top.proofs.Refused.{refused, told}
-use Rattle.weaver_top.proofs.Verdicts.{faulty}
-use Rattle.weaver_top.proofs.judgement.verdict_on.Goals as goal
+use Rattle.weaver_top.proofs.Refusals.{faulty}
+use Rattle.weaver_top.proofs.check_command.verdict_on.Goals as goal
 
 pub returns-in-Err-Refused : goal.returns-in-Err-Refused
 returns-in-Err-Refused c =
     let fault : Fault = record { line = c.in-Err-Refused.line; cause = c.in-Err-Refused.cause } in
     let first : check_text c.args.input.now ≡ Err fault = told (Script × Report) c.in-Err-Refused.field-0 fault.line fault.cause (λ line cause. check_text c.args.input.now ≡ Err (record { line = line; cause = cause })) c.in-Err-Refused.field-0-is c.in-Err-Refused.ensures.refused in
     refused _ _ _ c.refusal.ensures.status c.refusal.ensures.text
-    (λ answer status text. faulty c.args.input.now answer fault
-    (λ script report. c.checks_are_read.ensures.refused c.args.input.now fault script report c.requires first)
+    (λ answer status text. faulty Check c.args.input.now answer fault
+    (λ both. c.checks_are_read.ensures.refused c.args.input.now fault both.0 both.1 c.requires first)
     first status (text ∙ ap (refusal_line c.in-Err-Refused.line) c.text.ensures))

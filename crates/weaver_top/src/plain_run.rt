@@ -1,11 +1,12 @@
 //! The run of a script's transactions one after another, on a plain graph.
-ghost use Rattle.std.specs.Prelude.{◌≡◌, ◌<◌, ◌^◌, ◌-◌, length, IfOk, OnOk, is_some, List, drop};
+ghost use Rattle.std.specs.Prelude.{◌≡◌, ◌<◌, ◌^◌, ◌-◌, length, IfOk, OnOk, is_some, IsTrue, List, drop};
 ghost use Rattle.graph_ops.specs.Graphs.{plain_of};
 ghost use Rattle.graph_ops.specs.PlainGraph.{transaction, graph_left};
 ghost use Rattle.program_defs.specs.declared.script.Request.{Request};
-ghost use Rattle.weave_report.specs.PlainRun.{IsChange, ops_of, plain_report, plain_state};
-ghost use Rattle.weave_report.specs.Words.{number_of};
-ghost use Rattle.weaver_top.specs.Runs.{IsRunnable, IsSmallTransaction, IsReady, TakesIn, StandsBefore};
+ghost use Rattle.program_defs.specs.Works.{is_change, ops_of};
+ghost use Rattle.report_rules.specs.PlainRun.{plain_report, plain_state};
+ghost use Rattle.report_rules.specs.Lookups.{number_of};
+ghost use Rattle.weaver_top.specs.RunProgress.{IsRunnable, IsSmallTransaction, IsReady, TakesIn, StandsBefore};
 
 use graph_ops::{Graph, Op, TxFault};
 use program_defs::{Request, Script, Work};
@@ -76,7 +77,7 @@ fn take(alloc: Global, run: &mut Progress, request: &Request) -> Result<(), Allo
 
 // The operations of a transaction.
 fn operations(request: &Request) -> &[Op]
-    requires { IsChange request.now.work }
+    requires { IsTrue (is_change request.now.work) }
     ensures { result.now ≡ ops_of request.now.work }
 {
     match &request.work {

@@ -1,11 +1,19 @@
-use Rattle.std.proofs.Common.{refl, sym, ap, ◌∙◌}
-use Rattle.weaver_top.specs.Endings.{refusal_line}
+use Rattle.std.proofs.Common.{refl, sym, ap}
+use Rattle.weaver_top.specs.Built.{has_program}
+use Rattle.weaver_top.specs.declared.command.Command.TheVariants.{Check}
 use Rattle.weaver_top.proofs.Refused.{refused}
-use Rattle.weaver_top.proofs.Verdicts.{no_program, right, short, unbuilt, wrong}
-use Rattle.weaver_top.proofs.judgement.verdict_for.Goals as goal
+use Rattle.weaver_top.proofs.Refusals.{unbuilt}
+use Rattle.weaver_top.proofs.Verdicts.{no_program, right, short, wrong}
+use Rattle.weaver_top.proofs.check_command.verdict_for.Goals as goal
 
 pub returns-then-has_program : goal.returns-then-has_program
-returns-then-has_program c = refused _ _ _ c.refusal.ensures.status c.refusal.ensures.text (λ answer status text input is_short is_text. unbuilt input answer c.args.script.now c.args.report.now (λ other told of_other. (c.checks_are_of_one_report.ensures input other c.args.script.now told c.args.report.now of_other is_text).0) is_short is_text (sym c.if-has_program.ensures) status text)
+returns-then-has_program c =
+    let script = c.args.script.now in
+    let report = c.args.report.now in
+    refused _ _ _ c.refusal.ensures.status c.refusal.ensures.text
+    (λ answer status text input is_short is_text. unbuilt Check input answer (script, report)
+    (λ other of_other. ap has_program (c.checks_are_of_one_report.ensures input other.0 script other.1 report of_other is_text).0)
+    is_short is_text (sym c.if-has_program.ensures) status text)
 
 pub judge_report-requires-clause-programs : goal.judge_report-requires-clause-programs
 judge_report-requires-clause-programs c = no_program c.args.script.now (sym c.if-has_program.ensures)

@@ -1,0 +1,69 @@
+-- What a command writes for an input that it refuses. It is said once, over what differs between the commands.
+use Rattle.std.specs.Prelude.{◌≡◌, ◌≤◌, ◌⊎◌, ℕ, Bool, true, false, List, [], ◌∷◌, ◌++◌, length, codes, Result, Err}
+use Rattle.std.specs.Fmt.{decimal}
+use Rattle.program_defs.specs.declared.script.Script.{Script}
+use Rattle.report_rules.specs.declared.report.Report.{Report}
+use Rattle.weave_script.specs.CauseTexts.{cause_text}
+use Rattle.weave_script.specs.CheckText.{IsCheckTextOf}
+use Rattle.weave_script.specs.CheckReading.{check_text}
+use Rattle.weave_script.specs.ReadText.{Fault, read_text}
+use Rattle.weave_script.specs.ScriptLines.{IsTextOf}
+use Rattle.weaver_top.specs.Built.{has_program, is_unbuilt}
+use Rattle.weaver_top.specs.declared.command.Command.{Command}
+use Rattle.weaver_top.specs.declared.command.Command.TheVariants.{Run, Check}
+
+-- what a command reads: the values, when bytes are a text of one, which values the command doesn't take yet, and the value or first fault of each text
+pub record InputKind : Type 1 where
+  pub Value : Type 0
+  pub IsText : List ℕ → Value → Type 0
+  pub is_unbuilt : Value → Bool
+  pub read : List ℕ → Result Value Fault
+
+-- `run` reads a script
+abbrev pub run_input : InputKind
+run_input = record { Value = Script; IsText = IsTextOf; is_unbuilt = is_unbuilt; read = read_text }
+
+-- `check` reads a script and then a report for it
+abbrev pub check_input : InputKind
+check_input = record {
+  Value = Script × Report;
+  IsText = λ input both. IsCheckTextOf input both.0 both.1;
+  is_unbuilt = λ both. has_program both.0;
+  read = check_text;
+}
+
+-- what a command reads
+abbrev pub input_of : Command → InputKind
+input_of Run = run_input
+input_of Check = check_input
+
+-- the input isn't too long, and is a text of a value that the command takes
+pub record CanBeTaken (kind : InputKind) (input : List ℕ) : Type 0 where
+  pub input_is_short : length input ≤ 4194304
+  pub value : kind.Value
+  pub input_is_its_text : kind.IsText input value
+  pub built : kind.is_unbuilt value ≡ false
+
+-- the line for an input that is refused: the number of a line, or 0 for the whole input, and the cause
+abbrev pub refusal_line : ℕ → List ℕ → List ℕ
+refusal_line line cause = codes "refused " ++ decimal line ++ codes " " ++ cause ++ 10 ∷ []
+
+-- the input is too long, or a text of no value, and the text names its first fault
+pub record TellsFault (kind : InputKind) (input text : List ℕ) : Type 0 where
+  pub not_taken : ¬ CanBeTaken kind input
+  pub fault : Fault
+  pub is_first : kind.read input ≡ Err fault
+  pub line : text ≡ refusal_line fault.line (cause_text fault.cause)
+
+-- the input is a text of a value that the command doesn't take yet, and the text says so
+pub record TellsUnbuilt (kind : InputKind) (input text : List ℕ) : Type 0 where
+  pub not_taken : ¬ CanBeTaken kind input
+  pub input_is_short : length input ≤ 4194304
+  pub value : kind.Value
+  pub input_is_its_text : kind.IsText input value
+  pub unbuilt : kind.is_unbuilt value ≡ true
+  pub line : text ≡ refusal_line 0 (codes "unbuilt")
+
+-- the text says why the input is refused
+abbrev pub TellsRefusal : InputKind → List ℕ → List ℕ → Type 0
+TellsRefusal kind input text = TellsFault kind input text ⊎ TellsUnbuilt kind input text

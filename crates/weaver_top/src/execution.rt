@@ -1,0 +1,137 @@
+//! All that a command does, but for threads.
+ghost use Rattle.std.specs.Prelude.{◌≡◌, ◌≢◌, ◌⊎◌, ◌↔◌, [], map, string_bytes, IsTrue, Err, None, IfOk, OnOk, IfSome};
+ghost use Rattle.weave_io.specs.Counts.{Rose};
+ghost use Rattle.weave_io.specs.Told.{IsReadWhole, KeepsWritten, Tells, TakesAtMost, Writes, WritesPrefix};
+ghost use Rattle.weaver_top.specs.Acceptance.{IsAcceptedByCheck};
+ghost use Rattle.weaver_top.specs.Answers.{Delivers, IsAnswerTo, TellsAnswer, can_end};
+ghost use Rattle.weaver_top.specs.Commands.{Asks, command_of};
+ghost use Rattle.weaver_top.specs.Headlines.{TellsRightReport, TellsYes};
+ghost use Rattle.weaver_top.specs.Refusals.{CanBeTaken, TellsRefusal, check_input, input_of, run_input};
+ghost use Rattle.weaver_top.specs.ScriptOrder.{TellsRunInScriptOrder};
+ghost use Rattle.weaver_top.specs.VerdictLines.{TellsNo};
+
+use crate::answer::{Answer, answer_to, too_long};
+use crate::command::{Command, command_of};
+use crate::status::Status;
+use std::alloc::Global;
+use weave_io::{ReadFault, Sink, Source, read_all, write_all};
+
+/// Runs the command of the command line: `run` reads a script to the end of the source, runs it, and writes its report to the sink; `check` reads a script and then a report, and writes whether the report is right.
+///
+/// It has no runtime, so it can't wait, and always returns.
+pub fn execute<S: Source, K: Sink>(
+    alloc: Global,
+    words: &[String],
+    source: &mut S,
+    sink: &mut K,
+) -> Status
+    // The headlines.
+    ensures right_report { Asks (map string_bytes words.now) Command.Run → result ≡ Status.Done
+        → Writes TellsRightReport (S.left source.old) (K.written sink.old) (K.written sink.new) }
+    ensures yes { Asks (map string_bytes words.now) Command.Check → result ≡ Status.Done
+        → Writes TellsYes (S.left source.old) (K.written sink.old) (K.written sink.new) }
+    ensures no { result ≡ Status.NotRight
+        → Asks (map string_bytes words.now) Command.Check
+        × Writes TellsNo (S.left source.old) (K.written sink.old) (K.written sink.new) }
+    ensures all_is_read { (result ≡ Status.Done) ⊎ (result ≡ Status.NotRight) → Tells (S.left source.new) [] }
+
+    // What `run` does beside: it runs in script order, and `check` accepts its report.
+    ensures in_script_order { Asks (map string_bytes words.now) Command.Run → result ≡ Status.Done
+        → Writes TellsRunInScriptOrder (S.left source.old) (K.written sink.old) (K.written sink.new) }
+    ensures accepted_by_check { Asks (map string_bytes words.now) Command.Run → result ≡ Status.Done
+        → Writes IsAcceptedByCheck (S.left source.old) (K.written sink.old) (K.written sink.new) }
+
+    // When each other status comes.
+    ensures words { (result ≡ Status.Words) ↔ (command_of (map string_bytes words.now) ≡ None) }
+    ensures read { result ≡ Status.Read → Rose (S.faults source.old) (S.faults source.new) }
+    ensures refused { (command : Command) → Asks (map string_bytes words.now) command → result ≡ Status.Refused
+        → Writes (TellsRefusal (input_of command)) (S.left source.old) (K.written sink.old) (K.written sink.new) }
+    ensures write { result ≡ Status.Write →
+        Rose (K.faults sink.old) (K.faults sink.new) ⊎ Rose (K.stalls sink.old) (K.stalls sink.new) }
+    ensures prefix { (command : Command) → Asks (map string_bytes words.now) command → result ≡ Status.Write
+        → WritesPrefix (TellsAnswer command) (S.left source.old) (K.written sink.old) (K.written sink.new) }
+
+    // Reading comes before writing, and a stall ends the writing.
+    ensures read_first { (result ≡ Status.Refused) ⊎ (result ≡ Status.Write)
+        → IsReadWhole (S.left source.old) (S.left source.new) }
+    ensures without_stall { (result ≡ Status.Done) ⊎ (result ≡ Status.NotRight) ⊎ (result ≡ Status.Refused)
+        → K.stalls sink.new ≡ K.stalls sink.old }
+
+    // When nothing is written, and nothing read.
+    ensures nothing_written { (result ≡ Status.Words) ⊎ (result ≡ Status.Read) ⊎ (result ≡ Status.Memory)
+        → K.written sink.new ≡ K.written sink.old }
+    ensures nothing_read { result ≡ Status.Words → S.left source.new ≡ S.left source.old }
+    ensures read_in_time { result ≡ Status.Read → TakesAtMost (S.left source.old) (S.left source.new) 4194304 }
+    ensures rest { TakesAtMost (S.left source.old) (S.left source.new) 4194305 }
+    ensures written_stays { KeepsWritten (K.written sink.old) (K.written sink.new) }
+
+    // An input that a command takes gets its answer, unless reading or writing fails, or memory runs out.
+    ensures all_run { Asks (map string_bytes words.now) Command.Run
+        → ¬ Rose (S.faults source.old) (S.faults source.new)
+        → ¬ Rose (K.faults sink.old) (K.faults sink.new)
+        → ¬ Rose (K.stalls sink.old) (K.stalls sink.new)
+        → IfSome (S.left source.old) (λ input. CanBeTaken run_input input
+        → (result ≡ Status.Done) ⊎ (result ≡ Status.Memory)) }
+    ensures all_judged { Asks (map string_bytes words.now) Command.Check
+        → ¬ Rose (S.faults source.old) (S.faults source.new)
+        → ¬ Rose (K.faults sink.old) (K.faults sink.new)
+        → ¬ Rose (K.stalls sink.old) (K.stalls sink.new)
+        → IfSome (S.left source.old) (λ input. CanBeTaken check_input input
+        → ((result ≡ Status.Done) ⊎ (result ≡ Status.NotRight)) ⊎ (result ≡ Status.Memory)) }
+{
+    let Some(command) = command_of(words) else {
+        return Status::Words;
+    };
+    match prepare(alloc, command, source) {
+        Ok(answer) => write_answer(sink, &answer),
+        Err(PrepareError::Read) => Status::Read,
+        Err(PrepareError::Memory) => Status::Memory,
+    }
+}
+
+// Reads the input, and finds out what is to be written.
+fn prepare<S: Source>(
+    alloc: Global,
+    command: Command,
+    source: &mut S,
+) -> Result<Answer, PrepareError>
+    ensures fits { IfOk result (λ answer. IfSome (S.left source.old) (λ input. IsAnswerTo command input answer)) }
+    ensures ends { IfOk result (λ answer. IsTrue (can_end command answer.status)) }
+    ensures all_is_read { IfOk result (λ answer. (answer.status ≡ Status.Done) ⊎ (answer.status ≡ Status.NotRight)
+        → Tells (S.left source.new) []) }
+    ensures read { result ≡ Err PrepareError.Read → Rose (S.faults source.old) (S.faults source.new) }
+    ensures read_in_time { result ≡ Err PrepareError.Read → TakesAtMost (S.left source.old) (S.left source.new) 4194304 }
+    ensures read_first { OnOk result (IsReadWhole (S.left source.old) (S.left source.new)) }
+    ensures rest { TakesAtMost (S.left source.old) (S.left source.new) (4194305) }
+{
+    match read_all(alloc, source) {
+        Ok(input) => match answer_to(alloc, command, &input) {
+            Ok(answer) => Ok(answer),
+            Err(_) => Err(PrepareError::Memory),
+        },
+        Err(ReadFault::TooLong) => match too_long(alloc) {
+            Ok(answer) => Ok(answer),
+            Err(_) => Err(PrepareError::Memory),
+        },
+        Err(ReadFault::Read) => Err(PrepareError::Read),
+        Err(ReadFault::Memory) => Err(PrepareError::Memory),
+    }
+}
+
+// Writes an answer's text.
+fn write_answer<K: Sink>(sink: &mut K, answer: &Answer) -> Status
+    ensures delivered { Delivers answer.now result (K.written sink.old) (K.written sink.new)
+        (Rose (K.faults sink.old) (K.faults sink.new) ⊎ Rose (K.stalls sink.old) (K.stalls sink.new)) }
+    ensures without_stall { result ≢ Status.Write → K.stalls sink.new ≡ K.stalls sink.old }
+{
+    match write_all(sink, answer.text.as_slice()) {
+        Ok(()) => answer.status,
+        Err(_) => Status::Write,
+    }
+}
+
+// Why there is nothing to write.
+enum PrepareError {
+    Read,
+    Memory,
+}

@@ -1,0 +1,88 @@
+//! The top call.
+ghost use Rattle.std.specs.Prelude.{◌≡◌, ◌⊎◌, ◌↔◌, [], map, string_bytes, None, IfSome};
+ghost use Rattle.weave_io.specs.Counts.{Rose};
+ghost use Rattle.weave_io.specs.Told.{IsReadWhole, KeepsWritten, Tells, TakesAtMost, Writes, WritesPrefix};
+ghost use Rattle.weaver_top.specs.Acceptance.{IsAcceptedByCheck};
+ghost use Rattle.weaver_top.specs.Answers.{TellsAnswer};
+ghost use Rattle.weaver_top.specs.Commands.{Asks, command_of};
+ghost use Rattle.weaver_top.specs.Headlines.{TellsRightReport, TellsYes};
+ghost use Rattle.weaver_top.specs.Refusals.{CanBeTaken, TellsRefusal, check_input, input_of, run_input};
+ghost use Rattle.weaver_top.specs.ScriptOrder.{TellsRunInScriptOrder};
+ghost use Rattle.weaver_top.specs.VerdictLines.{TellsNo};
+
+use crate::command::Command;
+use crate::execution::execute;
+use crate::pace::Pace;
+use crate::status::Status;
+use std::alloc::Global;
+use std::sync::Wait;
+use std::thread::Threads;
+use weave_io::{Sink, Source};
+
+/// Runs the command of the command line, as `execute` does. The threads that a command may start, and what is called round each turn of them, are given here.
+pub fn weave<R: Threads + Wait + Sync, S: Source, K: Sink, P: Pace>(
+    rt: &R,
+    alloc: Global,
+    words: &[String],
+    source: &mut S,
+    sink: &mut K,
+    pace: &P,
+) -> Status
+    // The headlines.
+    ensures right_report { Asks (map string_bytes words.now) Command.Run → result ≡ Status.Done
+        → Writes TellsRightReport (S.left source.old) (K.written sink.old) (K.written sink.new) }
+    ensures yes { Asks (map string_bytes words.now) Command.Check → result ≡ Status.Done
+        → Writes TellsYes (S.left source.old) (K.written sink.old) (K.written sink.new) }
+    ensures no { result ≡ Status.NotRight
+        → Asks (map string_bytes words.now) Command.Check
+        × Writes TellsNo (S.left source.old) (K.written sink.old) (K.written sink.new) }
+    ensures all_is_read { (result ≡ Status.Done) ⊎ (result ≡ Status.NotRight) → Tells (S.left source.new) [] }
+
+    // What `run` does beside: it runs in script order, and `check` accepts its report.
+    ensures in_script_order { Asks (map string_bytes words.now) Command.Run → result ≡ Status.Done
+        → Writes TellsRunInScriptOrder (S.left source.old) (K.written sink.old) (K.written sink.new) }
+    ensures accepted_by_check { Asks (map string_bytes words.now) Command.Run → result ≡ Status.Done
+        → Writes IsAcceptedByCheck (S.left source.old) (K.written sink.old) (K.written sink.new) }
+
+    // When each other status comes.
+    ensures words { (result ≡ Status.Words) ↔ (command_of (map string_bytes words.now) ≡ None) }
+    ensures read { result ≡ Status.Read → Rose (S.faults source.old) (S.faults source.new) }
+    ensures refused { (command : Command) → Asks (map string_bytes words.now) command → result ≡ Status.Refused
+        → Writes (TellsRefusal (input_of command)) (S.left source.old) (K.written sink.old) (K.written sink.new) }
+    ensures write { result ≡ Status.Write →
+        Rose (K.faults sink.old) (K.faults sink.new) ⊎ Rose (K.stalls sink.old) (K.stalls sink.new) }
+    ensures prefix { (command : Command) → Asks (map string_bytes words.now) command → result ≡ Status.Write
+        → WritesPrefix (TellsAnswer command) (S.left source.old) (K.written sink.old) (K.written sink.new) }
+
+    // Reading comes before writing, and a stall ends the writing.
+    ensures read_first { (result ≡ Status.Refused) ⊎ (result ≡ Status.Write)
+        → IsReadWhole (S.left source.old) (S.left source.new) }
+    ensures without_stall { (result ≡ Status.Done) ⊎ (result ≡ Status.NotRight) ⊎ (result ≡ Status.Refused)
+        → K.stalls sink.new ≡ K.stalls sink.old }
+
+    // When nothing is written, and nothing read.
+    ensures nothing_written { (result ≡ Status.Words) ⊎ (result ≡ Status.Read) ⊎ (result ≡ Status.Memory)
+        → K.written sink.new ≡ K.written sink.old }
+    ensures nothing_read { result ≡ Status.Words → S.left source.new ≡ S.left source.old }
+    ensures read_in_time { result ≡ Status.Read → TakesAtMost (S.left source.old) (S.left source.new) 4194304 }
+    ensures rest { TakesAtMost (S.left source.old) (S.left source.new) 4194305 }
+    ensures written_stays { KeepsWritten (K.written sink.old) (K.written sink.new) }
+
+    // An input that a command takes gets its answer, unless reading or writing fails, or memory runs out.
+    ensures all_run { Asks (map string_bytes words.now) Command.Run
+        → ¬ Rose (S.faults source.old) (S.faults source.new)
+        → ¬ Rose (K.faults sink.old) (K.faults sink.new)
+        → ¬ Rose (K.stalls sink.old) (K.stalls sink.new)
+        → IfSome (S.left source.old) (λ input. CanBeTaken run_input input
+        → (result ≡ Status.Done) ⊎ (result ≡ Status.Memory)) }
+    ensures all_judged { Asks (map string_bytes words.now) Command.Check
+        → ¬ Rose (S.faults source.old) (S.faults source.new)
+        → ¬ Rose (K.faults sink.old) (K.faults sink.new)
+        → ¬ Rose (K.stalls sink.old) (K.stalls sink.new)
+        → IfSome (S.left source.old) (λ input. CanBeTaken check_input input
+        → ((result ≡ Status.Done) ⊎ (result ≡ Status.NotRight)) ⊎ (result ≡ Status.Memory)) }
+{
+    let _ = rt;
+    let _ = pace;
+    execute(alloc, words, source, sink)
+}
