@@ -2,8 +2,9 @@ use crate::{Noted, Owner, Tally, add, add_to_both, five_noted, tallied, total, w
 use chronicle::Chronicle;
 use std::test::Fail;
 
+/// Two authors, who seldom wait for each other.
 #[test]
-fn each_entry_stands_once(rt: HostRuntime) -> Result<(), Fail> {
+fn each_entry_is_there_once(rt: HostRuntime) -> Result<(), Fail> {
     let tally = tallied(&rt, rt.alloc(), 2, 100)?;
     let mut next = [0u64; 2];
     for (author, value) in tally.entries() {
@@ -13,6 +14,21 @@ fn each_entry_stands_once(rt: HostRuntime) -> Result<(), Fail> {
     }
     assert!(rt; next == [100, 100] && tally.entries().len() == 200);
     assert_eq!(rt; tally.total(), 9900);
+    Ok(())
+}
+
+/// Four authors who wait for one another again and again: a `leave` that wakes nobody never ends here.
+#[test]
+fn who_waits_is_woken(rt: HostRuntime) -> Result<(), Fail> {
+    let tally = tallied(&rt, rt.alloc(), 4, 20_000)?;
+    let mut next = [0u64; 4];
+    for (author, value) in tally.entries() {
+        let author = *author as usize;
+        assert!(rt; author < 4 && next[author] == *value);
+        next[author] = value.saturating_add(1);
+    }
+    assert!(rt; next == [20_000; 4] && tally.entries().len() == 80_000);
+    assert_eq!(rt; tally.total(), 799_960_000);
     Ok(())
 }
 
