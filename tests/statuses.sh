@@ -1,0 +1,89 @@
+#!/usr/bin/env bash
+# Runs the built program once for each exit status that can be had from a shell, and compares status and text.
+# Build it first: `rt run` in crates/weaver, or one call of ./weaver.
+set -u
+top=$(cd "$(dirname "${BASH_SOURCE[0]}")/.." && pwd)
+program=${1-$top/crates/weaver/out/weaver}
+if [ ! -x "$program" ]; then
+  echo "$program is missing: build it first" >&2
+  exit 70
+fi
+scratch=$(mktemp -d)
+trap 'rm -rf "$scratch"' EXIT
+failures=0
+
+# is NAME WANTED FOUND
+is() {
+  if [ "$2" = "$3" ]; then
+    echo "ok   $1"
+  else
+    echo "FAIL $1: wanted '$2', found '$3'"
+    failures=$((failures + 1))
+  fi
+}
+
+script="$scratch/script"
+printf 'weaver 1 1 1\ntx a 0 0\ncreate v\nend\ntx b 0 0\nget v\nend\n' >"$script"
+report=$'report 1\ntx a 0:0:1 committed 1\ntx b 0:0:2 committed 2\ngot 1 record\norder a b\nend'
+
+text=$("$program" run <"$script"); status=$?
+is "run: status" 0 $status
+is "run: text" "$report" "$text"
+
+{ cat "$script"; printf '%s\n' "$report"; } >"$scratch/right"
+text=$("$program" check <"$scratch/right"); status=$?
+is "a right report: status" 0 $status
+is "a right report: text" yes "$text"
+
+{ cat "$script"; printf '%s\n' "${report/record/absent}"; } >"$scratch/wrong"
+text=$("$program" check <"$scratch/wrong"); status=$?
+is "a wrong report: status" 6 $status
+is "a wrong report: text" "no iv 2" "$text"
+
+text=$(printf 'weaver 1\n' | "$program" run); status=$?
+is "a refused script: status" 2 $status
+is "a refused script: text" "refused 1 header" "$text"
+
+text=$("$program" check <"$script"); status=$?
+is "a missing report: status" 2 $status
+is "a missing report: text" "refused 8 end" "$text"
+
+text=$("$program" go <"$script"); status=$?
+is "an unknown command: status" 5 $status
+is "an unknown command: text" "" "$text"
+
+text=$("$program" <"$script"); status=$?
+is "no command: status" 5 $status
+
+text=$("$program" run more <"$script"); status=$?
+is "a word too many: status" 5 $status
+
+text=$("$program" run <&-); status=$?
+is "closed standard input: status" 1 $status
+is "closed standard input: text" "" "$text"
+
+text=$("$program" run <"$scratch"); status=$?
+is "a directory as standard input: status" 1 $status
+
+"$program" run <"$script" >&-; status=$?
+is "closed standard output: status" 3 $status
+
+if [ -w /dev/full ]; then
+  "$program" run <"$script" >/dev/full; status=$?
+  is "a full device: status" 3 $status
+fi
+
+# The reader of the pipe has ended before the program writes: the script comes to the program only then.
+mkfifo "$scratch/pipe"
+(exec 3<"$scratch/pipe"; exec 3<&-; : >"$scratch/ended") &
+{
+  for _ in 1 2 3 4 5 6 7 8 9 10; do
+    [ -e "$scratch/ended" ] && break
+    sleep 0.1
+  done
+  cat "$script"
+} | { trap '' PIPE; "$program" run >"$scratch/pipe"; echo $? >"$scratch/status"; }
+wait
+is "a broken pipe: status" 3 "$(cat "$scratch/status")"
+
+exit $((failures > 0))
