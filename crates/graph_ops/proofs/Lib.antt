@@ -1,7 +1,8 @@
-pub mod Tags
 pub mod FirstMentions
+pub mod Rewinding
 pub mod Runs
 pub mod States
 pub mod Vertices
 pub mod Alike
 pub mod Naming
+pub mod Retagging

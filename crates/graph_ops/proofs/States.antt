@@ -1,37 +1,46 @@
--- What tables of states come to.
-use Rattle.std.proofs.Common.{◌≡◌, ◌<◌, ◌↔◌, length, arith, Bool, true, false, cond, List, [], ◌∷◌, Option, Some, None, IsSome, is_some, Result, Ok, Err, IfOk, refl, sym, ap, ◌∙◌, subst}
+-- What tables of states result in.
+use Rattle.std.proofs.Common.{◌≡◌, Bool, true, false, cond, List, [], ◌∷◌, ◌++◌, Option, Some, None, IsSome, is_some, Result, Ok, Err, IfOk, OnErr, refl, sym, ap, ◌∙◌, subst}
 use Rattle.std.specs.Cmp.{eq_by_cmp_equiv}
 use Rattle.std.specs.Cmp.Lexicographic.{nat_list_cmp_total}
 use Rattle.std.specs.FinMap as map
 use Rattle.std.specs.FinMap.{nat_cmp-IsAntisymmetric, slice_cmp-IsAntisymmetric, get-empty, get-insert, get-remove, same_map}
+use Rattle.std.specs.List.{IsDistinct}
+use Rattle.std.specs.Map.{keys_of}
+use Rattle.std.proofs.lemmas.Map.{lookup-none}
+use Rattle.std.proofs.lemmas.Map.Keys.{IsDistinct-tail}
+use Rattle.std.proofs.lemmas.Map.Entries.{none_past_head}
 use Rattle.weave_data.specs.Names.{name_cmp, same_name, one_name}
 use Rattle.weave_data.specs.Pairs.{at_key}
 use Rattle.weave_data.specs.declared.name.Name.{Name}
 use Rattle.graph_ops.specs.Operations.{State, applied, vertex_of, IfRefused}
 use Rattle.graph_ops.specs.PlainGraph.{PlainGraph, empty_graph, with_state, in_graph, on_graph}
 use Rattle.graph_ops.specs.Graphs.{Vertices, plain_of}
-use Rattle.graph_ops.specs.Slots.{noted_or, laid_over, states_of, with_slot, held, Covers}
+use Rattle.graph_ops.specs.Slots.{state_in, states_of, with_slot, held, Covers}
+use Rattle.graph_ops.specs.TakingBack.{taken_back, CanTakeBack, Does, step_back}
+use Rattle.graph_ops.specs.Journals.{Keeps}
 use Rattle.graph_ops.specs.declared.op.Op.{Op}
 use Rattle.graph_ops.specs.declared.op.Op.TheVariants.{Get}
 use Rattle.graph_ops.specs.declared.op.Answered.{Answered}
 use Rattle.graph_ops.specs.declared.op.Answered.TheVariants as answered
 use Rattle.graph_ops.specs.declared.op.OpFault.{OpFault}
 use Rattle.graph_ops.specs.declared.op.OpFault.TheVariants.{Refused, Memory}
+use Rattle.graph_ops.specs.declared.back.Back.{Back}
+use Rattle.graph_ops.specs.declared.back.Change.{Change}
 
 -- what holds at a name, where the names are one, and at every name, where they are two
-here_or_else : (v : Name) (P : Name → Bool → Type 0) → P v true → ((q : Name) → P q false) → (q : Name) → P q (same_name v q)
+pub here_or_else : (v : Name) (P : Name → Bool → Type 0) → P v true → ((q : Name) → P q false) → (q : Name) → P q (same_name v q)
 here_or_else v P here other q =
     elim (same_name v q) as (λ b. same_name v q ≡ b → P q b) [
       | true ↦ λ same. subst (λ k. P k true) (one_name v q same) here
       | false ↦ λ _. other q
     ] refl
 
-other_way : (v q : Name) → same_name v q ≡ same_name q v
+pub other_way : (v q : Name) → same_name v q ≡ same_name q v
 other_way = (eq_by_cmp_equiv nat_list_cmp_total).symm
 
-written_state : (b : Bool) (s : State) (x : Option State) (d : State) → cond b s (noted_or x d) ≡ noted_or (cond b (Some s) x) d
-written_state true s x d = refl
-written_state false s x d = refl
+written_state : (b : Bool) (s : State) (x : Option State) → cond b s (state_in x) ≡ state_in (cond b (Some s) x)
+written_state true s x = refl
+written_state false s x = refl
 
 -- the second table is the first with this state of a vertex
 abbrev pub Writes : Name → State → List (Name × State) → List (Name × State) → Type 0
@@ -39,14 +48,14 @@ Writes v s es fs = (q : Name) → at_key q fs ≡ cond (same_name v q) (Some s) 
 
 -- The finite map of a table.
 
-get_with : (v : Name) (s : State) (vertices : Vertices) (q : Name) → map.get (with_slot v s vertices) q ≡ cond (same_name q v) s (map.get vertices q)
+pub get_with : (v : Name) (s : State) (vertices : Vertices) (q : Name) → map.get (with_slot v s vertices) q ≡ cond (same_name q v) s (map.get vertices q)
 get_with v None vertices q = get-remove nat_list_cmp_total vertices v q
 get_with v (Some now) vertices q = get-insert nat_list_cmp_total vertices v now q
 
-get_held : (slots : List (Name × State)) (q : Name) → map.get (held slots) q ≡ states_of slots q
-unfolding laid_over states_of
+pub get_held : (slots : List (Name × State)) (q : Name) → map.get (held slots) q ≡ states_of slots q
+unfolding states_of
 get_held [] q = get-empty name_cmp q
-get_held (slot ∷ rest) q = get_with slot.0 slot.1 (held rest) q ∙ ap (cond (same_name q slot.0) slot.1) (get_held rest q) ∙ written_state (same_name q slot.0) slot.1 (at_key q rest) None
+get_held (slot ∷ rest) q = get_with slot.0 slot.1 (held rest) q ∙ ap (cond (same_name q slot.0) slot.1) (get_held rest q) ∙ written_state (same_name q slot.0) slot.1 (at_key q rest)
 
 -- its plain graph has the states of the table
 pub seen : (slots : List (Name × State)) (vertices : Vertices) → held slots ≡ vertices → plain_of vertices ≡ states_of slots
@@ -55,103 +64,120 @@ seen slots vertices view = ap plain_of (sym view) ∙ (λ i q. get_held slots q 
 pub seen_empty : (slots : List (Name × State)) → slots ≡ [] → plain_of (held slots) ≡ empty_graph
 seen_empty slots e = ap (λ all. plain_of (held all)) e ∙ (λ i q. get-empty name_cmp q i)
 
+-- finite maps of the same states are one
+pub one_map : (a b : Vertices) → ((q : Name) → map.get a q ≡ map.get b q) → a ≡ b
+one_map a b same = same_map nat_list_cmp_total (slice_cmp-IsAntisymmetric nat_cmp-IsAntisymmetric) a b same
+
 -- tables of the same states are one finite map
 pub unchanged : (slots others : List (Name × State)) (vertices : Vertices) → held others ≡ vertices → states_of slots ≡ states_of others → held slots ≡ vertices
-unchanged slots others vertices view same = same_map nat_list_cmp_total (slice_cmp-IsAntisymmetric nat_cmp-IsAntisymmetric) _ _ (λ q. get_held slots q ∙ ap (λ graph. graph q) same ∙ sym (get_held others q)) ∙ view
+unchanged slots others vertices view same = one_map _ _ (λ q. get_held slots q ∙ ap (λ graph. graph q) same ∙ sym (get_held others q)) ∙ view
 
 -- The states of a table.
 
 -- the state in a place
-pub state_in : (v : Name) (slots : List (Name × State)) (x : Option State) → at_key v slots ≡ x → noted_or x None ≡ states_of slots v
-unfolding laid_over states_of
-state_in v slots x e = ap (λ y. noted_or y None) (sym e)
+pub state_there : (v : Name) (slots : List (Name × State)) (x : Option State) → at_key v slots ≡ x → state_in x ≡ states_of slots v
+unfolding states_of
+state_there v slots x e = ap state_in (sym e)
 
-pub found : (v : Name) (slots : List (Name × State)) (vertices : Vertices) (x : Option State) → held slots ≡ vertices → at_key v slots ≡ x → noted_or x None ≡ plain_of vertices v
-found v slots vertices x view e = state_in v slots x e ∙ ap (λ graph. graph v) (sym (seen slots vertices view))
+pub found : (v : Name) (slots : List (Name × State)) (vertices : Vertices) (x : Option State) → held slots ≡ vertices → at_key v slots ≡ x → state_in x ≡ plain_of vertices v
+found v slots vertices x view e = state_there v slots x e ∙ ap (λ graph. graph v) (sym (seen slots vertices view))
 
 -- to read changes nothing
 pub reads : (v : Name) (graph : PlainGraph) (state : State) → state ≡ graph v → on_graph (Get v) graph ≡ Ok (graph, answered.Got state)
 reads v graph state is = λ i. Ok ((λ q. here_or_else v (λ k b. cond b (graph v) (graph k) ≡ graph k) refl (λ k. refl) q i), answered.Got (sym is i))
 
 pub written : (v : Name) (s : State) (es fs : List (Name × State)) → Writes v s es fs → states_of fs ≡ with_state v s (states_of es)
-unfolding laid_over states_of
-written v s es fs writes = λ i q. (ap (λ x. noted_or x None) (writes q) ∙ sym (written_state (same_name v q) s (at_key q es) None)) i
-
--- The states of a table, laid over a graph.
-
--- a state that is noted as it is changes nothing
-pub noted : (v : Name) (s : State) (es fs : List (Name × State)) (graph : PlainGraph) → graph v ≡ s → at_key v es ≡ None → Writes v s es fs → laid_over fs graph ≡ laid_over es graph
-unfolding laid_over
-noted v s es fs graph is none writes = λ i q. (
-    ap (λ x. noted_or x (graph q)) (writes q)
-    ∙ here_or_else v (λ k b. noted_or (cond b (Some s) (at_key k es)) (graph k) ≡ noted_or (at_key k es) (graph k)) (sym is ∙ ap (λ x. noted_or x (graph v)) (sym none)) (λ k. refl) q
-    ) i
+unfolding states_of
+written v s es fs writes = λ i q. (ap state_in (writes q) ∙ sym (written_state (same_name v q) s (at_key q es))) i
 
 -- a new place, of an absent vertex, is not seen
 pub placed : (v : Name) (es fs : List (Name × State)) → at_key v es ≡ None → Writes v None es fs → states_of fs ≡ states_of es
 unfolding states_of
-placed v es fs none writes = noted v None es fs empty_graph refl none writes
-
-state_of_note : (x : Option State) (d e : State) → IsSome x → noted_or x d ≡ noted_or x e
-state_of_note None d e h = cc
-state_of_note (Some s) d e h = refl
-
--- a vertex whose state is noted may change
-pub hidden : (v : Name) (s : State) (es : List (Name × State)) (graph : PlainGraph) → IsSome (at_key v es) → laid_over es (with_state v s graph) ≡ laid_over es graph
-unfolding laid_over
-hidden v s es graph there = λ i q. here_or_else v (λ k b. noted_or (at_key k es) (cond b s (graph k)) ≡ noted_or (at_key k es) (graph k)) (state_of_note _ _ _ there) (λ k. refl) q i
-
--- the first note is put back
-pub popped : (v : Name) (s : State) (rest : List (Name × State)) (graph : PlainGraph) → at_key v rest ≡ None → laid_over rest (with_state v s graph) ≡ laid_over ((v, s) ∷ rest) graph
-unfolding laid_over
-popped v s rest graph none = λ i q. (
-    here_or_else v (λ k b. noted_or (at_key k rest) (cond b s (graph k)) ≡ noted_or (cond b (Some s) (at_key k rest)) (graph k)) (ap (λ x. noted_or x s) none) (λ k. refl) q
-    ∙ ap (λ b. noted_or (cond b (Some s) (at_key q rest)) (graph q)) (other_way v q)
+placed v es fs none writes = λ i q. (
+    ap state_in (writes q)
+    ∙ here_or_else v (λ k b. state_in (cond b (Some None) (at_key k es)) ≡ state_in (at_key k es)) (ap state_in (sym none)) (λ k. refl) q
     ) i
-
--- with no notes left the graph stands
-pub none_left : (es : List (Name × State)) (graph : PlainGraph) → es ≡ [] → laid_over es graph ≡ graph
-unfolding laid_over
-none_left es graph e = ap (λ all v. noted_or (at_key v all) (graph v)) e
-
-pub drained : {A B : Type 0} (first : Option A) (all : List B) → first ≡ None → (IsSome first ↔ (0 < length all)) → all ≡ []
-drained first [] none is = refl
-drained first (b ∷ all) none is = let some : IsSome first = is.1 (omega arith) in cc
-
--- The places of a table.
 
 pub absent : (x : Option State) → is_some x ≡ false → x ≡ None
 absent None e = refl
 absent (Some s) e = cc
 
--- a vertex that has a place may be noted
-pub covered : (v : Name) (s : State) (slots es fs : List (Name × State)) → Covers slots es → IsSome (at_key v slots) → Writes v s es fs → Covers slots fs
-covered v s slots es fs covers place writes q there = here_or_else v (λ k b. IsSome (cond b (Some s) (at_key k es)) → IsSome (at_key k slots)) (λ _. place) covers q (subst IsSome (writes q) there)
+-- a state that is written over again
+pub rewritten : (v : Name) (was now : State) (graph : PlainGraph) → graph v ≡ was → with_state v was (with_state v now graph) ≡ graph
+rewritten v was now graph is = λ i q. here_or_else v (λ k b. cond b was (cond b now (graph k)) ≡ graph k) (sym is) (λ k. refl) q i
 
--- what is left of the notes
-pub left : (v : Name) (s : State) (slots es rest : List (Name × State)) → es ≡ (v, s) ∷ rest → Covers slots es → Covers slots rest
-left v s slots es rest e covers q there = covers q (subst (λ all. IsSome (at_key q all)) (sym e) (some (same_name q v) (at_key q rest) there))
-  where
-    some : (b : Bool) (x : Option State) → IsSome x → IsSome (cond b (Some s) x)
-    some true x h = refl
-    some false x h = h
+pub state_of_written : (v : Name) (now : State) (graph : PlainGraph) → with_state v now graph v ≡ now
+state_of_written v now graph = ap (λ b. cond b now (graph v)) ((eq_by_cmp_equiv nat_list_cmp_total).refl v)
 
 -- an operation in the place of its vertex, where `was` stood and `now` was written
 module _ (op : Op) (v : Name) (e : v ≡ vertex_of op) (es fs : List (Name × State)) (was now : State) (there : at_key v es ≡ Some was) (writes : IsSome (at_key v es) → Writes v now es fs) where
+  before : states_of es (vertex_of op) ≡ was
+  before = subst (λ k. states_of es k ≡ was) e (sym (state_there v es _ there))
+
   comes : on_graph op (states_of es) ≡ in_graph (vertex_of op) (applied op was) (states_of es)
-  comes = ap (λ s. in_graph (vertex_of op) (applied op s) (states_of es)) (subst (λ k. states_of es k ≡ was) e (sym (state_in v es _ there)))
+  comes = ap (λ s. in_graph (vertex_of op) (applied op s) (states_of es)) before
 
   becomes : states_of fs ≡ with_state (vertex_of op) now (states_of es)
   becomes = subst (λ k. states_of fs ≡ with_state k now (states_of es)) e (written v now es fs (writes (ap is_some there)))
 
-  pub done : (result : Result Answered OpFault) → IfOk result (λ answer. applied op was ≡ Ok (now, answer)) → IfOk result (λ answer. on_graph op (states_of es) ≡ Ok (states_of fs, answer))
-  done (Ok answer) a = comes ∙ ap (λ o. in_graph (vertex_of op) o (states_of es)) a ∙ ap (λ (k : PlainGraph). Ok (k, answer)) (sym becomes)
+  state_now : states_of fs (vertex_of op) ≡ now
+  state_now = ap (λ (graph : PlainGraph). graph (vertex_of op)) becomes ∙ state_of_written (vertex_of op) now (states_of es)
+
+  as_before : (state : State) → state ≡ was → with_state (vertex_of op) state (states_of fs) ≡ states_of es
+  as_before state is = ap (λ s. with_state (vertex_of op) s (states_of fs)) is ∙ ap (with_state (vertex_of op) was) becomes ∙ rewritten (vertex_of op) was now (states_of es) before
+
+  pub done : (result : Result Change OpFault) → Does (applied op was) was now result → IfOk result (λ change. on_graph op (states_of es) ≡ Ok (states_of fs, change.answered))
+  done (Ok change) a = comes ∙ ap (λ o. in_graph (vertex_of op) o (states_of es)) a.0 ∙ ap (λ (k : PlainGraph). Ok (k, change.answered)) (sym becomes)
   done (Err fault) a = tt
 
-  pub refused : (result : Result Answered OpFault) → IfRefused result (λ reason. applied op was ≡ Err reason) → IfRefused result (λ reason. on_graph op (states_of es) ≡ Err reason)
-  refused (Ok answer) a = tt
-  refused (Err (Refused reason)) a = comes ∙ ap (λ o. in_graph (vertex_of op) o (states_of es)) a
+  pub kept : (result : Result Change OpFault) → Does (applied op was) was now result → IfOk result (λ change. Keeps (record { v = vertex_of op; back = change.back }) fs es)
+  kept (Ok change) a = (subst (CanTakeBack change.back) (sym state_now) a.1, as_before _ (ap (taken_back change.back) state_now ∙ a.2))
+  kept (Err fault) a = tt
+
+  pub refused : (result : Result Change OpFault) → Does (applied op was) was now result → IfRefused result (λ reason. on_graph op (states_of es) ≡ Err reason)
+  refused (Ok change) a = tt
+  refused (Err (Refused reason)) a = comes ∙ ap (λ o. in_graph (vertex_of op) o (states_of es)) a.0
   refused (Err Memory) a = tt
 
-  pub one : (saved : List (Name × State)) → IsSome (at_key (vertex_of op) saved) → laid_over saved (states_of fs) ≡ laid_over saved (states_of es)
-  one saved kept = ap (laid_over saved) becomes ∙ hidden (vertex_of op) now saved (states_of es) kept
+  unmoved : now ≡ was → states_of fs ≡ states_of es
+  unmoved same = becomes ∙ ap (λ s. with_state (vertex_of op) s (states_of es)) (same ∙ sym before) ∙ (λ i q. here_or_else (vertex_of op) (λ k b. cond b (states_of es (vertex_of op)) (states_of es k) ≡ states_of es k) refl (λ k. refl) q i)
+
+  pub as_it_was : (result : Result Change OpFault) → Does (applied op was) was now result → OnErr result (states_of fs ≡ states_of es)
+  as_it_was (Ok change) a = tt
+  as_it_was (Err (Refused reason)) a = unmoved a.1
+  as_it_was (Err Memory) a = unmoved a
+
+-- no place is lost when a state is written
+pub covers_written : (v : Name) (s : State) (es fs : List (Name × State)) → Writes v s es fs → Covers fs es
+covers_written v s es fs writes q there = subst IsSome (sym (writes q)) (here_or_else v (λ k b. IsSome (at_key k es) → IsSome (cond b (Some s) (at_key k es))) (λ _. refl) (λ k h. h) q there)
+
+-- a step taken back in the place of its vertex
+pub taken_back_at : (v : Name) (back : Back) (es fs : List (Name × State)) (was now : State) → at_key v es ≡ Some was → Writes v now es fs → now ≡ taken_back back was → states_of fs ≡ step_back (record { v = v; back = back }) (states_of es)
+taken_back_at v back es fs was now there writes is = written v now es fs writes ∙ ap (λ s. with_state v s (states_of es)) (is ∙ ap (taken_back back) (state_there v es (Some was) there))
+
+-- the first of two states that is there
+abbrev pub first_of : Option State → Option State → Option State
+first_of None second = second
+first_of (Some s) second = Some s
+
+-- one more state of a table is copied
+pub copied_more : (v : Name) (s copy : State) (all front rest es fs : List (Name × State)) → front ≡ (v, s) ∷ rest → copy ≡ s → IsDistinct same_name (keys_of front) → Writes v copy es fs → ((q : Name) → first_of (at_key q front) (at_key q es) ≡ at_key q all) → (q : Name) → first_of (at_key q rest) (at_key q fs) ≡ at_key q all
+copied_more v s copy all front rest es fs is same apart writes states q =
+    ap (first_of (at_key q rest)) (writes q ∙ ap (λ x. cond (same_name v q) (Some x) (at_key q es)) same ∙ ap (λ b. cond b (Some s) (at_key q es)) (other_way v q))
+    ∙ here_first (same_name q v) (at_key q rest) (at_key q es) gone
+    ∙ ap (λ pairs. first_of (at_key q pairs) (at_key q es)) (sym is) ∙ states q
+  where
+    gone : same_name q v ≡ true → at_key q rest ≡ None
+    gone one = lookup-none (same_name q) rest (none_past_head (eq_by_cmp_equiv nat_list_cmp_total) q (v, s) rest (subst (λ pairs. IsDistinct same_name (keys_of pairs)) is apart) one)
+
+    here_first : (b : Bool) (x y : Option State) → (b ≡ true → x ≡ None) → first_of x (cond b (Some s) y) ≡ first_of (cond b (Some s) x) y
+    here_first true x y none = ap (λ z. first_of z (Some s)) (none refl)
+    here_first false None y none = refl
+    here_first false (Some t) y none = refl
+
+pub apart_rest : (v : Name) (s : State) (front rest : List (Name × State)) → front ≡ (v, s) ∷ rest → IsDistinct same_name (keys_of front) → IsDistinct same_name (keys_of rest)
+apart_rest v s front rest is apart = IsDistinct-tail same_name v (keys_of rest) (subst (λ pairs. IsDistinct same_name (keys_of pairs)) is apart)
+
+pub all_copied : (front es all : List (Name × State)) → front ≡ [] → ((q : Name) → first_of (at_key q front) (at_key q es) ≡ at_key q all) → states_of es ≡ states_of all
+unfolding states_of
+all_copied front es all none states = λ i q. (ap (λ pairs. state_in (first_of (at_key q pairs) (at_key q es))) (sym none) ∙ ap state_in (states q)) i

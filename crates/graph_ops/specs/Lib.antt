@@ -1,8 +1,12 @@
 pub mod Codes
 pub mod Graphs
+pub mod Journals
 pub mod Mentions
 pub mod Operations
+pub mod Pendings
 pub mod PlainGraph
 pub mod Slots
 pub mod VertexOps
 pub mod Alike
+pub mod TagChanges
+pub mod TakingBack

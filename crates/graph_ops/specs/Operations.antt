@@ -17,7 +17,7 @@ use Rattle.graph_ops.specs.declared.op.OpFault.TheVariants.{Refused, Memory}
 abbrev pub State : Type 0
 State = Option Record
 
--- what an operation comes to: the state after it and its answer, or the reason of its refusal
+-- what an operation results in: the state after it and its answer, or the reason of its refusal
 abbrev pub Outcome : Type 0
 Outcome = Result (State × Answered) Reason
 
@@ -70,7 +70,7 @@ vertex_of (Tag v name key value) = v
 vertex_of (Untag v name key) = v
 vertex_of (Get v) = v
 
--- where the call was refused, and not for want of memory, the reason has P
+-- where the call was refused, and not since it is out of memory, the reason has P
 abbrev pub IfRefused : {A : Type 0} → Result A OpFault → (Reason → Type 0) → Type 0
 IfRefused (Ok answer) P = Unit {0}
 IfRefused (Err (Refused reason)) P = P reason

@@ -21,7 +21,7 @@ empty_graph = λ v. None
 abbrev pub with_state : Name → State → PlainGraph → PlainGraph
 with_state v state graph = λ w. if same_name v w then state else graph w
 
--- what an outcome at a vertex comes to in the graph: the graph with the vertex's new state and the answer, or the reason
+-- what an outcome at a vertex results in for the graph: the graph with the vertex's new state and the answer, or the reason
 abbrev pub in_graph : Name → Outcome → PlainGraph → Result (PlainGraph × Answered) Reason
 in_graph v (Ok (now, answer)) graph = Ok (with_state v now graph, answer)
 in_graph v (Err reason) graph = Err reason
@@ -40,7 +40,7 @@ pub record Stopped : Type 0 where
   pub op : ℕ
   pub reason : Reason
 
--- what a transaction comes to
+-- what a transaction results in
 abbrev pub TxOutcome : Type 0
 TxOutcome = Result Passed Stopped
 

@@ -1,20 +1,24 @@
 //! The plain graph.
-ghost use Rattle.std.specs.Prelude.{◌≡◌, ◌<◌, ◌^◌, length, option_copied, Ok, Err, IfOk, OnErr};
+ghost use Rattle.std.specs.Prelude.{◌≡◌, ◌<◌, ◌^◌, length, option_copied, Ok, Err, IfOk, OnOk, OnErr};
 ghost use Rattle.graph_ops.specs.PlainGraph.{empty_graph, transaction};
 ghost use Rattle.graph_ops.specs.Graphs.{plain_of, IfTxRefused};
+ghost use Rattle.graph_ops.specs.Slots.{states_of};
 
+use crate::journal::{Slots, run_or_rewind};
 use crate::op::Op;
+use crate::pending::Pending;
 use crate::record::Record;
-use crate::slots::run_or_put_back;
 use crate::tx::{Got, TxFault};
 use std::alloc::{AllocError, Global};
+use std::collections::HashMap;
 use std::marker::Model;
-use weave_data::{Copied, Name, NameMap};
+use std::mem::replace;
+use weave_data::{Copied, Name};
 
 /// A graph, seen by contracts as a finite map from names to records.
 #[derive(Drop)]
 pub struct Graph {
-    slots: NameMap<Option<Record>>,
+    pub(crate) slots: Slots,
 }
 
 impl Model for Graph {
@@ -27,7 +31,7 @@ impl Model for Graph {
 
     ghost coded = { map.code coded_name coded_record };
 
-    ghost view = { λ g. held g.slots };
+    ghost view = { λ g. held g.slots.entries };
 }
 
 impl Graph {
@@ -36,7 +40,7 @@ impl Graph {
         ensures { plain_of result ≡ empty_graph }
     {
         Graph {
-            slots: NameMap::new(alloc),
+            slots: HashMap::new(alloc),
         }
     }
 
@@ -44,7 +48,7 @@ impl Graph {
     pub fn find(&self, v: Name) -> Option<&Record>
         ensures { option_copied result ≡ plain_of self.now v }
     {
-        let Some(state) = self.slots.get(v) else {
+        let Some(state) = self.slots.get(&v) else {
             return None;
         };
         state.as_ref()
@@ -52,22 +56,52 @@ impl Graph {
 
     /// Runs a transaction: all its operations in order, or none where one is refused. After either fault the graph is as before.
     ///
-    /// Of each vertex that it changes it copies the record once, whatever the size of the graph.
+    /// It costs its own operations, whatever the size of the graph and of its records. Only `get` copies a record.
     pub fn run_tx(&mut self, alloc: Global, ops: &[Op]) -> Result<Vec<Got>, TxFault>
         requires { length ops.now < 2 ^ 32 }
         ensures done { IfOk result (λ gots. transaction ops.now (plain_of self.old) ≡ Ok (record { graph = plain_of self.new; gots = gots.items })) }
         ensures refused { IfTxRefused result (λ stopped. transaction ops.now (plain_of self.old) ≡ Err stopped) }
         ensures unchanged { OnErr result (self.new ≡ self.old) }
     {
-        let slots = &mut self.slots;
-        run_or_put_back(alloc, &mut slots.pairs, ops)
+        match run_or_rewind(alloc, &mut self.slots, ops) {
+            Ok((gots, _)) => Ok(gots),
+            Err(fault) => Err(fault),
+        }
+    }
+
+    /// Runs a transaction that may still be taken back. If it passes, the graph moves into the `Pending`, and an empty one is left. After either fault the graph is as before.
+    pub fn apply(&mut self, alloc: Global, ops: &[Op]) -> Result<(Vec<Got>, Pending), TxFault>
+        requires { length ops.now < 2 ^ 32 }
+        ensures done { IfOk result (λ passed. transaction ops.now (plain_of self.old) ≡ Ok (record { graph = plain_of passed.1.after; gots = passed.0.items })) }
+        ensures before { IfOk result (λ passed. passed.1.before ≡ self.old) }
+        ensures left { OnOk result (plain_of self.new ≡ empty_graph) }
+        ensures refused { IfTxRefused result (λ stopped. transaction ops.now (plain_of self.old) ≡ Err stopped) }
+        ensures unchanged { OnErr result (self.new ≡ self.old) }
+    {
+        match run_or_rewind(alloc, &mut self.slots, ops) {
+            Ok((gots, journal)) => {
+                let slots = replace(&mut self.slots, HashMap::new(alloc));
+                Ok((gots, Pending::new(slots, journal)))
+            }
+            Err(fault) => Err(fault),
+        }
     }
 }
 
 impl Copied for Graph {
     fn copy(&self, alloc: Global) -> Result<Self, AllocError> {
         Ok(Graph {
-            slots: self.slots.copy(alloc)?,
+            slots: copy_slots(alloc, &self.slots)?,
         })
     }
+}
+
+fn copy_slots(alloc: Global, slots: &Slots) -> Result<Slots, AllocError>
+    ensures { IfOk result (λ copied. states_of copied.entries ≡ states_of slots.now.entries) }
+{
+    let mut copies = HashMap::with_capacity(alloc, slots.len())?;
+    for (v, state) in slots.iter() {
+        copies.insert(*v, state.copy(alloc)?)?;
+    }
+    Ok(copies)
 }

@@ -3,14 +3,17 @@
 //! `apply_op` does an operation to its vertex's state, and `Graph::run_tx` a transaction to a graph. Each answers exactly what the definitions in `specs/Operations.antt` and `specs/PlainGraph.antt` say, limits among the reasons of refusal, and changes nothing where it answers a fault.
 #![tactic(auto)]
 
+mod back;
 mod graph;
+mod journal;
 pub mod laws;
 mod mentions;
 mod op;
 mod part;
+mod pending;
 mod record;
 mod rows;
-mod slots;
+mod tags;
 #[cfg(test)]
 mod tests;
 mod tx;
@@ -19,6 +22,7 @@ pub use graph::Graph;
 pub use mentions::named;
 pub use op::{Answered, Op, OpFault, Reason, apply_op};
 pub use part::Part;
+pub use pending::Pending;
 pub use record::{Edge, MOST_EDGES, MOST_PROPS, MOST_TAGS, Record};
 pub use tx::{Got, TxFault};
 pub use weave_data::Name;

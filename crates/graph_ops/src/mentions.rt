@@ -6,7 +6,7 @@ use crate::op::Op;
 use std::alloc::{AllocError, Global};
 use weave_data::Name;
 
-/// The vertices that operations name, `get` included, in order of first mention. The one error is want of memory.
+/// The vertices that operations name, `get` included, in order of first mention. The one error is out of memory.
 pub fn named(alloc: Global, ops: &[Op]) -> Result<Vec<Name>, AllocError>
     ensures { IfOk result (λ names. names.items ≡ named_by ops.now) }
 {

@@ -1,9 +1,11 @@
 //! Operations on one vertex.
 ghost use Rattle.std.specs.Prelude.{◌≡◌, Ok, Err, IfOk, OnErr};
-ghost use Rattle.graph_ops.specs.Operations.{applied, vertex_of, IfRefused, Performs};
+ghost use Rattle.graph_ops.specs.Operations.{applied, vertex_of, IfRefused};
+ghost use Rattle.graph_ops.specs.TakingBack.{Does};
 
+use crate::back::Change;
 use crate::record::Record;
-use crate::rows;
+use crate::{rows, tags};
 use std::alloc::{AllocError, Global};
 use weave_data::{Copied, Name};
 
@@ -81,7 +83,7 @@ pub enum Reason {
 pub enum OpFault {
     /// The operation was refused, for this reason.
     Refused(Reason),
-    /// Memory was wanting.
+    /// Out of memory.
     Memory,
 }
 
@@ -145,26 +147,30 @@ pub fn apply_op(alloc: Global, state: &mut Option<Record>, op: &Op) -> Result<An
     ensures refused { IfRefused result (λ reason. applied op.now state.old ≡ Err reason) }
     ensures unchanged { OnErr result (state.new ≡ state.old) }
 {
-    perform(alloc, state, op)
+    match do_op(alloc, state, op) {
+        Ok(change) => Ok(change.answered),
+        Err(fault) => Err(fault),
+    }
 }
 
-fn perform(alloc: Global, state: &mut Option<Record>, op: &Op) -> Result<Answered, OpFault>
-    ensures { Performs (applied op.now state.old) state.old state.new result }
+/// Does an operation to a vertex's state, and notes how it is taken back.
+pub(crate) fn do_op(alloc: Global, state: &mut Option<Record>, op: &Op) -> Result<Change, OpFault>
+    ensures { Does (applied op.now state.old) state.old state.new result }
 {
     match *op {
         Op::Create { .. } => rows::create(alloc, state),
         Op::Delete { .. } => rows::delete(state),
         Op::Set { key, value, .. } => rows::set(state, key, value),
-        Op::Unset { key, .. } => rows::unset(state, key),
+        Op::Unset { key, .. } => rows::unset(alloc, state, key),
         Op::Link { edge, target, .. } => rows::link(state, alloc, edge, target),
-        Op::Unlink { edge, .. } => rows::unlink(state, edge),
+        Op::Unlink { edge, .. } => rows::unlink(alloc, state, edge),
         Op::Tag {
             edge,
             key,
             value,
             ..
-        } => rows::tag(state, edge, key, value),
-        Op::Untag { edge, key, .. } => rows::untag(state, edge, key),
+        } => tags::tag(alloc, state, edge, key, value),
+        Op::Untag { edge, key, .. } => tags::untag(alloc, state, edge, key),
         Op::Get { .. } => rows::get(alloc, state),
     }
 }

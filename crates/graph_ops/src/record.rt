@@ -1,4 +1,6 @@
 //! The record of a vertex.
+ghost use Rattle.std.specs.Prelude.{◌≡◌, []};
+
 use std::alloc::{AllocError, Global};
 use weave_data::{Copied, Name, NameMap};
 
@@ -23,6 +25,18 @@ pub struct Edge {
 pub struct Record {
     pub props: NameMap<Name>,
     pub edges: NameMap<Edge>,
+}
+
+impl Edge {
+    /// An edge without tags. It takes no memory.
+    pub(crate) fn bare(alloc: Global, target: Name) -> Edge
+        ensures { result ≡ record { target = target; tags = [] } }
+    {
+        Edge {
+            target,
+            tags: NameMap::new(alloc),
+        }
+    }
 }
 
 impl Copied for Edge {

@@ -27,7 +27,7 @@ impl Copied for Got {
 pub enum TxFault {
     /// The first refused operation, from 1.
     Refused { op: u32, reason: Reason },
-    /// Memory was wanting.
+    /// Out of memory.
     Memory,
 }
 

@@ -1,2 +1,4 @@
+pub mod Changes
 pub mod Names
 pub mod Pairs
+pub mod Places

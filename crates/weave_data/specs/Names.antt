@@ -37,10 +37,10 @@ one_name a b same = slice_cmp-IsAntisymmetric nat_cmp-IsAntisymmetric a b (is_eq
 abbrev pub shard_of : List ℕ → ℕ → ℕ
 shard_of name shards = sum name % shards
 
--- 32 bytes that begin with these, and are 0 behind them
+-- 32 bytes that begin with these, and are 0 after them
 abbrev pub padded : List ℕ → List ℕ
 padded bytes = bytes ++ replicate (32 - length bytes) 0
 
--- the first so many of the 32 bytes are a name, and the others are 0
+-- the first `len` of the 32 bytes are a name, and the others are 0
 abbrev pub IsStored : ℕ → List ℕ → Type 0
 IsStored len letters = (IsTrue (is_name (take len letters))) × (len ≡ length (take len letters)) × (letters ≡ padded (take len letters))

@@ -26,6 +26,6 @@ module _ {X : Type 0} where
   abbrev pub without : List ℕ → List (List ℕ × X) → List (List ℕ × X)
   without key pairs = remove_entry (is_at (name_cmp key)) pairs
 
-  -- there is no room for the key: it is new, and there are as many as the limit allows
+  -- there is no room for the key: it is new, and the limit is reached
   abbrev pub is_full : ℕ → List ℕ → List (List ℕ × X) → Bool
   is_full limit key pairs = not (has key pairs) && nat_le limit (length pairs)

@@ -5,7 +5,7 @@ use std::alloc::{AllocError, Global};
 
 /// Plain data of which an equal value can be had.
 pub trait Copied {
-    /// An equal value. The one error is want of memory.
+    /// An equal value. The one error is out of memory.
     fn copy(&self, alloc: Global) -> Result<Self, AllocError>
         ensures { IfOk result (λ copied. copied ≡ self.now) };
 }

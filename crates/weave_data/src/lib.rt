@@ -3,14 +3,18 @@
 //! Contracts see a name as the list of its bytes, a list as a list, and a map as the list of its pairs in rising order of keys.
 #![tactic(auto)]
 
+mod change;
 mod copied;
 mod items;
+mod letters;
 mod name;
 mod name_map;
+mod places;
 #[cfg(test)]
 mod tests;
 
+pub use change::Undo;
 pub use copied::Copied;
 pub use items::Items;
 pub use name::Name;
-pub use name_map::NameMap;
+pub use name_map::{NameMap, are_rising};

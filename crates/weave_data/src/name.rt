@@ -10,6 +10,7 @@ ghost use Rattle.std.specs.List.{list_all};
 ghost use Rattle.weave_data.specs.Names.{is_name, is_name_byte, name_cmp, same_name, one_name, shard_of};
 
 use crate::copied::Copied;
+use crate::letters::order;
 use std::alloc::{AllocError, Global};
 use std::cmp::Ordering;
 use std::hash::{Hash, Hasher};
@@ -60,7 +61,7 @@ impl PartialEq for Name {
     ghost laws = { Cmp.partial_equiv_from_equiv (eq_by_cmp_equiv nat_list_cmp_total) };
 
     fn eq(&self, other: &Name) -> bool {
-        self.bytes() == other.bytes()
+        self.cmp(other).is_eq()
     }
 }
 
@@ -88,7 +89,7 @@ impl Ord for Name {
     ghost matches_eq = { λ a b. refl };
 
     fn cmp(&self, other: &Name) -> Ordering {
-        self.bytes().cmp(&other.bytes())
+        order(&self.letters, &other.letters)
     }
 }
 
@@ -126,7 +127,7 @@ impl Name {
         &self.letters[..self.len as usize]
     }
 
-    /// The shard that keeps the vertex of this name, of so many shards.
+    /// The shard that keeps the vertex of this name, of `shards` shards.
     pub fn shard(&self, shards: u32) -> u32
         requires { 1 ≤ shards }
         ensures { result ≡ shard_of self.now shards }

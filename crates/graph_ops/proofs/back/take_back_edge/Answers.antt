@@ -1,0 +1,7 @@
+use Rattle.std.proofs.Common.{Some, sym, ap, ◌∙◌}
+use Rattle.graph_ops.specs.TakingBack.{taken_back}
+use Rattle.graph_ops.specs.declared.back.Back.TheVariants.{Edges}
+use Rattle.graph_ops.proofs.back.take_back_edge.Goals as goal
+
+pub returns : goal.returns
+returns c = ap (λ held. Some held) c.take_back_edge_of.ensures ∙ sym (ap (taken_back (Edges c.args.undo)) c.in-Some.is)
