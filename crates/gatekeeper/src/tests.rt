@@ -1,6 +1,7 @@
-ghost use Rattle.std.specs.Prelude.{◌≡◌, ◌≤◌, map, IfOk, OnOk};
+ghost use Rattle.std.specs.Prelude.{◌≡◌, ◌≤◌, ◌<◌, [], map, IfOk, OnOk};
 ghost use Rattle.graph_ops.specs.Mentions.{named_by};
 ghost use Rattle.weave_entries.specs.declared.verdict.Counted.{Counted};
+ghost use Rattle.weave_entries.specs.Sending.{IsCountsOf};
 
 use crate::{Gate, GateFault};
 use graph_ops::{Op, Part, Reason, named};
@@ -360,4 +361,169 @@ fn commits_on_two_shards(rt: HostRuntime) -> Result<(), Fail> {
     assert_eq!(rt; begun, stamp(4, 0));
     on_channels(&rt, &gate, wanted.as_slice())?;
     in_log(&rt, &gate, 9, wanted.as_slice())
+}
+
+// A stamp of a gatekeeper: its own count, and one count for all others.
+fn stamp_at(home: u32, epoch: u64, own: u64, others: u64) -> Stamp
+    requires { home < 8 }
+{
+    let mut counts = [others; 8];
+    counts[home as usize] = own;
+    Stamp {
+        home,
+        clock: Clock { epoch, counts },
+    }
+}
+
+// At a new gatekeeper of this home a transaction and a program begin with the wanted stamp.
+fn begin_at(rt: &impl Abort, alloc: Global, home: u32, last: &Option<Stamp>, wanted: &Stamp)
+    requires { home < 8 }
+{
+    let mut gate = Gate::new(alloc, home, 8, 1).expect(rt, "no gatekeeper");
+    let tx = gate.begin_tx(alloc, 1, 0, *last);
+    assert!(rt; tx == Ok(*wanted), "a transaction at {home}");
+    let mut other = Gate::new(alloc, home, 8, 1).expect(rt, "no gatekeeper");
+    let program = other.begin_program(alloc, 1, 0, *last);
+    assert!(rt; program == Ok(*wanted), "a program at {home}");
+}
+
+// The session's last stamp is none, of another gatekeeper, of a higher epoch, or of the same gatekeeper.
+#[test]
+fn begins_at_each_home(rt: HostRuntime) {
+    let alloc = rt.alloc();
+    for home in 0..8 {
+        let next = (home + 1) % 8;
+        let other = Some(stamp_at(next, 0, 5, 5));
+        let higher = Some(stamp_at(next, 2, 5, 5));
+        let same = Some(stamp_at(home, 0, 0, 5));
+        begin_at(&rt, alloc, home, &None, &stamp_at(home, 0, 1, 0));
+        begin_at(&rt, alloc, home, &other, &stamp_at(home, 0, 1, 5));
+        begin_at(&rt, alloc, home, &higher, &stamp_at(home, 2, 1, 5));
+        begin_at(&rt, alloc, home, &same, &stamp_at(home, 0, 1, 5));
+    }
+}
+
+// The last stamp is of a lower epoch than the gatekeeper's own: nothing of it is heard.
+#[test]
+fn begins_after_a_lower_epoch(rt: HostRuntime) {
+    let alloc = rt.alloc();
+    let mut gate = Gate::new(alloc, 0, 2, 1).expect(&rt, "no gatekeeper");
+    let raised = |own| Stamp {
+        home: 0,
+        clock: clock(2, own, 3),
+    };
+    let higher = gate.begin_program(alloc, 1, 0, Some(other_stamp(2, 5, 3)));
+    assert!(rt; higher == Ok(raised(1)));
+    let lower = Some(other_stamp(0, 0, 7));
+    assert!(rt; gate.begin_program(alloc, 1, 1, lower) == Ok(raised(2)));
+    assert!(rt; gate.begin_tx(alloc, 1, 2, lower) == Ok(raised(3)));
+}
+
+// A transaction without operations begins and is aborted. Answers its stamp.
+fn begin_and_abort(
+    rt: &impl Abort,
+    alloc: Global,
+    gate: &mut Gate,
+    last: Option<Stamp>,
+    verdict: &Verdict,
+) -> Stamp
+    requires { IsCountsOf [] verdict.now }
+{
+    let stamp = gate.begin_tx(alloc, 1, 0, last).expect(rt, "no stamp");
+    gate.send(alloc, 1, &[], verdict).expect(rt, "not sent");
+    stamp
+}
+
+#[test]
+fn aborts_by_each_verdict(rt: HostRuntime) {
+    let alloc = rt.alloc();
+    let conflict = Verdict::Conflict {
+        vertex: Name::parse(b"ann").expect(&rt, "a name"),
+        newer: 7,
+    };
+    let refused = Verdict::Refused {
+        op: 1,
+        reason: Reason::Full,
+        at: 3,
+    };
+    let mut gate = Gate::new(alloc, 3, 8, 2).expect(&rt, "no gatekeeper");
+    let first = begin_and_abort(&rt, alloc, &mut gate, None, &conflict);
+    assert_eq!(rt; first, stamp_at(3, 0, 1, 0));
+    let second = begin_and_abort(&rt, alloc, &mut gate, Some(first), &refused);
+    assert_eq!(rt; second, stamp_at(3, 0, 2, 0));
+    let third = begin_and_abort(&rt, alloc, &mut gate, Some(first), &conflict);
+    assert_eq!(rt; third, stamp_at(3, 0, 3, 0));
+    assert_eq!(rt; gate.log().len(), 6);
+}
+
+// Twenty programs, the last number begun twice. All are finished, and none of them again.
+#[test]
+fn many_programs(rt: HostRuntime) {
+    let alloc = rt.alloc();
+    let mut gate = Gate::new(alloc, 0, 2, 1).expect(&rt, "no gatekeeper");
+    for request in 0..20 {
+        let begun = gate.begin_program(alloc, 1, request, None);
+        assert!(rt; begun == Ok(stamp(u64::from(request) + 1, 0)));
+    }
+    let last = Some(other_stamp(0, 0, 4));
+    let again = gate.begin_program(alloc, 1, 19, last);
+    assert!(rt; again == Ok(stamp(21, 4)));
+    for request in 0..20 {
+        assert!(rt; gate.finish(alloc, 1, request) == Ok(()));
+    }
+    for request in 0..20 {
+        assert!(rt; gate.finish(alloc, 1, request) == Err(GateFault::Idle));
+    }
+}
+
+// Two empty messages to the last of that many shards.
+fn two_nops(rt: &impl Abort, alloc: Global, shards: u32)
+    requires some { 1 ≤ shards }
+    requires few { shards ≤ 16 }
+{
+    let mut gate = Gate::new(alloc, 7, 8, shards).expect(rt, "no gatekeeper");
+    let last = shards - 1;
+    let first = gate.nop(alloc, 1, last).expect(rt, "not sent");
+    let second = gate.nop(alloc, 1, last).expect(rt, "not sent");
+    assert_eq!(rt; (first, second), (1, 2));
+    assert!(rt; gate.fetch(last, 2).is_some() && gate.fetch(shards, 1).is_none());
+}
+
+#[test]
+fn sends_to_each_number_of_shards(rt: HostRuntime) {
+    for before in 0..16 {
+        two_nops(&rt, rt.alloc(), before + 1);
+    }
+}
+
+// Ten commits on one of sixteen shards, and one that names no vertex.
+#[test]
+fn commits_in_a_row(rt: HostRuntime) -> Result<(), Fail> {
+    let alloc = rt.alloc();
+    let v = name("ann")?;
+    let shard = v.shard(16);
+    let mut gate = Gate::new(alloc, 7, 8, 16)?;
+    for request in 0..10 {
+        let own = u64::from(request) + 1;
+        let begun = commit(alloc, &mut gate, request, &[Op::Create { v }], &[own])?;
+        assert_eq!(rt; begun, stamp_at(7, 0, own, 0));
+        assert!(rt; gate.fetch(shard, own).is_some());
+    }
+    let begun = commit(alloc, &mut gate, 10, &[], &[])?;
+    assert_eq!(rt; begun, stamp_at(7, 0, 11, 0));
+    assert!(rt; gate.fetch(shard, 11).is_none());
+    Ok(())
+}
+
+// Room is taken for more entries than before, for fewer and for none.
+#[test]
+fn takes_room(rt: HostRuntime) {
+    let alloc = rt.alloc();
+    let mut gate = Gate::new(alloc, 0, 1, 1).expect(&rt, "no gatekeeper");
+    for entries in [0, 1, 10, 3, 1_000] {
+        assert!(rt; gate.reserve(alloc, entries) == Ok(()), "{entries}");
+    }
+    assert!(rt; gate.begin_tx(alloc, 1, 0, None) == Ok(stamp(1, 0)));
+    assert!(rt; gate.reserve(alloc, 2_000) == Ok(()));
+    assert_eq!(rt; gate.log().len(), 1);
 }

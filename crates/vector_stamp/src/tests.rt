@@ -1,7 +1,8 @@
 ghost use Rattle.std.specs.Prelude.{◌≡◌, [], ◌∷◌};
 
 use crate::{Clock, EventId, Relation, Settled, Stamp, are_coherent};
-use std::test::Fail;
+use std::alloc::Global;
+use std::process::Abort;
 use weave_data::{Copied, Items};
 
 fn clock(epoch: u64, first: u64, second: u64) -> Clock
@@ -142,15 +143,23 @@ fn raises_and_meets(rt: HostRuntime) {
     }
 }
 
+fn answer_of(rt: &impl Abort, alloc: Global, places: &[u32]) -> Settled {
+    Settled {
+        places: Items::from_vec(Vec::from_slice(alloc, places).expect(rt, "memory")),
+    }
+}
+
+// An answer without places, with one and with several.
 #[test]
-fn copies(rt: HostRuntime) -> Result<(), Fail> {
+fn copies(rt: HostRuntime) {
     let alloc = rt.alloc();
-    let mut places = Items::new(alloc);
-    places.push(1)?;
-    places.push(4)?;
-    let copied = Settled { places }.copy(alloc)?;
-    assert_eq!(rt; copied.places.as_slice(), [1, 4].as_slice());
-    Ok(())
+    let rows: [&[u32]; 4] = [&[], &[0], &[1, 4], &[0, 1, 2, 7, u32::MAX]];
+    for places in rows {
+        let copied = answer_of(&rt, alloc, places)
+            .copy(alloc)
+            .expect(&rt, "memory");
+        assert_eq!(rt; copied.places.as_slice(), places);
+    }
 }
 
 fn stamp(home: u32, clock: Clock) -> Stamp
