@@ -10,11 +10,11 @@ use Rattle.vector_stamp.specs.Coherence.{AreCoherent}
 use Rattle.vector_stamp.specs.Precedence.{Given, IsClosed, precedes}
 use Rattle.order_graph.specs.declared.chain.Event.{Event}
 use Rattle.order_graph.specs.Building.{ends_of, MayAdd}
-use Rattle.order_graph.specs.Frontiers.{at_or_before, latest_of, empty_frontier, joined, covers, IsFrontier}
+use Rattle.order_graph.specs.Frontiers.{at_or_before, latest_of, empty_frontier, joined, covers, IsFrontier, StampLaws}
 use Rattle.order_graph.specs.Chains.{ChainView, no_chain, events_of, IsRising, IsPut, IsLedOn, leads_to, joined_event, raised, raised_chain, AreChains}
-use Rattle.order_graph.proofs.Lists.{has_none, has_read, has_head, has_tail, has_map, of_map}
+use Rattle.proof_base.proofs.Members.{has_none, has_read, has_head, has_tail, has_map, map_has}
 use Rattle.order_graph.proofs.Stamps.{ends-append}
-use Rattle.order_graph.proofs.Orders.{Laws, AreApart, at_itself, at_from, at_cases, not_at}
+use Rattle.order_graph.proofs.Orders.{AreApart, at_itself, at_from, at_cases, not_at}
 use Rattle.order_graph.proofs.Joining.{AreOwn, CoveredBy, covered, covers_at, length-joined, joined_reads, covered_left, covered_right}
 use Rattle.order_graph.proofs.Frontiers.{at_precedes, none_there}
 use Rattle.order_graph.proofs.Raising.{raised_not_led, raised_led_by_both, raised_led}
@@ -28,7 +28,7 @@ abbrev pub AtTheEnd : Type 0
 AtTheEnd = (pairs : List Given) (pair : Given) (a b : Stamp) → precedes (pairs ++ pair ∷ []) a b ≡ precedes (pair ∷ pairs) a b
 
 -- what leads to an event
-module _ (laws : Laws) (pairs : List Given) (closed : IsClosed pairs (precedes pairs)) where
+module _ (laws : StampLaws) (pairs : List Given) (closed : IsClosed pairs (precedes pairs)) where
   pub led_read : (event : Event) → IsFrontier pairs event.stamp event.frontier.latest → (stamp : Stamp) → IsTrue (leads_to stamp event) → Leads pairs stamp event.stamp
   led_read event exact stamp h =
       elim (or_cases (at_or_before stamp event.stamp) _ h) [
@@ -82,10 +82,10 @@ alone_is stamp home gate latest is =
       | inr there ↦ absurd (none_there gate latest (sym (get_or-set_other empty_frontier stamp.home gate (Some stamp) None there) ∙ is))
     ]
 
-alone_covers : (laws : Laws) (event : Stamp) → event.home < 8 → (stamp : Stamp) → IsTrue (at_or_before stamp event) → IsTrue (covers (alone event) stamp)
+alone_covers : (laws : StampLaws) (event : Stamp) → event.home < 8 → (stamp : Stamp) → IsTrue (at_or_before stamp event) → IsTrue (covers (alone event) stamp)
 alone_covers laws event home stamp h = covers_at (alone event) stamp event.home event (get_or-set_same empty_frontier event.home (Some event) None home) h
 
-pub with_itself : (laws : Laws) (apart : AreApart) (pairs : List Given) (event : Stamp) → AreCoherent (event ∷ ends_of pairs) → (frontier : List (Option Stamp)) → IsFrontier pairs event frontier → IsFrontierWith pairs event (joined frontier (alone event))
+pub with_itself : (laws : StampLaws) (apart : AreApart) (pairs : List Given) (event : Stamp) → AreCoherent (event ∷ ends_of pairs) → (frontier : List (Option Stamp)) → IsFrontier pairs event frontier → IsFrontierWith pairs event (joined frontier (alone event))
 with_itself laws apart pairs event coherent frontier exact =
     record {
       eight = length-joined frontier (alone event) exact.eight (length-alone event);
@@ -117,7 +117,7 @@ with_itself laws apart pairs event coherent frontier exact =
         ]
 
 -- the pair of a and b
-module _ (laws : Laws) (apart : AreApart) (at_the_end : AtTheEnd) (pairs : List Given) (closed : IsClosed pairs (precedes pairs)) (a b : Stamp) (may : MayAdd pairs a b) where
+module _ (laws : StampLaws) (apart : AreApart) (at_the_end : AtTheEnd) (pairs : List Given) (closed : IsClosed pairs (precedes pairs)) (a b : Stamp) (may : MayAdd pairs a b) where
   abbrev more : List Given
   more = pairs ++ (a, b) ∷ []
 
@@ -301,7 +301,7 @@ module _ (laws : Laws) (apart : AreApart) (at_the_end : AtTheEnd) (pairs : List 
           ]
 
       of_raised : (gate : ℕ) (other : Event) → Contains (events_of raised_chains gate) other → (event : Event) × Contains (events_of chains gate) event × (up event ≡ other)
-      of_raised gate other has = of_map up (events_of chains gate) other (subst (λ (es : List Event). Contains es other) (events_raised gate) has)
+      of_raised gate other has = map_has up (events_of chains gate) other (subst (λ (es : List Event). Contains es other) (events_raised gate) has)
 
       has_raised : (gate : ℕ) (event : Event) → Contains (events_of chains gate) event → Contains (events_of raised_chains gate) (up event)
       has_raised gate event has = subst (λ (es : List Event). Contains es (up event)) (sym (events_raised gate)) (has_map up (events_of chains gate) event has)

@@ -9,15 +9,15 @@ use Rattle.std.proofs.lemmas.List.Edits.{length-insert, get_or-insert_below, get
 use Rattle.vector_stamp.specs.declared.clock.Stamp.{Stamp}
 use Rattle.vector_stamp.specs.Order.{stamp_before}
 use Rattle.order_graph.specs.declared.chain.Event.{Event}
-use Rattle.order_graph.specs.Frontiers.{at_or_before}
+use Rattle.order_graph.specs.Frontiers.{at_or_before, StampLaws}
 use Rattle.order_graph.specs.Chains.{IsRising, IsLatestAt, IsLedOn, IsPut, leads_to}
-use Rattle.order_graph.proofs.Orders.{Laws, at_itself, at_from, at_cases, then_at, at-trans}
+use Rattle.order_graph.proofs.Orders.{at_itself, at_from, at_cases, then_at, at-trans}
 
 -- what a search for a place answers
 abbrev pub IsUntil : List Event → Stamp → ℕ → Type 0
 IsUntil events stamp number = IsPartitionPoint (λ (event : Event). at_or_before event.stamp stamp ≡ true) (λ (event : Event). at_or_before event.stamp stamp ≡ false) events number
 
-module _ (laws : Laws) where
+module _ (laws : StampLaws) where
   rising_at : (events : List Event) → IsRising events → (i j : ℕ) (d : Event) → i ≤ j → j < length events → IsTrue (at_or_before (slice_index_or events i d).stamp (slice_index_or events j d).stamp)
   rising_at events rising i j d le within =
       elim (cases_eq i j) [

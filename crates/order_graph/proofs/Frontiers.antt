@@ -10,13 +10,13 @@ use Rattle.vector_stamp.specs.Coherence.{AreCoherent}
 use Rattle.vector_stamp.specs.Precedence.{Given, Precedes, ByStamps, ByPair, Through, IsClosed, precedes}
 use Rattle.order_graph.specs.declared.chain.Event.{Event}
 use Rattle.order_graph.specs.Building.{ends_of}
-use Rattle.order_graph.specs.Frontiers.{at_or_before, latest_of, empty_frontier, joined, covers, IsFrontier}
+use Rattle.order_graph.specs.Frontiers.{at_or_before, latest_of, empty_frontier, joined, covers, IsFrontier, StampLaws}
 use Rattle.order_graph.specs.Chains.{ChainView, no_chain, events_of, IsLatestAt, AreChains}
-use Rattle.order_graph.proofs.Lists.{has_none, has_tail}
-use Rattle.order_graph.proofs.Orders.{Laws, AreApart, at_itself, at_from, at_cases, at_then, then_at}
+use Rattle.proof_base.proofs.Members.{has_none, has_tail}
+use Rattle.order_graph.proofs.Orders.{AreApart, at_itself, at_from, at_cases, at_then, then_at}
 use Rattle.order_graph.proofs.Joining.{AreOwn, length-joined, joined_reads, covered_left, covered_right}
 
-module _ (laws : Laws) (pairs : List Given) (closed : IsClosed pairs (precedes pairs)) where
+module _ (laws : StampLaws) (pairs : List Given) (closed : IsClosed pairs (precedes pairs)) where
   pub precedes_at : (a b c : Stamp) → IsTrue (precedes pairs a b) → IsTrue (at_or_before b c) → IsTrue (precedes pairs a c)
   precedes_at a b c g h =
       elim (at_cases laws b c h) [
@@ -73,7 +73,7 @@ over_none pairs event =
       all = λ chain has. absurd (has_none chain has);
     }
 
-module _ (laws : Laws) (apart : AreApart) (pairs : List Given) (closed : IsClosed pairs (precedes pairs)) (chains : List ChainView) (are : AreChains pairs (ends_of pairs) chains) (event : Stamp) (coherent : AreCoherent (event ∷ ends_of pairs)) where
+module _ (laws : StampLaws) (apart : AreApart) (pairs : List Given) (closed : IsClosed pairs (precedes pairs)) (chains : List ChainView) (are : AreChains pairs (ends_of pairs) chains) (event : Stamp) (coherent : AreCoherent (event ∷ ends_of pairs)) where
   over_more_none : (i : ℕ) (frontier : List (Option Stamp)) → i < length chains → IsFrontierOver pairs event (take i chains) frontier → IsLatestAt (events_of chains i) event None → IsFrontierOver pairs event (take (i + 1) chains) frontier
   over_more_none i frontier below over none =
       record {

@@ -8,8 +8,8 @@ use Rattle.std.proofs.lemmas.Slice.Zip.{length-zip, get_or-zip}
 use Rattle.vector_stamp.specs.declared.clock.Stamp.{Stamp}
 use Rattle.vector_stamp.specs.Order.{stamp_before}
 use Rattle.vector_stamp.specs.Coherence.{AreCoherent}
-use Rattle.order_graph.specs.Frontiers.{at_or_before, later_of, latest_of, joined, reaches, covers}
-use Rattle.order_graph.proofs.Orders.{Laws, AreApart, at_from, at-trans, not_at}
+use Rattle.order_graph.specs.Frontiers.{at_or_before, later_of, latest_of, joined, reaches, covers, StampLaws}
+use Rattle.order_graph.proofs.Orders.{AreApart, at_from, at-trans, not_at}
 
 -- each event is of its gatekeeper, and one of these stamps
 abbrev pub AreOwn : List Stamp → List (Option Stamp) → Type 0
@@ -87,7 +87,7 @@ later_is (Some a) (Some b) stamp is =
 abbrev pub Reached : Option Stamp → Stamp → Type 0
 Reached latest stamp = (other : Stamp) × (latest ≡ Some other) × IsTrue (at_or_before stamp other)
 
-module _ (laws : Laws) where
+module _ (laws : StampLaws) where
   later_left : (a b : Option Stamp) (stamp latest : Stamp) → a ≡ Some latest → IsTrue (at_or_before stamp latest) → Reached (later_of a b) stamp
   later_left a None stamp latest is h = (latest, is, h)
   later_left None (Some b) stamp latest is h = absurd (none-some latest is)

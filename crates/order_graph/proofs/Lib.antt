@@ -1,4 +1,3 @@
-pub mod Lists
 pub mod Building
 pub mod Stamps
 pub mod Orders

@@ -4,24 +4,13 @@ use Rattle.std.proofs.lemmas.Bool.{or_cases, or_left, or_right, both_ways, eq-eq
 use Rattle.vector_stamp.specs.declared.clock.Stamp.{Stamp}
 use Rattle.vector_stamp.specs.Order.{stamp_before, same_stamp, id_before, are_apart}
 use Rattle.vector_stamp.specs.Coherence.{AreCoherent}
-use Rattle.vector_stamp.proofs.Orders.{before-trans, before-strict, same_stamp-is, same_stamp-refl}
-use Rattle.order_graph.specs.Frontiers.{at_or_before}
-
--- what is cited of stamps and precedence
-pub record Laws : Type 0 where
-  pub before-trans : (a b c : Stamp) → IsTrue (stamp_before a b) → IsTrue (stamp_before b c) → IsTrue (stamp_before a c)
-  pub before-strict : (a : Stamp) → IsTrue (stamp_before a a) → ⊥
-  pub same_is : (a b : Stamp) → IsTrue (same_stamp a b) → a ≡ b
-  pub same_itself : (a : Stamp) → IsTrue (same_stamp a a)
-
-pub stamp_laws : Laws
-stamp_laws = record { before-trans = before-trans; before-strict = before-strict; same_is = same_stamp-is; same_itself = same_stamp-refl }
+use Rattle.order_graph.specs.Frontiers.{at_or_before, StampLaws}
 
 -- two different stamps of coherent ones are apart
 abbrev pub AreApart : Type 0
 AreApart = (stamps : List Stamp) (a b : Stamp) → AreCoherent stamps → Contains stamps a → Contains stamps b → (a ≡ b → ⊥) → IsTrue (are_apart a b)
 
-module _ (laws : Laws) where
+module _ (laws : StampLaws) where
   pub at_itself : (a : Stamp) → IsTrue (at_or_before a a)
   at_itself a = or_left _ _ (laws.same_itself a)
 

@@ -1,19 +1,15 @@
--- The stamps of pairs, and coherence of fewer stamps.
+-- The stamps of pairs.
 use Rattle.std.proofs.Common.{◌≡◌, List, [], ◌∷◌, ◌++◌, Contains, ◌⊎◌, inl, inr, refl, ap, subst}
 use Rattle.std.proofs.lemmas.List.Elements.{Contains-append_cases}
 use Rattle.vector_stamp.specs.declared.clock.Stamp.{Stamp}
 use Rattle.vector_stamp.specs.Coherence.{AreCoherent}
 use Rattle.vector_stamp.specs.Precedence.{Given, JoinsEvents}
 use Rattle.order_graph.specs.Building.{ends_of}
-use Rattle.order_graph.proofs.Lists.{has_read, has_head, has_tail, has_none}
+use Rattle.proof_base.proofs.Members.{has_read, has_head, has_tail, has_none}
 
-pub fewer_coherent : (stamps others : List Stamp) → AreCoherent others → ((stamp : Stamp) → Contains stamps stamp → Contains others stamp) → AreCoherent stamps
-fewer_coherent stamps others all among =
-    record {
-      homes = λ a in_a. all.homes a (among a in_a);
-      one_of_id = λ a b in_a in_b. all.one_of_id a b (among a in_a) (among b in_b);
-      by_ids = λ a b in_a in_b. all.by_ids a b (among a in_a) (among b in_b);
-    }
+-- a part of coherent stamps is coherent
+abbrev pub PartsAreCoherent : Type 0
+PartsAreCoherent = (stamps others : List Stamp) → AreCoherent others → ((stamp : Stamp) → Contains stamps stamp → Contains others stamp) → AreCoherent stamps
 
 pub ends-append : (pairs others : List Given) → ends_of (pairs ++ others) ≡ ends_of pairs ++ ends_of others
 ends-append [] others = refl
@@ -45,9 +41,9 @@ ends_read (pair ∷ pairs) stamp h =
     ]
 
 -- two stamps and those of the pairs, where all are among others
-pub two_and_ends : (a b : Stamp) (pairs : List Given) (others : List Stamp) → AreCoherent others → Contains others a → Contains others b → ((stamp : Stamp) → Contains (ends_of pairs) stamp → Contains others stamp) → AreCoherent (a ∷ b ∷ ends_of pairs)
-two_and_ends a b pairs others all in_a in_b among =
-    fewer_coherent (a ∷ b ∷ ends_of pairs) others all there
+pub two_and_ends : PartsAreCoherent → (a b : Stamp) (pairs : List Given) (others : List Stamp) → AreCoherent others → Contains others a → Contains others b → ((stamp : Stamp) → Contains (ends_of pairs) stamp → Contains others stamp) → AreCoherent (a ∷ b ∷ ends_of pairs)
+two_and_ends part a b pairs others all in_a in_b among =
+    part (a ∷ b ∷ ends_of pairs) others all there
   where
     there : (stamp : Stamp) → Contains (a ∷ b ∷ ends_of pairs) stamp → Contains others stamp
     there stamp h =

@@ -18,6 +18,13 @@ later_of a None = a
 later_of None (Some b) = Some b
 later_of (Some a) (Some b) = if stamp_before a b then Some b else Some a
 
+-- the laws of the order of stamps as one fact, for proofs that take them as a premise
+pub record StampLaws : Type 0 where
+  pub before-trans : (a b c : Stamp) → IsTrue (stamp_before a b) → IsTrue (stamp_before b c) → IsTrue (stamp_before a c)
+  pub before-strict : (a : Stamp) → ¬ IsTrue (stamp_before a a)
+  pub same_is : (a b : Stamp) → IsTrue (same_stamp a b) → a ≡ b
+  pub same_itself : (a : Stamp) → IsTrue (same_stamp a a)
+
 -- Frontiers: for each gatekeeper an event, or none
 
 -- the event of a gatekeeper

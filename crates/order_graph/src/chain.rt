@@ -6,7 +6,7 @@ ghost use Rattle.order_graph.specs.declared.chain.Event.{Event};
 ghost use Rattle.order_graph.specs.Frontiers.{at_or_before};
 ghost use Rattle.order_graph.specs.Chains.{IsRising, IsLatestAt, IsLedOn, IsPut, leads_to, raised, raised_chain};
 
-use crate::frontier::{Frontier, is_at_or_before};
+use crate::frontier::{Frontier, is_at_or_before, stamps_keep_the_laws};
 use std::alloc::{AllocError, Global};
 use std::marker::Model;
 use vector_stamp::Stamp;
@@ -57,6 +57,7 @@ impl Chain {
     pub(crate) fn latest(&self, stamp: &Stamp) -> Option<&Event>
         ensures { IsRising self.now.events → IsLatestAt self.now.events stamp.now (option_copied result) }
     {
+        stamps_keep_the_laws();
         let events = self.events.as_slice();
         let number = number_until(events, stamp);
         if number == 0 {
@@ -85,6 +86,7 @@ impl Chain {
         ensures never_less { OnErr result (self.old.room ≤ self.new.room) }
         ensures as_before { OnErr result (self.new.events ≡ self.old.events) }
     {
+        stamps_keep_the_laws();
         let number = number_until(self.events.as_slice(), &event.stamp);
         if number > 0 && self.events[number - 1].stamp == event.stamp {
             return Ok(());
@@ -110,6 +112,7 @@ fn number_until(events: &[Event], stamp: &Stamp) -> usize
     ensures until { IsRising events.now → IsPartitionPoint (λ (event : Event). at_or_before event.stamp stamp.now ≡ true)
         (λ (event : Event). at_or_before event.stamp stamp.now ≡ false) events.now result }
 {
+    stamps_keep_the_laws();
     events.partition_point(|event| is_at_or_before(&event.stamp, stamp))
 }
 

@@ -1,9 +1,17 @@
 //! For an event, of each gatekeeper an event that precedes it.
 ghost use Rattle.std.specs.Prelude.{◌≡◌, ◌<◌, Some, length, slice_set};
-ghost use Rattle.vector_stamp.specs.Order.{stamp_before};
-ghost use Rattle.order_graph.specs.Frontiers.{at_or_before, later_of, empty_frontier, joined, reaches, covers};
+ghost use Rattle.order_graph.specs.Frontiers.{StampLaws, at_or_before, later_of, empty_frontier, joined, reaches, covers};
 
-use vector_stamp::{Relation, Stamp};
+use vector_stamp::Stamp;
+use vector_stamp::laws::{equality_is_decided, stamps_are_ordered};
+
+// What proofs take as a premise.
+pub(crate) fn stamps_keep_the_laws()
+    ensures { StampLaws }
+{
+    stamps_are_ordered();
+    equality_is_decided();
+}
 
 /// For each of eight gatekeepers one of its events, or none.
 #[derive(Clone, Copy)]
@@ -52,7 +60,7 @@ fn later_of(a: Option<Stamp>, b: Option<Stamp>) -> Option<Stamp>
     match (a, b) {
         (a, None) => a,
         (None, Some(b)) => Some(b),
-        (Some(a), Some(b)) => { if is_before(&a, &b) { Some(b) } else { Some(a) } }
+        (Some(a), Some(b)) => { if a.is_before(&b) { Some(b) } else { Some(a) } }
     }
 }
 
@@ -69,12 +77,5 @@ fn reaches(stamp: &Stamp, latest: &Option<Stamp>) -> bool
 pub(crate) fn is_at_or_before(a: &Stamp, b: &Stamp) -> bool
     ensures { result ≡ at_or_before a.now b.now }
 {
-    a == b || is_before(a, b)
-}
-
-/// Whether the first stamp is before the second.
-pub(crate) fn is_before(a: &Stamp, b: &Stamp) -> bool
-    ensures { result ≡ stamp_before a.now b.now }
-{
-    a.clock.compare(&b.clock) == Relation::Before
+    a == b || a.is_before(b)
 }

@@ -9,12 +9,13 @@ ghost use Rattle.order_graph.specs.Frontiers.{at_or_before, IsFrontier};
 ghost use Rattle.order_graph.specs.Chains.{AreChains, IsLedOn, IsPut, IsRising, events_of, room_of, raised_chain};
 
 use crate::chain::{Chain, Event};
-use crate::frontier::{Frontier, is_before};
+use crate::frontier::{Frontier, stamps_keep_the_laws};
 use std::alloc::{AllocError, Global};
 use std::marker::Model;
 use vector_stamp::Stamp;
 use vector_stamp::laws::{
-    coherence_is_decided, more_pairs_more_precedence, no_cycle_arises, precedence_is_decided,
+    coherence_is_decided, more_pairs_more_precedence, no_cycle_arises,
+    parts_and_unions_are_coherent, precedence_is_decided,
 };
 
 /// Pairs of an earlier and a later event, seen by contracts as their list, in the order in which they were added, and the number of pairs for which there is memory.
@@ -65,8 +66,10 @@ impl OrderGraph {
         ensures always { IsOk result }
         ensures no_cycle { IsAcyclic self.now.pairs }
     {
+        stamps_keep_the_laws();
+        parts_and_unions_are_coherent();
         precedence_is_decided();
-        Ok(is_before(a, b) || frontier_of(&self.chains, b).covers(a))
+        Ok(a.is_before(b) || frontier_of(&self.chains, b).covers(a))
     }
 
     /// Takes the memory for that many more pairs, which may all have later events of any one gatekeeper: so at each of the eight there is room for that many.
@@ -96,6 +99,8 @@ impl OrderGraph {
         ensures room { 0 < self.old.spare → IsOk result }
         ensures as_before { OnErr result (self.new ≡ self.old) }
     {
+        stamps_keep_the_laws();
+        parts_and_unions_are_coherent();
         coherence_is_decided();
         no_cycle_arises();
         precedence_is_decided();
@@ -120,6 +125,7 @@ fn frontier_of(chains: &[Chain; 8], event: &Stamp) -> Frontier
     ensures { (pairs : List Given) → AreChains pairs (ends_of pairs) chains.now → AreCoherent (event.now ∷ ends_of pairs)
         → IsFrontier pairs event.now result.latest }
 {
+    stamps_keep_the_laws();
     coherence_is_decided();
     precedence_is_decided();
     let mut frontier = Frontier::empty();

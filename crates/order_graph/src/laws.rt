@@ -24,9 +24,3 @@ pub fn ends_are_of_pairs()
         → (pair : Given) × Contains pairs pair × ((pair.0 ≡ stamp) ⊎ (pair.1 ≡ stamp)) }
     ensures appended { (pairs others : List Given) → ends_of (pairs ++ others) ≡ ends_of pairs ++ ends_of others }
 {}
-
-/// Stamps are coherent where they are among coherent ones.
-pub fn fewer_are_coherent()
-    ensures { (stamps others : List Stamp) → AreCoherent others
-        → ((stamp : Stamp) → Contains stamps stamp → Contains others stamp) → AreCoherent stamps }
-{}

@@ -4,12 +4,10 @@
 #![tactic(auto)]
 
 mod chain;
-mod coherence;
 mod frontier;
 mod graph;
 pub mod laws;
 #[cfg(test)]
 mod tests;
 
-pub use coherence::are_coherent;
 pub use graph::OrderGraph;

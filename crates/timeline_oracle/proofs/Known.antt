@@ -1,14 +1,14 @@
 -- Which stamps are known after some pairs were added.
-use Rattle.std.proofs.Common.{◌≡◌, ℕ, false, List, ◌∷◌, ◌++◌, take, Contains, IsTrue, ◌⊎◌, inl, inr, sym, subst, ◌∙◌, arith, length-take}
+use Rattle.std.proofs.Common.{◌≡◌, ◌≢◌, ℕ, false, List, [], ◌∷◌, ◌++◌, All, ap, take, Contains, IsTrue, ◌⊎◌, inl, inr, sym, subst, ◌∙◌, arith, length-take}
 use Rattle.std.proofs.lemmas.Bool.{and_from, both_ways, false_from_ne_true, not_from_false}
 use Rattle.std.proofs.lemmas.List.{get_or-take}
-use Rattle.std.proofs.lemmas.List.Elements.{Contains-append_left, Contains-append_right, Contains-append_cases}
+use Rattle.std.proofs.lemmas.List.Elements.{All-contains, Contains-append_left, Contains-append_right, Contains-append_cases}
 use Rattle.vector_stamp.specs.declared.clock.Stamp.{Stamp}
-use Rattle.vector_stamp.specs.Order.{stamp_before, unordered}
+use Rattle.vector_stamp.specs.Order.{id_of, stamp_before, unordered}
 use Rattle.vector_stamp.specs.Precedence.{Given, IsClosed, precedes}
 use Rattle.vector_stamp.specs.Settling.{additions_from, pairs_of}
 use Rattle.order_graph.specs.Building.{ends_of}
-use Rattle.order_graph.proofs.Lists.{has_read, has_head, has_tail}
+use Rattle.proof_base.proofs.Members.{has_read, has_head, has_tail}
 
 -- the laws on the stamps of pairs
 abbrev pub EndsAppend : Type 0
@@ -19,6 +19,10 @@ EndsRead = (pairs : List Given) (stamp : Stamp) → Contains (ends_of pairs) sta
 
 abbrev pub OfEarlier : Type 0
 OfEarlier = (pairs : List Given) (earlier : List Stamp) (later a b : Stamp) → Contains (pairs_of (additions_from 0 pairs earlier later) later) (a, b) → Contains earlier a × (b ≡ later)
+
+-- events with other ids than the later one are others
+pub others_than : (earlier : List Stamp) (later : Stamp) → All (λ event. id_of event ≢ id_of later) earlier → (event : Stamp) → Contains earlier event → event ≢ later
+others_than earlier later others event h same = All-contains (λ x. id_of x ≢ id_of later) earlier event others h (ap id_of same)
 
 pub of_first : {X : Type 0} (xs : List X) (n : ℕ) (x : X) → Contains (take n xs) x → Contains xs x
 of_first xs n x (k, below, here) =

@@ -1,4 +1,2 @@
 pub mod Places
-pub mod Additions
 pub mod Known
-pub mod Logs

@@ -8,10 +8,11 @@ use order_graph::OrderGraph;
 use order_graph::laws::ends_are_of_pairs;
 use std::alloc::Global;
 use std::marker::Model;
-use vector_stamp::laws::{no_cycle_arises, settling_puts_all_before};
+use vector_stamp::laws::settling_puts_all_before;
 use vector_stamp::{Judge, Refusal, Settled, Stamp};
 use weave_data::Items;
 use weave_entries::OracleEntry;
+use weave_entries::laws::{an_oracle_log_goes_on, an_oracle_log_has_no_cycle};
 
 /// The pairs that were put, and the entries of the calls that put them. Contracts see the entries.
 #[derive(Drop)]
@@ -49,8 +50,7 @@ impl Oracle {
         ensures right { IsOracleLog self.now }
         ensures no_cycle { IsAcyclic (pairs_of_log self.now) }
     {
-        no_cycle_arises();
-        settling_puts_all_before();
+        an_oracle_log_has_no_cycle();
         self.log.as_slice()
     }
 }
@@ -59,7 +59,7 @@ impl Oracle {
 impl Judge for Oracle {
     ghost use Rattle.std.specs.Prelude.{map, true};
     ghost use Rattle.order_graph.specs.Building.{ends_of};
-    ghost use Rattle.order_graph.proofs.Stamps.{ends_joined};
+    ghost use Rattle.timeline_oracle.specs.Ends.{ends_joined};
     ghost use Rattle.timeline_oracle.specs.Log.{pairs_of_log, settled_entry};
 
     ghost pairs = { λ oracle. pairs_of_log oracle };
@@ -82,6 +82,7 @@ impl Judge for Oracle {
     ) -> Result<Settled, Refusal> {
         settling_puts_all_before();
         ends_are_of_pairs();
+        an_oracle_log_goes_on();
         if let Some(place) = first_refused(&self.graph, earlier, &later) {
             return Err(Refusal::Precedes { place });
         }

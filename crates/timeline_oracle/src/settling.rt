@@ -1,6 +1,7 @@
 //! What a call decides, over the graph of the pairs so far.
-ghost use Rattle.std.specs.Prelude.{◌≡◌, ◌≢◌, ◌<◌, ◌≤◌, ◌+◌, ◌^◌, ◌∷◌, ◌++◌, [], not, if◌then◌else◌, length, All, IfOk, IsTrue, None};
+ghost use Rattle.std.specs.Prelude.{◌≡◌, ◌≢◌, ◌<◌, ◌≤◌, ◌+◌, ◌^◌, ◌∷◌, ◌++◌, [], not, if◌then◌else◌, length, All, List, Contains, IfOk, IsTrue, None};
 ghost use Rattle.std.specs.Vec.{vec_capacity};
+ghost use Rattle.vector_stamp.specs.declared.clock.Stamp.{Stamp};
 ghost use Rattle.vector_stamp.specs.Order.{id_of};
 ghost use Rattle.vector_stamp.specs.Coherence.{AreCoherent};
 ghost use Rattle.vector_stamp.specs.Precedence.{precedes};
@@ -9,10 +10,12 @@ ghost use Rattle.order_graph.specs.Building.{ends_of};
 ghost use Rattle.timeline_oracle.specs.Log.{settled_entry};
 
 use order_graph::OrderGraph;
-use order_graph::laws::{ends_are_of_pairs, fewer_are_coherent};
+use order_graph::laws::ends_are_of_pairs;
 use std::alloc::{AllocError, Global};
 use vector_stamp::Stamp;
-use vector_stamp::laws::{precedence_is_decided, settling_puts_all_before};
+use vector_stamp::laws::{
+    parts_and_unions_are_coherent, precedence_is_decided, settling_puts_all_before,
+};
 use weave_data::Items;
 use weave_entries::{OracleDeed, OracleEntry};
 
@@ -76,6 +79,14 @@ fn put_one(graph: &mut OrderGraph, earlier: Stamp, later: Stamp) -> bool
         return false;
     }
     graph.add(earlier, later).is_ok()
+}
+
+// A part of coherent stamps is coherent.
+fn fewer_are_coherent()
+    ensures { (stamps others : List Stamp) → AreCoherent others
+        → ((stamp : Stamp) → Contains stamps stamp → Contains others stamp) → AreCoherent stamps }
+{
+    parts_and_unions_are_coherent();
 }
 
 fn is_put_before(graph: &OrderGraph, a: &Stamp, b: &Stamp) -> bool

@@ -6,12 +6,11 @@ ghost use Rattle.order_graph.specs.Building.{ends_of};
 ghost use Rattle.timeline_oracle.specs.Log.{pairs_of_log};
 
 use crate::Oracle;
-use order_graph::are_coherent;
-use order_graph::laws::fewer_are_coherent;
 use std::alloc::Global;
 use std::process::Abort;
 use std::test::Fail;
-use vector_stamp::{Clock, Judge, Refusal, Settled, Stamp};
+use vector_stamp::laws::parts_and_unions_are_coherent;
+use vector_stamp::{Clock, Judge, Refusal, Settled, Stamp, are_coherent};
 use weave_entries::{OracleDeed, OracleEntry};
 
 fn stamp(home: u32, first: u64, second: u64, third: u64) -> Stamp {
@@ -53,7 +52,7 @@ fn settle(
     requires known { (stamp : Stamp) → Contains (ends_of (pairs_of_log oracle.old)) stamp → Contains kept.old.items stamp }
     ensures { (stamp : Stamp) → Contains (ends_of (pairs_of_log oracle.new)) stamp → Contains kept.new.items stamp }
 {
-    fewer_are_coherent();
+    parts_and_unions_are_coherent();
     kept.push(later).expect(rt, "memory");
     kept.extend_from_slice(earlier).expect(rt, "memory");
     let all = kept.as_slice();
@@ -177,7 +176,7 @@ fn settle_one(
     requires known { (stamp : Stamp) → Contains (ends_of (pairs_of_log oracle.old)) stamp → Contains events.now stamp }
     ensures { (stamp : Stamp) → Contains (ends_of (pairs_of_log oracle.new)) stamp → Contains events.now stamp }
 {
-    fewer_are_coherent();
+    parts_and_unions_are_coherent();
     let handed = [earlier];
     if !are_others(&handed, &later, events) {
         panic!(rt; "one event with itself");
@@ -302,4 +301,93 @@ fn three_earlier_events(rt: HostRuntime) -> Result<(), Fail> {
     assert!(rt; is_entry(&log[2], 3, &[b, a, f], &late, &[2]));
     assert!(rt; is_entry(&log[3], 4, &[d, e, f], &late, &[0]));
     Ok(())
+}
+
+// The first event of a gatekeeper that has heard no other.
+fn first_of(home: usize) -> Stamp
+    requires { home < 8 }
+{
+    let mut counts = [0; 8];
+    counts[home] = 1;
+    Stamp {
+        home: home as u32,
+        clock: Clock { epoch: 0, counts },
+    }
+}
+
+// A new oracle puts some events before the later one, and then all of them: so pairs are added for the others.
+fn settle_rest(
+    rt: &impl Abort,
+    alloc: Global,
+    before: &[Stamp],
+    all: &[Stamp],
+    later: Stamp,
+    places: &[u32],
+)
+    requires before { length before.now < 2 ^ 32 }
+    requires all { length all.now < 2 ^ 32 }
+{
+    let mut oracle = Oracle::new(alloc);
+    let mut kept = Vec::new(alloc);
+    let first = settle(rt, alloc, &mut oracle, &mut kept, 1, before, later, true);
+    assert!(rt; first.is_ok());
+    let asked = settle(rt, alloc, &mut oracle, &mut kept, 2, all, later, false);
+    assert!(rt; has_places(&asked, &[]));
+    let rest = settle(rt, alloc, &mut oracle, &mut kept, 3, all, later, true);
+    assert!(rt; has_places(&rest, places), "{places:?}");
+}
+
+// Pairs for each choice of three events of other gatekeepers, and of none, one and two.
+fn settle_each_choice(rt: &impl Abort, alloc: Global, later: Stamp, a: Stamp, b: Stamp, c: Stamp) {
+    settle_rest(rt, alloc, &[], &[], later, &[]);
+    settle_rest(rt, alloc, &[], &[a], later, &[0]);
+    settle_rest(rt, alloc, &[], &[a, b], later, &[0, 1]);
+    settle_rest(rt, alloc, &[], &[a, b, c], later, &[0, 1, 2]);
+    settle_rest(rt, alloc, &[a], &[a, b, c], later, &[1, 2]);
+    settle_rest(rt, alloc, &[b], &[a, b, c], later, &[0, 2]);
+    settle_rest(rt, alloc, &[c], &[a, b, c], later, &[0, 1]);
+    settle_rest(rt, alloc, &[b, c], &[a, b, c], later, &[0]);
+    settle_rest(rt, alloc, &[c, a], &[a, b, c], later, &[1]);
+    settle_rest(rt, alloc, &[a, b], &[a, b, c], later, &[2]);
+    settle_rest(rt, alloc, &[a, b, c], &[a, b, c], later, &[]);
+}
+
+#[test]
+fn settles_at_each_gatekeeper(rt: HostRuntime) {
+    let alloc = rt.alloc();
+    for home in 0..8 {
+        let a = first_of((home + 1) % 8);
+        let b = first_of((home + 2) % 8);
+        let c = first_of((home + 3) % 8);
+        settle_each_choice(&rt, alloc, first_of(home), a, b, c);
+    }
+}
+
+// The later event was put before one of the earlier ones: the call is refused there, whether pairs are to be kept or not.
+fn refuse(rt: &impl Abort, alloc: Global, all: &[Stamp], later: Stamp, put: Stamp, place: u32)
+    requires { length all.now < 2 ^ 32 }
+{
+    let mut oracle = Oracle::new(alloc);
+    let mut kept = Vec::new(alloc);
+    let first = settle(rt, alloc, &mut oracle, &mut kept, 1, &[later], put, true);
+    assert!(rt; has_places(&first, &[0]));
+    let asked = settle(rt, alloc, &mut oracle, &mut kept, 2, all, later, false);
+    assert!(rt; is_refused_at(&asked, place));
+    let refused = settle(rt, alloc, &mut oracle, &mut kept, 3, all, later, true);
+    assert!(rt; is_refused_at(&refused, place));
+    assert_eq!(rt; oracle.log().len(), 1);
+}
+
+#[test]
+fn refuses_at_each_place(rt: HostRuntime) {
+    let alloc = rt.alloc();
+    for home in 0..8 {
+        let later = first_of(home);
+        let a = first_of((home + 1) % 8);
+        let b = first_of((home + 2) % 8);
+        let c = first_of((home + 3) % 8);
+        for (put, place) in [(a, 0), (b, 1), (c, 2)] {
+            refuse(&rt, alloc, &[a, b, c], later, put, place);
+        }
+    }
 }

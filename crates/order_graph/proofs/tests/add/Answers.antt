@@ -11,7 +11,7 @@ pub id-requires-2 : goal.id-requires-2
 id-requires-2 g c = c.requires.coherent.homes c.args.later.now c.requires.later
 
 pub precedes-requires : goal.precedes-requires
-precedes-requires g c = two_and_ends c.args.later.now c.args.earlier.now c.args.graph.now.pairs c.args.events.now c.requires.coherent c.requires.later c.requires.earlier c.requires.known
+precedes-requires g c = two_and_ends c.parts_and_unions_are_coherent.ensures.part c.args.later.now c.args.earlier.now c.args.graph.now.pairs c.args.events.now c.requires.coherent c.requires.later c.requires.earlier c.requires.known
 
 pub add-requires : goal.add-requires
 add-requires g c =
@@ -20,8 +20,8 @@ add-requires g c =
     let not_back : c.expect-back.result ≡ false = c.if-back.false in
     record {
       of_two = search rules;
-      left_open = c.compare.ensures.unordered.0 (search rules);
-      coherent = two_and_ends c.args.earlier.now c.args.later.now c.args.graph.now.pairs c.args.events.now c.requires.coherent c.requires.earlier c.requires.later c.requires.known;
+      left_open = sym c.is_unordered.ensures ∙ c.if-not-is_unordered.false;
+      coherent = two_and_ends c.parts_and_unions_are_coherent.ensures.part c.args.earlier.now c.args.later.now c.args.graph.now.pairs c.args.events.now c.requires.coherent c.requires.earlier c.requires.later c.requires.known;
       permitted = λ h. let e : true ≡ false = sym h ∙ sym back ∙ not_back in cc;
     }
 

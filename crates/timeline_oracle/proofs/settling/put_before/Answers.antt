@@ -5,8 +5,7 @@ use Rattle.vector_stamp.specs.Coherence.{AreCoherent}
 use Rattle.vector_stamp.specs.Precedence.{Given, precedes}
 use Rattle.vector_stamp.specs.Settling.{refused_place}
 use Rattle.order_graph.specs.Building.{ends_of}
-use Rattle.timeline_oracle.proofs.Known.{among_handed, of_first}
-use Rattle.timeline_oracle.proofs.Logs.{others_than}
+use Rattle.timeline_oracle.proofs.Known.{among_handed, of_first, others_than}
 use Rattle.timeline_oracle.proofs.Places.{none_in_first, fails_at}
 use Rattle.timeline_oracle.proofs.settling.put_before.Goals as goal
 

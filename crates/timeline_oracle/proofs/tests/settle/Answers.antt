@@ -2,7 +2,7 @@ use Rattle.std.proofs.Common.{◌≡◌, List, [], ◌∷◌, ◌++◌, Contains
 use Rattle.std.proofs.lemmas.List.Elements.{Contains-append_left, Contains-append_right, Contains-append_cases, Contains-push}
 use Rattle.vector_stamp.specs.declared.clock.Stamp.{Stamp}
 use Rattle.order_graph.specs.Building.{ends_of}
-use Rattle.order_graph.proofs.Lists.{has_read}
+use Rattle.proof_base.proofs.Members.{has_read}
 use Rattle.timeline_oracle.specs.Log.{pairs_of_log}
 use Rattle.timeline_oracle.proofs.tests.settle.Goals as goal
 
@@ -35,7 +35,7 @@ pub settle-requires-clause-coherent : goal.settle-requires-clause-coherent
 settle-requires-clause-coherent g c =
     let pushed = rw c.expect.ensures at c.push.ensures.items in
     let extended = rw c.expect-2.ensures at c.extend_from_slice.ensures.items in
-    c.fewer_are_coherent.ensures _ c.as_slice-all.result.now (c.are_coherent.ensures.0 c.if-not-are_coherent.false)
+    c.parts_and_unions_are_coherent.ensures.part _ c.as_slice-all.result.now (c.are_coherent.ensures.0 c.if-not-are_coherent.false)
     (has_all c.args.kept.now.items c.args.earlier.now c.as_slice-all.result.now c.args.later (c.as_slice-all.ensures.value ∙ extended ∙ ap (λ (stamps : List Stamp). stamps ++ c.args.earlier.now) pushed) (ends_of (pairs_of_log c.args.oracle.now)) c.requires.known)
 
 pub returns : goal.returns

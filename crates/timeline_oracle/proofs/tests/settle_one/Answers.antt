@@ -1,13 +1,13 @@
 use Rattle.std.proofs.Common.{◌∷◌, ◌++◌, [], Contains, inl, inr, subst}
 use Rattle.vector_stamp.specs.declared.clock.Stamp.{Stamp}
 use Rattle.order_graph.specs.Building.{ends_of}
-use Rattle.order_graph.proofs.Lists.{has_read, has_none}
+use Rattle.proof_base.proofs.Members.{has_read, has_none}
 use Rattle.timeline_oracle.specs.Log.{pairs_of_log}
 use Rattle.timeline_oracle.proofs.tests.settle_one.Goals as goal
 
 pub settle-requires-clause-coherent : goal.settle-requires-clause-coherent
 settle-requires-clause-coherent g c =
-    c.fewer_are_coherent.ensures _ c.args.events.now c.requires.coherent (λ stamp h. elim (has_read c.args.later (c.args.earlier ∷ ends_of (pairs_of_log c.args.oracle.now)) stamp h) [
+    c.parts_and_unions_are_coherent.ensures.part _ c.args.events.now c.requires.coherent (λ stamp h. elim (has_read c.args.later (c.args.earlier ∷ ends_of (pairs_of_log c.args.oracle.now)) stamp h) [
       | inl first ↦ subst (Contains c.args.events.now) first c.requires.later
       | inr more ↦ elim (has_read c.args.earlier (ends_of (pairs_of_log c.args.oracle.now)) stamp more) [
         | inl second ↦ subst (Contains c.args.events.now) second c.requires.earlier

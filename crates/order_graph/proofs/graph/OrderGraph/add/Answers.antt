@@ -8,9 +8,8 @@ use Rattle.order_graph.specs.Kept.{Kept}
 use Rattle.order_graph.specs.Building.{ends_of}
 use Rattle.order_graph.specs.Frontiers.{IsFrontier, joined}
 use Rattle.order_graph.specs.Chains.{AreChains}
-use Rattle.order_graph.proofs.Lists.{has_read, has_head, has_tail}
-use Rattle.order_graph.proofs.Stamps.{fewer_coherent}
-use Rattle.order_graph.proofs.Orders.{stamp_laws}
+use Rattle.proof_base.proofs.Members.{has_read, has_head, has_tail}
+use Rattle.order_graph.proofs.Stamps.{PartsAreCoherent}
 use Rattle.order_graph.proofs.Adding.{IsFrontierWith, with_itself, chains_lead_on, is_in_turn, put_keeps, raised_keeps, same_chains}
 use Rattle.order_graph.proofs.Raising.{room_raised}
 use Rattle.order_graph.proofs.graph.OrderGraph.add.Goals as goal
@@ -20,15 +19,15 @@ later_has : (a b : Stamp) (stamps : List Stamp) → Contains (a ∷ b ∷ stamps
 later_has a b stamps = has_tail a (b ∷ stamps) b (has_head b stamps)
 
 -- the earlier event alone, and the later one, with those of the pairs
-of_earlier : (a b : Stamp) (pairs : List Given) → AreCoherent (a ∷ b ∷ ends_of pairs) → AreCoherent (a ∷ ends_of pairs)
-of_earlier a b pairs all =
-    fewer_coherent (a ∷ ends_of pairs) (a ∷ b ∷ ends_of pairs) all (λ stamp h. elim (has_read a (ends_of pairs) stamp h) [
+of_earlier : PartsAreCoherent → (a b : Stamp) (pairs : List Given) → AreCoherent (a ∷ b ∷ ends_of pairs) → AreCoherent (a ∷ ends_of pairs)
+of_earlier part a b pairs all =
+    part (a ∷ ends_of pairs) (a ∷ b ∷ ends_of pairs) all (λ stamp h. elim (has_read a (ends_of pairs) stamp h) [
       | inl here ↦ subst (Contains (a ∷ b ∷ ends_of pairs)) here (has_head a (b ∷ ends_of pairs))
       | inr there ↦ has_tail a (b ∷ ends_of pairs) stamp (has_tail b (ends_of pairs) stamp there)
     ])
 
-of_later : (a b : Stamp) (pairs : List Given) → AreCoherent (a ∷ b ∷ ends_of pairs) → AreCoherent (b ∷ ends_of pairs)
-of_later a b pairs all = fewer_coherent (b ∷ ends_of pairs) (a ∷ b ∷ ends_of pairs) all (λ stamp h. has_tail a (b ∷ ends_of pairs) stamp h)
+of_later : PartsAreCoherent → (a b : Stamp) (pairs : List Given) → AreCoherent (a ∷ b ∷ ends_of pairs) → AreCoherent (b ∷ ends_of pairs)
+of_later part a b pairs all = part (b ∷ ends_of pairs) (a ∷ b ∷ ends_of pairs) all (λ stamp h. has_tail a (b ∷ ends_of pairs) stamp h)
 
 pub put_event-requires-clause-home : goal.put_event-requires-clause-home
 put_event-requires-clause-home c = c.requires.coherent.homes c.args.later (later_has c.args.earlier c.args.later (ends_of c.args.self.now.pairs))
@@ -38,7 +37,7 @@ put_event-requires-clause-in_turn c other has =
     let pairs = c.args.self.now.pairs in
     let kept : c.self.inside.pairs.items ≡ pairs = ap (λ (k : Kept). k.pairs) c.self.view_is in
     let are : AreChains pairs (ends_of pairs) c.self.inside.chains = subst (λ (ps : List Given). AreChains ps (ends_of ps) c.self.inside.chains) kept c.self.invariant.1 in
-    is_in_turn stamp_laws c.coherence_is_decided.ensures.apart c.more_pairs_more_precedence.ensures.at_the_end pairs (c.precedence_is_decided.ensures.closed pairs) c.args.earlier c.args.later c.requires c.self.inside.chains are other has
+    is_in_turn c.stamps_keep_the_laws.ensures c.coherence_is_decided.ensures.apart c.more_pairs_more_precedence.ensures.at_the_end pairs (c.precedence_is_decided.ensures.closed pairs) c.args.earlier c.args.later c.requires c.self.inside.chains are other has
 
 pub invariant_of-self-in_err-put_event : goal.invariant_of-self-in_err-put_event
 invariant_of-self-in_err-put_event c =
@@ -62,16 +61,16 @@ are_put c =
     let pairs = c.args.self.now.pairs in
     let kept : c.self.inside.pairs.items ≡ pairs = ap (λ (k : Kept). k.pairs) c.self.view_is in
     let are : AreChains pairs (ends_of pairs) c.self.inside.chains = subst (λ (ps : List Given). AreChains ps (ends_of ps) c.self.inside.chains) kept c.self.invariant.1 in
-    let exact : IsFrontier pairs c.args.later c.frontier_of.result.latest = c.frontier_of.ensures pairs are (of_later c.args.earlier c.args.later pairs c.requires.coherent) in
-    put_keeps stamp_laws c.coherence_is_decided.ensures.apart c.more_pairs_more_precedence.ensures.at_the_end pairs (c.precedence_is_decided.ensures.closed pairs) c.args.earlier c.args.later c.requires c.self.inside.chains c.put_event.new.chains (record { stamp = c.args.later; frontier = c.frontier_of.result }) refl are exact c.put_event.ensures.eight c.in_ok-put_event.ensures.put c.put_event.ensures.others
+    let exact : IsFrontier pairs c.args.later c.frontier_of.result.latest = c.frontier_of.ensures pairs are (of_later c.parts_and_unions_are_coherent.ensures.part c.args.earlier c.args.later pairs c.requires.coherent) in
+    put_keeps c.stamps_keep_the_laws.ensures c.coherence_is_decided.ensures.apart c.more_pairs_more_precedence.ensures.at_the_end pairs (c.precedence_is_decided.ensures.closed pairs) c.args.earlier c.args.later c.requires c.self.inside.chains c.put_event.new.chains (record { stamp = c.args.later; frontier = c.frontier_of.result }) refl are exact c.put_event.ensures.eight c.in_ok-put_event.ensures.put c.put_event.ensures.others
 
 pub raise_all-requires-clause-earlier : goal.raise_all-requires-clause-earlier
 raise_all-requires-clause-earlier c gate =
-    chains_lead_on stamp_laws c.args.self.now.pairs (c.precedence_is_decided.ensures.closed c.args.self.now.pairs) (c.args.later ∷ ends_of c.args.self.now.pairs) c.put_event.new.chains (are_put c) c.args.earlier gate
+    chains_lead_on c.stamps_keep_the_laws.ensures c.args.self.now.pairs (c.precedence_is_decided.ensures.closed c.args.self.now.pairs) (c.args.later ∷ ends_of c.args.self.now.pairs) c.put_event.new.chains (are_put c) c.args.earlier gate
 
 pub raise_all-requires-clause-later : goal.raise_all-requires-clause-later
 raise_all-requires-clause-later c gate =
-    chains_lead_on stamp_laws c.args.self.now.pairs (c.precedence_is_decided.ensures.closed c.args.self.now.pairs) (c.args.later ∷ ends_of c.args.self.now.pairs) c.put_event.new.chains (are_put c) c.args.later gate
+    chains_lead_on c.stamps_keep_the_laws.ensures c.args.self.now.pairs (c.precedence_is_decided.ensures.closed c.args.self.now.pairs) (c.args.later ∷ ends_of c.args.self.now.pairs) c.put_event.new.chains (are_put c) c.args.later gate
 
 pub invariant_of-self-2 : goal.invariant_of-self-2
 invariant_of-self-2 c =
@@ -83,13 +82,13 @@ invariant_of-self-2 c =
     let closed = c.precedence_is_decided.ensures.closed pairs in
     let kept : c.self.inside.pairs.items ≡ pairs = ap (λ (k : Kept). k.pairs) c.self.view_is in
     let are : AreChains pairs (ends_of pairs) c.self.inside.chains = subst (λ (ps : List Given). AreChains ps (ends_of ps) c.self.inside.chains) kept c.self.invariant.1 in
-    let exact : IsFrontier pairs b c.frontier_of.result.latest = c.frontier_of.ensures pairs are (of_later a b pairs c.requires.coherent) in
+    let exact : IsFrontier pairs b c.frontier_of.result.latest = c.frontier_of.ensures pairs are (of_later c.parts_and_unions_are_coherent.ensures.part a b pairs c.requires.coherent) in
     let put = c.in_ok-put_event.ensures.put in
-    let are_now = put_keeps stamp_laws apart at_the_end pairs closed a b c.requires c.self.inside.chains c.put_event.new.chains (record { stamp = b; frontier = c.frontier_of.result }) refl are exact c.put_event.ensures.eight put c.put_event.ensures.others in
-    let coherent_a = of_earlier a b pairs c.requires.coherent in
+    let are_now = put_keeps c.stamps_keep_the_laws.ensures apart at_the_end pairs closed a b c.requires c.self.inside.chains c.put_event.new.chains (record { stamp = b; frontier = c.frontier_of.result }) refl are exact c.put_event.ensures.eight put c.put_event.ensures.others in
+    let coherent_a = of_earlier c.parts_and_unions_are_coherent.ensures.part a b pairs c.requires.coherent in
     let exact_a : IsFrontier pairs a c.frontier_of-before.result.latest = c.frontier_of-before.ensures pairs are coherent_a in
-    let with_a : IsFrontierWith pairs a c.join.new.self.latest = subst (IsFrontierWith pairs a) (sym (c.join.ensures ∙ ap (joined c.frontier_of-before.result.latest) c.of.ensures)) (with_itself stamp_laws apart pairs a coherent_a c.frontier_of-before.result.latest exact_a) in
-    let are_then = raised_keeps stamp_laws apart at_the_end pairs closed a b c.requires c.join.new.self.latest with_a c.put_event.new.chains are_now put.there.0 put.there.1 put.there.2 in
+    let with_a : IsFrontierWith pairs a c.join.new.self.latest = subst (IsFrontierWith pairs a) (sym (c.join.ensures ∙ ap (joined c.frontier_of-before.result.latest) c.of.ensures)) (with_itself c.stamps_keep_the_laws.ensures apart pairs a coherent_a c.frontier_of-before.result.latest exact_a) in
+    let are_then = raised_keeps c.stamps_keep_the_laws.ensures apart at_the_end pairs closed a b c.requires c.join.new.self.latest with_a c.put_event.new.chains are_now put.there.0 put.there.1 put.there.2 in
     let items : c.push_reserved.new.self.items ≡ pairs ++ (a, b) ∷ [] = c.push_reserved.ensures.items ∙ ap (λ (ps : List Given). ps ++ (a, b) ∷ []) (c.reserve.ensures.items ∙ kept) in
     let acyclic = c.no_cycle_arises.ensures.one_pair pairs a b (subst IsAcyclic kept c.self.invariant.0) (λ same. c.requires.of_two (ap id_of same)) c.requires.permitted in (
       subst IsAcyclic (sym items) acyclic,
