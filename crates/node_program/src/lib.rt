@@ -5,6 +5,8 @@
 
 mod node;
 mod show;
+#[cfg(test)]
+mod tests;
 
 pub use node::NodeProgram;
 pub use show::ShowProgram;

@@ -1,5 +1,5 @@
 -- The plain answer depends on the states at the vertices visited alone.
-use Rattle.std.proofs.Common.{append-nil, append_assoc, ◌&&◌, ◌≡◌, ℕ, zero, suc, ◌+◌, ◌-◌, ◌≤◌, ◌<◌, false, List, [], ◌∷◌, ◌++◌, IsTrue, sym, ap, subst, ◌∙◌, Option, Some, None, ◌⊎◌, inl, inr, arith}
+use Rattle.std.proofs.Common.{◌&&◌, ◌≡◌, ℕ, ◌+◌, ◌-◌, ◌≤◌, ◌<◌, false, List, [], ◌∷◌, ◌++◌, IsTrue, sym, ap, subst, ◌∙◌, Option, Some, None, ◌⊎◌, inl, inr, arith}
 use Rattle.std.specs.Prelude.{is_some}
 use Rattle.std.proofs.lemmas.Bool.{cases_lt, both_ways, or_cases, or_left, or_right, and_parts, and_from, leb-true, le-leb, false_from_ne_true}
 use Rattle.weave_data.specs.Names.{same_name, one_name}
@@ -12,7 +12,7 @@ use Rattle.program_defs.specs.declared.program.Program.TheVariants.{Show, Reach,
 use Rattle.program_defs.specs.declared.program.Answer.{Answer}
 use Rattle.program_defs.specs.declared.program.Answer.TheVariants.{Shown, Reached, Found, Walk}
 use Rattle.program_defs.specs.PlainAnswer.{IsPlainAnswer}
-use Rattle.program_defs.specs.Visits.{levels_to, through_level, up_to, visits_to}
+use Rattle.program_defs.specs.Visits.{through_level, up_to, visits_to}
 use Rattle.program_defs.specs.Walks.{targets, is_walk, walk_length, is_walk_within, IsLeastWalk}
 use Rattle.program_defs.proofs.Closed.{first_step, one_vertex, end_present}
 use Rattle.program_defs.proofs.Members.{itself, among-left}

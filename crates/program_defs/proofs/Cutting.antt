@@ -1,6 +1,5 @@
 -- A program's list of visits as the levels up to its target.
-use Rattle.std.proofs.Common.{append-nil, append_assoc, ◌≡◌, ℕ, zero, suc, ◌+◌, ◌-◌, ◌≤◌, Bool, true, false, List, [], ◌∷◌, ◌++◌, IsTrue, length, refl, sym, ap, subst, ◌∙◌, Option, Some, None, inl, inr, arith}
-use Rattle.weave_data.specs.Names.{same_name}
+use Rattle.std.proofs.Common.{◌≡◌, ℕ, ◌+◌, ◌-◌, ◌≤◌, true, List, [], ◌∷◌, ◌++◌, IsTrue, length, refl, sym, ap, subst, ◌∙◌, Option, Some, None, arith}
 use Rattle.weave_data.specs.declared.name.Name.{Name}
 use Rattle.graph_ops.specs.Mentions.{is_among}
 use Rattle.graph_ops.specs.Operations.{State}
@@ -9,9 +8,8 @@ use Rattle.program_defs.specs.declared.program.Program.{Program}
 use Rattle.program_defs.specs.declared.program.Program.TheVariants.{Show, Reach, Around, Path}
 use Rattle.program_defs.specs.declared.aim.Aim.{Aim}
 use Rattle.program_defs.specs.Searching.{aim_of, IsLeft, IsFree}
-use Rattle.program_defs.specs.Visits.{levels_to, through_level, up_to, visits_to, graph_read}
+use Rattle.program_defs.specs.Visits.{through_level, up_to, visits_to, graph_read}
 use Rattle.program_defs.specs.Walks.{is_value}
-use Rattle.program_defs.proofs.Members.{among-left}
 use Rattle.program_defs.proofs.NextVisit.{visits-of-reads}
 use Rattle.program_defs.proofs.OneList.{not-there, first-there, goes-on, visits-whole}
 use Rattle.program_defs.proofs.Sets.{head-in}

@@ -24,7 +24,7 @@ module _ (graph : PlainGraph) (pass : Option Filter) (start : Name) where
           among-right (through_level n graph pass start) _ w
           (as_set-has _ w (filter-has _ (targets_of_all graph pass (levels_to n graph pass start).level) w (all-targets-has graph pass (levels_to n graph pass start).level v w h g) (ap not is)))
 
-  targets-through : (n : ℕ) (v w : Name) → IsTrue (is_among (through_level n graph pass start) v) → IsTrue (is_among (targets pass (graph v)) w) → IsTrue (is_among (through_level (suc n) graph pass start) w)
+  pub targets-through : (n : ℕ) (v w : Name) → IsTrue (is_among (through_level n graph pass start) v) → IsTrue (is_among (targets pass (graph v)) w) → IsTrue (is_among (through_level (suc n) graph pass start) w)
   targets-through zero v w h g = next-has 0 v w h g
   targets-through (suc n) v w h g =
       elim (among-cases (through_level n graph pass start) (levels_to (suc n) graph pass start).level v h) [
@@ -32,7 +32,7 @@ module _ (graph : PlainGraph) (pass : Option Filter) (start : Name) where
         | inr here ↦ next-has (suc n) v w here g
       ]
 
-  through-more : (k n : ℕ) (w : Name) → IsTrue (is_among (through_level n graph pass start) w) → IsTrue (is_among (through_level (k + n) graph pass start) w)
+  pub through-more : (k n : ℕ) (w : Name) → IsTrue (is_among (through_level n graph pass start) w) → IsTrue (is_among (through_level (k + n) graph pass start) w)
   through-more zero n w h = let e : 0 + n ≡ n = omega arith in subst (λ m. IsTrue (is_among (through_level m graph pass start) w)) (sym e) h
   through-more (suc k) n w h =
       let e : suc k + n ≡ suc (k + n) = omega arith in
@@ -63,7 +63,7 @@ around_visits graph pass from to bound walk h =
 
 -- A walk with one edge more
 
-walk-and-edge : (graph : PlainGraph) (pass : Option Filter) (from u v : Name) (walk : List Name)
+pub walk-and-edge : (graph : PlainGraph) (pass : Option Filter) (from u v : Name) (walk : List Name)
     → IsTrue (is_walk graph pass from u walk) → IsTrue (is_among (targets pass (graph u)) v) → IsTrue (is_some (graph v)) → IsTrue (is_walk graph pass from v (walk ++ v ∷ []))
 walk-and-edge graph pass from u v [] walks edge there = cc
 walk-and-edge graph pass from u v (x ∷ []) walks edge there =
@@ -76,7 +76,7 @@ walk-and-edge graph pass from u v (x ∷ w ∷ rest) walks edge there =
     let start : IsTrue (same_name from x) = subst (λ y. IsTrue (same_name from y)) step.start (itself from) in
     and_from _ _ (and_from _ _ (and_from _ _ start step.there) step.edge) (walk-and-edge graph pass w u v (w ∷ rest) step.onward edge there)
 
-length-and-edge : (graph : PlainGraph) (pass : Option Filter) (from u v : Name) (walk : List Name)
+pub length-and-edge : (graph : PlainGraph) (pass : Option Filter) (from u v : Name) (walk : List Name)
     → IsTrue (is_walk graph pass from u walk) → walk_length (walk ++ v ∷ []) ≡ suc (walk_length walk)
 length-and-edge graph pass from u v [] walks = cc
 length-and-edge graph pass from u v (x ∷ rest) walks = one_more rest

@@ -18,4 +18,13 @@ pub mod Seeing
 pub mod Searched
 pub mod Answering
 pub mod Asking
-pub mod Least
+pub mod Leads
+pub mod Marking
+pub mod Stages
+pub mod Walked
+pub mod Backs
+pub mod Rereading
+pub mod Pathing
+pub mod HopOrder
+pub mod Noting
+pub mod ReadOrder

@@ -1,9 +1,9 @@
 -- Names that are new to a table, and the targets of edges that are looked at in turn.
-use Rattle.std.proofs.Common.{append-nil, append_assoc, ◌≡◌, ℕ, Bool, true, false, ◌||◌, ◌&&◌, not, List, [], ◌∷◌, ◌++◌, IsTrue, map, refl, sym, ap, subst, ◌∙◌, Option, inl, inr}
+use Rattle.std.proofs.Common.{append_assoc, add-one, ◌≡◌, ◌+◌, ◌<◌, ℕ, length, get_or, drop, Bool, true, false, ◌||◌, ◌&&◌, not, List, [], ◌∷◌, ◌++◌, map, refl, sym, ap, subst, ◌∙◌, Option}
+use Rattle.std.proofs.Math.Seq.{drop-cons}
 use Rattle.std.specs.Prelude.{if◌then◌else◌}
 use Rattle.std.specs.List.{filter}
 use Rattle.std.specs.Map.{values_of}
-use Rattle.std.proofs.lemmas.Bool.{cases_Bool, or_cases, or_left, or_right, both_ways}
 use Rattle.weave_data.specs.Names.{same_name, one_name}
 use Rattle.weave_data.specs.declared.name.Name.{Name}
 use Rattle.graph_ops.specs.Mentions.{is_among}
@@ -30,6 +30,10 @@ known-same names name v known = at (same_name name v) refl
 -- the targets of the passing ones of these edges
 abbrev pub targets_in : Option Filter → List (Name × Edge) → List Name
 targets_in pass edges = map (λ (edge : Edge). edge.target) (filter (passes pass) (values_of edges))
+
+-- what is left of the edges begins with the one that is read
+pub next-edge : (all edges : List (Name × Edge)) (i : ℕ) (one : Name × Edge) → all ≡ edges → i < length all → one ≡ get_or all i one → drop i edges ≡ one ∷ drop (i + 1) edges
+next-edge all edges i one same inside is = subst (λ (xs : List (Name × Edge)). drop i xs ≡ one ∷ drop (i + 1) xs) same (drop-cons all i one inside ∙ rw (← is, add-one) refl)
 
 -- the next edge passes
 pub new-more : (pass : Option Filter) (front rest : List (Name × Edge)) (key : Name) (edge : Edge) (all found found' reached reached' : List Name)

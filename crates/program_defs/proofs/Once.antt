@@ -1,8 +1,8 @@
 -- No vertex is visited twice.
-use Rattle.std.proofs.Common.{◌≡◌, ℕ, zero, suc, Bool, true, false, ◌||◌, List, [], ◌∷◌, ◌++◌, IsTrue, refl, sym, ap, subst, ◌∙◌, Option, inl, inr}
+use Rattle.std.proofs.Common.{◌≡◌, ℕ, zero, suc, Bool, true, false, List, [], ◌∷◌, ◌++◌, IsTrue, refl, sym, subst, Option, inl, inr}
 use Rattle.std.specs.Prelude.{if◌then◌else◌}
 use Rattle.std.proofs.lemmas.Bool.{or_parts, both_ways, false_from_ne_true, or_cases}
-use Rattle.weave_data.specs.Names.{name_cmp, same_name, one_name}
+use Rattle.weave_data.specs.Names.{same_name, one_name}
 use Rattle.weave_data.specs.declared.name.Name.{Name}
 use Rattle.graph_ops.specs.Mentions.{is_among}
 use Rattle.graph_ops.specs.PlainGraph.{PlainGraph}

@@ -1,5 +1,5 @@
 -- A program has one plain answer at most on a graph.
-use Rattle.std.proofs.Common.{◌≡◌, ℕ, ◌≤◌, Bool, true, false, List, [], ◌∷◌, IsTrue, length, refl, sym, ap, subst, ◌∙◌, Option, Some, None, inl, inr, arith}
+use Rattle.std.proofs.Common.{◌≡◌, List, IsTrue, refl, sym, ap, ◌∙◌, Some, None, arith}
 use Rattle.std.specs.Cmp.{both_ways as same_test}
 use Rattle.std.specs.Cmp.Lexicographic.{slice_cmp}
 use Rattle.std.specs.declared.cmp.Ordering.{Ordering}
@@ -8,17 +8,15 @@ use Rattle.std.specs.Ordering.{is_le, is_eq, ordering_reverse}
 use Rattle.std.specs.FinMap.{slice_cmp-IsAntisymmetric}
 use Rattle.std.proofs.lemmas.Cmp.{nat_list_cmp_total, lists_total}
 use Rattle.std.proofs.lemmas.Bool.{and_parts}
-use Rattle.weave_data.specs.Names.{name_cmp, same_name, one_name}
+use Rattle.weave_data.specs.Names.{name_cmp, one_name}
 use Rattle.weave_data.specs.declared.name.Name.{Name}
-use Rattle.graph_ops.specs.Mentions.{is_among}
 use Rattle.graph_ops.specs.PlainGraph.{PlainGraph}
-use Rattle.program_defs.specs.declared.program.Filter.{Filter}
 use Rattle.program_defs.specs.declared.program.Program.{Program}
 use Rattle.program_defs.specs.declared.program.Program.TheVariants.{Show, Reach, Around, Path}
 use Rattle.program_defs.specs.declared.program.Answer.{Answer}
 use Rattle.program_defs.specs.declared.program.Answer.TheVariants.{Shown, Reached, Found, Walk}
 use Rattle.program_defs.specs.PlainAnswer.{IsPlainAnswer}
-use Rattle.program_defs.specs.Walks.{is_walk, walk_length, is_walk_within, IsLeastWalk}
+use Rattle.program_defs.specs.Walks.{is_walk, walk_length}
 use Rattle.program_defs.proofs.Sets.{same-sets, rising-set}
 
 name-equal : (x y : Name) → name_cmp x y ≡ Equal → x ≡ y

@@ -1,32 +1,30 @@
 -- The search of a program after one more read.
-use Rattle.std.proofs.Common.{append-nil, append_assoc, ◌≡◌, ℕ, zero, suc, ◌+◌, ◌-◌, ◌≤◌, Bool, true, false, not, ◌&&◌, ◌||◌, List, [], ◌∷◌, ◌++◌, IsTrue, length, refl, sym, ap, subst, ◌∙◌, Option, Some, None, ◌⊎◌, inl, inr, arith}
+use Rattle.std.proofs.Common.{append-nil, append_assoc, ◌≡◌, ℕ, zero, suc, ◌+◌, ◌-◌, ◌≤◌, Bool, true, false, not, ◌&&◌, ◌||◌, List, [], ◌∷◌, ◌++◌, IsTrue, length, refl, sym, ap, subst, ◌∙◌, Option, Some, None, inl, inr, arith}
 use Rattle.std.specs.Prelude.{is_some, is_none, IsSome, if◌then◌else◌}
 use Rattle.std.specs.Cmp.{both_ways as same_test}
 use Rattle.std.specs.Map.{keys_of}
-use Rattle.std.proofs.lemmas.Bool.{or_cases, or_left, or_right, both_ways, false_from_ne_true, cases_Bool, and_parts}
+use Rattle.std.proofs.lemmas.Bool.{or_cases, both_ways, false_from_ne_true, and_parts}
 use Rattle.weave_data.specs.Names.{same_name, one_name}
 use Rattle.weave_data.specs.declared.name.Name.{Name}
 use Rattle.graph_ops.specs.Mentions.{is_among}
 use Rattle.graph_ops.specs.Operations.{State}
 use Rattle.graph_ops.specs.PlainGraph.{PlainGraph}
 use Rattle.program_defs.specs.declared.program.Program.{Program}
-use Rattle.program_defs.specs.declared.aim.Aim.{Aim}
-use Rattle.program_defs.specs.Searching.{SearchState, Adds, IsWithinLevel, IsGoing, IsFree, IsOnce, IsLeft, HasFound, HasSearched, AllRead, aim_of, next_of, has_name, levels_read, turned, onto_next_level, gone_on}
-use Rattle.program_defs.specs.Visits.{as_set, not_among, targets_of_all, levels_to, through, through_level, visits_to, graph_read, first_of}
+use Rattle.program_defs.specs.Searching.{SearchState, Adds, IsWithinLevel, IsFree, IsOnce, IsLeft, HasFound, HasSearched, AllRead, aim_of, next_of, levels_read, turned, onto_next_level, gone_on}
+use Rattle.program_defs.specs.Visits.{as_set, not_among, targets_of_all, through_level, visits_to, graph_read, first_of}
 use Rattle.program_defs.specs.Walks.{is_value}
-use Rattle.program_defs.proofs.Cutting.{cut, cut-free, cut-only, cut-first, cut-here, IsCutAt, cut-at, cut-at-bound, begins}
-use Rattle.program_defs.proofs.Levels.{no-member}
-use Rattle.program_defs.proofs.Members.{itself, among-left, among-right, among-cases, filter-has, filter-only, as_set-has, as_set-only}
+use Rattle.program_defs.proofs.Cutting.{cut, cut-free, cut-only, cut-first, cut-here, cut-at, cut-at-bound, begins}
+use Rattle.program_defs.proofs.Members.{among-left, among-right, among-cases, filter-has, filter-only, as_set-has, as_set-only}
 use Rattle.program_defs.proofs.NextVisit.{read-there}
 use Rattle.program_defs.proofs.Once.{once-append, level-set}
 use Rattle.program_defs.proofs.OneList.{nothing-more, same-turned}
 use Rattle.program_defs.proofs.Seeing.{among-append, new-read, same-levels-read, within-next}
-use Rattle.program_defs.proofs.Sets.{same-sets, as_set-set, head-in}
+use Rattle.program_defs.proofs.Sets.{same-sets, as_set-set}
 use Rattle.program_defs.proofs.Turning.{next-first}
 
 -- What is there
 
-found-next : (search next : SearchState) (program : Program) (reads : List (Name × State)) (v : Name) (state : State) → is_among (keys_of reads) v ≡ false → HasFound search program reads → Adds v state search next
+pub found-next : (search next : SearchState) (program : Program) (reads : List (Name × State)) (v : Name) (state : State) → is_among (keys_of reads) v ≡ false → HasFound search program reads → Adds v state search next
     → ((w : Name) → IsTrue (is_among (keys_of ((v, state) ∷ reads)) w) → IsTrue (is_among (visits_to (length ((v, state) ∷ reads)) (graph_read ((v, state) ∷ reads)) program) w))
     → HasFound next program ((v, state) ∷ reads)
 found-next search next program reads v state new was adds all =
@@ -73,11 +71,11 @@ found-next search next program reads v state new was adds all =
 
 -- The levels as they are read
 
-some-first : (names : List Name) → is_none (first_of names) ≡ false → IsSome (first_of names)
+pub some-first : (names : List Name) → is_none (first_of names) ≡ false → IsSome (first_of names)
 some-first [] e = cc
 some-first (x ∷ xs) e = refl
 
-none-first : (names : List Name) → is_none (first_of names) ≡ true → names ≡ []
+pub none-first : (names : List Name) → is_none (first_of names) ≡ true → names ≡ []
 none-first [] e = refl
 none-first (x ∷ xs) e = cc
 
@@ -121,7 +119,7 @@ module _ (search : SearchState) (program : Program) (reads : List (Name × State
     whole : through_level n graph search.aim.pass search.aim.from ≡ all_read
     whole = levels-split ∙ ap (λ xs. all_read ++ xs) none ∙ append-nil all_read
 
-    level-done : (levels_read reads search.aim n).level ≡ done
+    pub level-done : (levels_read reads search.aim n).level ≡ done
     level-done = within.level ∙ ap (λ xs. done ++ xs) none ∙ append-nil done
 
     abbrev new : Name → Bool
@@ -157,7 +155,7 @@ module _ (search : SearchState) (program : Program) (reads : List (Name × State
     abbrev down : Option ℕ → SearchState
     down left = onto_next_level left search
 
-    within-down : (left : Option ℕ) → IsLeft search.aim.bound (suc n) left → IsWithinLevel (down left) reads (suc n) []
+    pub within-down : (left : Option ℕ) → IsLeft search.aim.bound (suc n) left → IsWithinLevel (down left) reads (suc n) []
     within-down left so_many = record {
       left = so_many;
       level = sym next-is;
@@ -172,7 +170,7 @@ module _ (search : SearchState) (program : Program) (reads : List (Name × State
         unit true = refl
         unit false = refl
 
-    free-down : IsFree search.aim.target all_read → IsFree search.aim.target ((levels_read reads search.aim (suc n)).before ++ [])
+    pub free-down : IsFree search.aim.target all_read → IsFree search.aim.target ((levels_read reads search.aim (suc n)).before ++ [])
     free-down free = subst (IsFree search.aim.target) (sym whole ∙ sym (append-nil (through_level n graph search.aim.pass search.aim.from))) free
 
 -- One more read
@@ -204,7 +202,7 @@ over-now program search reads aim found all = record {
 }
 
 -- the target is free of what was read before it, and of this one
-free-more : (target : Option Name) (xs : List Name) (v : Name) → IsFree target xs → is_value target v ≡ false → IsFree target (xs ++ v ∷ [])
+pub free-more : (target : Option Name) (xs : List Name) (v : Name) → IsFree target xs → is_value target v ≡ false → IsFree target (xs ++ v ∷ [])
 free-more None xs v free other = free
 free-more (Some to) xs v free other =
     among-append xs (v ∷ []) to ∙ rw (free, same-turned v to, other) refl

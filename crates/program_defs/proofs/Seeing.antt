@@ -1,8 +1,8 @@
 -- One more vertex is read.
-use Rattle.std.proofs.Common.{append-nil, append_assoc, ◌≡◌, ℕ, zero, suc, ◌+◌, ◌≤◌, Bool, true, false, not, ◌&&◌, ◌||◌, List, [], ◌∷◌, ◌++◌, IsTrue, length, refl, sym, ap, subst, ◌∙◌, Option, Some, None, ◌⊎◌, inl, inr, arith}
-use Rattle.std.specs.Prelude.{is_some, if◌then◌else◌}
+use Rattle.std.proofs.Common.{append-nil, append_assoc, ◌≡◌, ℕ, zero, suc, Bool, true, false, not, ◌&&◌, ◌||◌, List, [], ◌∷◌, ◌++◌, IsTrue, refl, sym, ap, subst, ◌∙◌, Option}
+use Rattle.std.specs.Prelude.{if◌then◌else◌}
 use Rattle.std.specs.Map.{keys_of}
-use Rattle.std.proofs.lemmas.Bool.{or_cases, or_left, or_right, both_ways, false_from_ne_true}
+use Rattle.std.proofs.lemmas.Bool.{both_ways}
 use Rattle.weave_data.specs.Names.{same_name, one_name}
 use Rattle.weave_data.specs.declared.name.Name.{Name}
 use Rattle.graph_ops.specs.Mentions.{is_among}
@@ -10,9 +10,9 @@ use Rattle.graph_ops.specs.Operations.{State}
 use Rattle.graph_ops.specs.PlainGraph.{PlainGraph}
 use Rattle.program_defs.specs.declared.program.Filter.{Filter}
 use Rattle.program_defs.specs.Agreement.{Agree}
-use Rattle.program_defs.specs.Searching.{SearchState, Adds, IsWithinLevel, IsGoing, IsFree, IsOnce, has_name, new_names, levels_read}
-use Rattle.program_defs.specs.Visits.{targets_of_all, levels_to, through, through_level, graph_read, first_of}
-use Rattle.program_defs.specs.Walks.{targets, is_value}
+use Rattle.program_defs.specs.Searching.{SearchState, Adds, IsWithinLevel, IsOnce, has_name, new_names, levels_read}
+use Rattle.program_defs.specs.Visits.{targets_of_all, levels_to, through, through_level, graph_read}
+use Rattle.program_defs.specs.Walks.{targets}
 use Rattle.program_defs.proofs.Members.{itself, among-left, among-right}
 use Rattle.program_defs.proofs.NewNames.{new-among, new-once}
 use Rattle.program_defs.proofs.Once.{through-once, new-after, once-append}
@@ -32,7 +32,7 @@ targets-append : (graph : PlainGraph) (pass : Option Filter) (xs : List Name) (v
 targets-append graph pass [] v = append-nil (targets pass (graph v))
 targets-append graph pass (x ∷ xs) v = ap (λ ts. targets pass (graph x) ++ ts) (targets-append graph pass xs v) ∙ sym (append_assoc (targets pass (graph x)) (targets_of_all graph pass xs) (targets pass (graph v)))
 
-levels-same : (g h : PlainGraph) (pass : Option Filter) (from : Name) (n : ℕ) → Agree g h (levels_to n g pass from).before → levels_to n g pass from ≡ levels_to n h pass from
+pub levels-same : (g h : PlainGraph) (pass : Option Filter) (from : Name) (n : ℕ) → Agree g h (levels_to n g pass from).before → levels_to n g pass from ≡ levels_to n h pass from
 levels-same g h pass from zero a = refl
 levels-same g h pass from (suc n) a = next-levels g h pass from n a
 
@@ -57,7 +57,7 @@ module _ (search : SearchState) (reads : List (Name × State)) (n : ℕ) (done :
   new-read = within.read v ∙ new-after (before ++ done) v more (subst IsOnce levels-split (through-once was search.aim.pass search.aim.from n))
 
   -- what was read before stays
-  read-agrees : (w : Name) → IsTrue (is_among (keys_of reads) w) → was w ≡ now w
+  pub read-agrees : (w : Name) → IsTrue (is_among (keys_of reads) w) → was w ≡ now w
   read-agrees w k = at (same_name v w) refl
     where
       at : (b : Bool) → same_name v w ≡ b → was w ≡ (if b then state else was w)

@@ -1,5 +1,5 @@
 -- A sorted list of names, none twice, is their set.
-use Rattle.std.proofs.Common.{◌≡◌, List, [], ◌∷◌, refl, sym, ◌∙◌, true, false, IsTrue}
+use Rattle.std.proofs.Common.{◌≡◌, List, [], ◌∷◌, sym, ◌∙◌, false}
 use Rattle.std.specs.Cmp.{both_ways as same_test}
 use Rattle.std.specs.List.{IsDistinct, AllByRecursion}
 use Rattle.std.specs.List.Sorted.{IsSorted, IsPermutation}

@@ -1,5 +1,5 @@
 -- From one level to the next.
-use Rattle.std.proofs.Common.{◌≡◌, ◌<◌, ◌≤◌, ℕ, suc, drop, arith, refl, Bool, true, false, List, [], ◌∷◌, length, ap, ◌∙◌, sym, Option, Some, None, get_or, ◌+◌}
+use Rattle.std.proofs.Common.{◌≡◌, ◌<◌, ◌≤◌, ℕ, suc, drop, arith, refl, Bool, true, false, List, [], ◌∷◌, length, ap, ◌∙◌, sym, Option, Some, None, ◌+◌}
 use Rattle.std.specs.Prelude.{is_none, ◌==◌, if◌then◌else◌}
 use Rattle.std.proofs.Math.Seq.{drop-cons}
 use Rattle.std.proofs.lemmas.List.{drop_all, drop-drop}

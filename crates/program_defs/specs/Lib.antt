@@ -1,7 +1,9 @@
 pub mod Walks
+pub mod Works
 pub mod PlainAnswer
 pub mod Visits
-pub mod Works
 pub mod Agreement
 pub mod Searching
+pub mod Ranks
+pub mod Walking
 pub mod Asking

@@ -6,8 +6,6 @@ use Rattle.weave_data.specs.Names.{same_name}
 use Rattle.weave_data.specs.declared.name.Name.{Name}
 use Rattle.graph_ops.specs.Mentions.{is_among}
 use Rattle.graph_ops.specs.Operations.{State}
-use Rattle.graph_ops.specs.PlainGraph.{PlainGraph}
-use Rattle.program_defs.specs.declared.program.Filter.{Filter}
 use Rattle.program_defs.specs.declared.program.Program.{Program}
 use Rattle.program_defs.specs.declared.program.Program.TheVariants.{Show, Reach, Around, Path}
 use Rattle.program_defs.specs.declared.aim.Aim.{Aim}
@@ -134,3 +132,9 @@ turned None search = onto_next_level None search
 -- the search after what was read of this vertex was added: it ends with the target, and goes on to the next level after the last vertex of this one
 abbrev pub gone_on : Name → SearchState → SearchState
 gone_on v search = if is_value search.aim.target v then record search { over = true } else (if is_none (first_of search.rest) then turned search.left search else search)
+
+-- the search after the read of the next vertex in this state
+pub record Seen (v : Name) (state : State) (old new : SearchState) : Type 0 where
+  pub added : SearchState
+  pub adds : Adds v state old added
+  pub onward : IsOnce added.found → new ≡ record (gone_on v added) { room = new.room }

@@ -11,9 +11,10 @@ ghost use Rattle.program_defs.specs.declared.program.Answer.{Answer};
 ghost use Rattle.program_defs.specs.declared.program.Program.TheVariants.{Reach, Around};
 ghost use Rattle.program_defs.specs.declared.program.Answer.TheVariants.{Reached, Found};
 ghost use Rattle.program_defs.specs.Searching.{SearchState, SameReached, HasSearched, next_of};
-ghost use Rattle.program_defs.specs.Agreement.{AgreeOnVisits};
+ghost use Rattle.program_defs.specs.Agreement.{AgreeOnVisits, AreSameReads};
 ghost use Rattle.program_defs.specs.PlainAnswer.{IsPlainAnswer};
 ghost use Rattle.program_defs.specs.Visits.{as_set, through_level, visits_to, graph_read, next_visit, states_at, first_of, IsListOfVisits};
+ghost use Rattle.program_defs.specs.Walking.{WalkState, SameWalked, HasWalked};
 ghost use Rattle.program_defs.specs.Walks.{is_walk_within};
 
 /// A vertex that is there stands in the levels 0 to n exactly where a walk of at most n edges leads to it.
@@ -53,4 +54,16 @@ pub fn searches_are_right()
     ensures reach { (from to : Name) (pass : Option Filter) (search : SearchState) (reads : List (Name × State)) → HasSearched (Reach from to pass) search reads → IsPlainAnswer (graph_read reads) (Reach from to pass) (Reached (is_among search.present to)) }
     ensures around { (from : Name) (bound : ℕ) (pass : Option Filter) (search : SearchState) (reads : List (Name × State)) → HasSearched (Around from bound pass) search reads → IsPlainAnswer (graph_read reads) (Around from bound pass) (Found (as_set search.present)) }
     ensures same { (program : Program) (old new : SearchState) (reads : List (Name × State)) → SameReached old new → HasSearched program old reads → HasSearched program new reads }
+{}
+
+/// What a search for the least walk says of its program: the next visit.
+pub fn path_searches_are_right()
+    ensures next { (program : Program) (walk : WalkState) (reads : List (Name × State)) → HasWalked program walk reads → next_of walk.search ≡ next_visit reads program }
+    ensures same { (program : Program) (old new : WalkState) (reads : List (Name × State)) → SameWalked old new → HasWalked program old reads → HasWalked program new reads }
+{}
+
+/// The next visit and the plain answer depend on which states were read, and not on the order of the reads.
+pub fn order_of_reads_is_free()
+    ensures next { (a b : List (Name × State)) (program : Program) → AreSameReads a b → next_visit a program ≡ next_visit b program }
+    ensures answer { (a b : List (Name × State)) (program : Program) (answer : Answer) → AreSameReads a b → IsPlainAnswer (graph_read a) program answer → IsPlainAnswer (graph_read b) program answer }
 {}

@@ -3,6 +3,7 @@
 
 mod aim;
 pub mod laws;
+mod path_search;
 mod plain;
 mod program;
 mod script;
@@ -12,6 +13,7 @@ mod targets;
 mod tests;
 
 pub use aim::Aim;
+pub use path_search::PathSearch;
 pub use plain::ask;
 pub use program::{Answer, Filter, Program};
 pub use script::{Request, Script, Step, Work};

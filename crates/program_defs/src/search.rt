@@ -1,14 +1,15 @@
 //! The search of a program, level by level.
-ghost use Rattle.std.specs.Prelude.{◌≡◌, ◌≤◌, ◌+◌, ◌++◌, ◌∷◌, ◌||◌, [], true, List, Option, Some, None, length, is_some, IfOk, OnOk, IfSome, option_copied, if◌then◌else◌};
+ghost use Rattle.std.specs.Prelude.{nat_le, ◌≡◌, ◌≤◌, ◌+◌, ◌++◌, ◌∷◌, ◌||◌, [], true, List, Option, Some, None, length, is_some, IfOk, OnOk, IfSome, option_copied, if◌then◌else◌};
 ghost use Rattle.weave_data.specs.declared.name.Name.{Name};
 ghost use Rattle.graph_ops.specs.Mentions.{is_among};
 ghost use Rattle.graph_ops.specs.Operations.{State};
 ghost use Rattle.program_defs.specs.declared.program.Program.{Program};
-ghost use Rattle.program_defs.specs.Searching.{aim_of, next_of, has_name, new_names, edges_of, Adds, gone_on, turned, onto_next_level, SameReached, IsOnce, HasSearched};
+ghost use Rattle.program_defs.specs.Searching.{aim_of, next_of, has_name, new_names, edges_of, Adds, gone_on, turned, onto_next_level, SameReached, IsOnce, HasSearched, IsGoing, Seen};
 ghost use Rattle.program_defs.specs.Visits.{as_set};
 ghost use Rattle.program_defs.specs.Walks.{is_value};
 
 use crate::aim::Aim;
+use crate::program::Filter;
 use crate::targets::look;
 use graph_ops::Record;
 use std::alloc::{AllocError, Global};
@@ -53,6 +54,8 @@ impl Search {
     /// The search before its first read.
     pub fn new(alloc: Global, aim: Aim) -> Result<Search, AllocError>
         ensures aim { IfOk result (λ search. search.aim ≡ aim) }
+        ensures going { IfOk result (λ search. IsGoing search [] 0 []) }
+        ensures present { IfOk result (λ search. search.present ≡ []) }
         ensures reads { IfOk result (λ search. (program : Program) → aim_of program ≡ Some aim → HasSearched program search []) }
     {
         let mut level = Vec::new(alloc);
@@ -81,6 +84,34 @@ impl Search {
         self.level.get(self.at).copied()
     }
 
+    /// Where the walks start.
+    pub fn start(&self) -> Name
+        ensures { result ≡ self.now.aim.from }
+    {
+        self.aim.from
+    }
+
+    /// The vertex that ends the search.
+    pub fn target(&self) -> Option<Name>
+        ensures { result ≡ self.now.aim.target }
+    {
+        self.aim.target
+    }
+
+    /// Which edges pass.
+    pub fn pass(&self) -> Option<Filter>
+        ensures { result ≡ self.now.aim.pass }
+    {
+        self.aim.pass
+    }
+
+    /// Whether no more than one vertex of the level is left.
+    pub fn is_last(&self) -> bool
+        ensures { result ≡ nat_le (length self.now.rest) 1 }
+    {
+        self.level.len().saturating_sub(self.at) <= 1
+    }
+
     /// Takes the room for the read of a vertex of so many edges less one. Nothing else changes.
     pub fn reserve(&mut self, names: usize) -> Result<(), AllocError>
         ensures room { OnOk result (names ≤ self.new.room) }
@@ -97,6 +128,7 @@ impl Search {
     pub fn see(&mut self, state: Option<&Record>)
         requires room { edges_of (option_copied state) + 1 ≤ self.old.room }
         ensures aim { self.new.aim ≡ self.old.aim }
+        ensures onward { (v : Name) → next_of self.old ≡ Some v → Seen v (option_copied state.entry) self.old self.new }
         ensures reads { (program : Program) (v : Name) (reads : List (Name × State)) → next_of self.old ≡ Some v
             → HasSearched program self.old reads → HasSearched program self.new ((v, option_copied state.entry) ∷ reads) }
     {

@@ -267,3 +267,45 @@ fn show(rt: HostRuntime) {
         assert_eq!(rt; matches!(answer, Answer::Shown(Some(_))), want);
     }
 }
+
+// The letters of the names that `around` has found so far.
+fn found_so_far(rt: &impl Abort, alloc: Global, walk: &ReachProgram) -> Vec<u8> {
+    let answer = walk.outcome(alloc).expect(rt, "memory");
+    let Answer::Found(vertices) = &answer else {
+        panic!(rt; "another answer");
+    };
+    let mut letters = Vec::new(alloc);
+    for v in vertices.as_slice() {
+        letters
+            .push(v.bytes().first().copied().expect(rt, "a letter"))
+            .expect(rt, "memory");
+    }
+    letters
+}
+
+// The outcomes before the first read, and of `around` with a filter, which the edge a e2 b passes alone.
+#[test]
+fn outcomes_before_reads_and_by_a_filter(rt: HostRuntime) {
+    let alloc = rt.alloc();
+    let mut graph = diamond(&rt, alloc);
+    let (v, edge) = (name(&rt, b"a"), name(&rt, b"e2"));
+    let (key, value) = (name(&rt, b"k"), name(&rt, b"x"));
+    let tag = Op::Tag {
+        v,
+        edge,
+        key,
+        value,
+    };
+    run(&rt, alloc, &mut graph, &[tag]);
+    let unread = ReachProgram::new(alloc, v, v, None).expect(&rt, "memory");
+    let answer = unread.outcome(alloc).expect(&rt, "memory");
+    assert!(rt; matches!(answer, Answer::Reached(false)));
+    let pass = Some(Filter { key, value });
+    let mut walk = ReachProgram::around(alloc, v, 5, pass).expect(&rt, "memory");
+    assert_eq!(rt; found_so_far(&rt, alloc, &walk).len(), 0);
+    assert_eq!(rt; feed(&rt, alloc, &mut walk, &graph), 2);
+    assert_eq!(rt;
+        found_so_far(&rt, alloc, &walk).as_slice(),
+        b"ab".as_slice()
+    );
+}

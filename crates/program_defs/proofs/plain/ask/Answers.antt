@@ -1,12 +1,12 @@
 use Rattle.std.proofs.Common.{sym, subst, refl}
 use Rattle.graph_ops.specs.Graphs.{plain_of}
-use Rattle.program_defs.specs.declared.program.Program.TheVariants.{Reach, Around}
-use Rattle.program_defs.specs.declared.program.Answer.TheVariants.{Reached, Found}
+use Rattle.program_defs.specs.declared.program.Program.TheVariants.{Reach, Around, Path}
+use Rattle.program_defs.specs.declared.program.Answer.TheVariants.{Reached, Found, Walk}
 use Rattle.graph_ops.specs.Mentions.{is_among}
 use Rattle.program_defs.specs.PlainAnswer.{IsPlainAnswer}
 use Rattle.program_defs.specs.Visits.{as_set}
 use Rattle.program_defs.proofs.Answering.{reach-answer, around-answer}
-use Rattle.program_defs.proofs.Asking.{answer-of-all}
+use Rattle.program_defs.proofs.Asking.{answer-of-all, all-of-walk}
 use Rattle.program_defs.proofs.plain.ask.Goals as goal
 
 pub returns-in_ok-search-in-Reach : goal.returns-in_ok-search-in-Reach
@@ -24,3 +24,10 @@ returns-in_ok-present-in-Around c =
     subst (λ p. IsPlainAnswer (plain_of c.args.graph.now) p (Found c.in_ok-present-in-Around.field-0)) (sym c.in-Around.is)
     (subst (λ vs. IsPlainAnswer (plain_of c.args.graph.now) program (Found vs)) (sym (c.in_ok-present-in-Around.ensures all.read.searched.found.once))
     (answer-of-all program (plain_of c.args.graph.now) c.in_ok-search-in-Around.search (Found (as_set c.in_ok-search-in-Around.search.present)) all (around-answer c.in-Around.from c.in-Around.bound c.in-Around.pass c.in_ok-search-in-Around.search all.read.reads all.read.searched)))
+
+pub returns-in_ok-walk-in-Path : goal.returns-in_ok-walk-in-Path
+returns-in_ok-walk-in-Path c =
+    let program = Path c.in-Path.from c.in-Path.to c.in-Path.bound c.in-Path.pass in
+    let all = c.in_ok-search-in-Path.ensures program refl in
+    subst (λ p. IsPlainAnswer (plain_of c.args.graph.now) p (Walk c.in_ok-walk-in-Path.field-0)) (sym c.in-Path.is)
+    (answer-of-all program (plain_of c.args.graph.now) c.in_ok-search-in-Path.search.search (Walk c.in_ok-walk-in-Path.field-0) (all-of-walk program (plain_of c.args.graph.now) c.in_ok-search-in-Path.search all) (c.in_ok-walk-in-Path.ensures c.in-Path.from c.in-Path.to c.in-Path.bound c.in-Path.pass all.read.reads all.read.walked))

@@ -1,5 +1,4 @@
-use Rattle.std.proofs.Common.{◌≡◌, sym, ◌∙◌, subst, refl, [], List, Some}
-use Rattle.program_defs.specs.Searching.{HasSearched}
+use Rattle.std.proofs.Common.{sym, ◌∙◌, []}
 use Rattle.program_defs.proofs.Asking.{read-more, same-next}
 use Rattle.program_defs.proofs.plain.searched.Goals as goal
 

@@ -1,4 +1,4 @@
-use Rattle.std.proofs.Common.{sym, ap, ◌∙◌, refl, append-nil, ◌≡◌, ◌++◌, ◌∷◌, ◌||◌, [], option_copied, is_some}
+use Rattle.std.proofs.Common.{sym, ap, ◌∙◌, append-nil, ◌++◌, ◌∷◌, ◌||◌, [], option_copied, is_some}
 use Rattle.std.specs.Prelude.{if◌then◌else◌}
 use Rattle.graph_ops.specs.Mentions.{is_among}
 use Rattle.program_defs.specs.Searching.{SearchState, has_name, new_names}

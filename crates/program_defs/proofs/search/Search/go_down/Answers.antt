@@ -1,4 +1,4 @@
-use Rattle.std.proofs.Common.{◌≡◌, List, [], sym, ap, ◌∙◌, subst, is_none}
+use Rattle.std.proofs.Common.{sym, ap, ◌∙◌, subst, is_none}
 use Rattle.program_defs.specs.Searching.{IsOnce, SearchState}
 use Rattle.program_defs.specs.Visits.{as_set, first_of}
 use Rattle.program_defs.proofs.Sorting.{sorted-is-set}

@@ -1,5 +1,4 @@
 use Rattle.std.proofs.Common.{sym, ap, ◌∙◌, is_none, arith}
-use Rattle.std.proofs.lemmas.Bool.Decides.{nat_tests}
 use Rattle.program_defs.specs.Searching.{SearchState}
 use Rattle.program_defs.specs.Visits.{first_of}
 use Rattle.program_defs.proofs.Turning.{still-is, left-over}

@@ -1,5 +1,5 @@
 use Rattle.std.proofs.Common.{◌≡◌, sym, ◌∙◌, subst, Some, ◌∷◌, option_copied}
-use Rattle.program_defs.specs.Searching.{next_of, HasSearched}
+use Rattle.program_defs.specs.Searching.{HasSearched}
 use Rattle.program_defs.proofs.Searched.{seen}
 use Rattle.program_defs.proofs.search.Search.see.Goals as goal
 

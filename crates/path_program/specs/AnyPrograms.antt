@@ -1,0 +1,35 @@
+-- Any of the node programs: what each says of itself.
+use Rattle.std.specs.Prelude.{ℕ, List, Option}
+use Rattle.weave_data.specs.declared.name.Name.{Name}
+use Rattle.graph_ops.specs.Operations.{State}
+use Rattle.program_defs.specs.declared.program.Program.{Program}
+use Rattle.program_defs.specs.declared.program.Program.TheVariants.{Show as TheShow}
+use Rattle.node_program.specs.Showing.{HasShown, next_shown}
+use Rattle.reach_program.specs.Reaching.{program_of, HasReached, next_reached, reads_left as reached_left}
+use Rattle.path_program.specs.declared.any.AnyProgram.{AnyProgram}
+use Rattle.path_program.specs.declared.any.AnyProgram.TheVariants.{Show, Reach, Path}
+use Rattle.path_program.specs.Pathing.{path_of, HasPathed, next_pathed, reads_left as pathed_left}
+
+-- which program it is
+abbrev pub any_of : AnyProgram → Program
+any_of (Show walk) = TheShow walk.v
+any_of (Reach walk) = program_of walk.goal walk.search.aim
+any_of (Path walk) = path_of walk.to walk.bound walk.search
+
+-- it has read these states, the newest first
+abbrev pub HasRead : AnyProgram → List (Name × State) → Type 0
+HasRead (Show walk) reads = HasShown walk.v walk.read reads
+HasRead (Reach walk) reads = HasReached walk.goal walk.search reads
+HasRead (Path walk) reads = HasPathed walk.to walk.bound walk.search reads
+
+-- the vertex that it reads next
+abbrev pub next_read : AnyProgram → Option Name
+next_read (Show walk) = next_shown walk.v walk.read
+next_read (Reach walk) = next_reached walk.search
+next_read (Path walk) = next_pathed walk.search
+
+-- the number of reads for which there is room
+abbrev pub reads_left : AnyProgram → ℕ
+reads_left (Show walk) = 1
+reads_left (Reach walk) = reached_left walk.search
+reads_left (Path walk) = pathed_left walk.search

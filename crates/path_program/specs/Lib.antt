@@ -1,0 +1,2 @@
+pub mod Pathing
+pub mod AnyPrograms
