@@ -1,0 +1,4 @@
+pub mod Asking
+pub mod Commits
+pub mod Keeping
+pub mod Trying
