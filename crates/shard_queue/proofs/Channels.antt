@@ -13,7 +13,7 @@ use Rattle.std.proofs.lemmas.List.{append-nil}
 use Rattle.std.proofs.lemmas.Option.{slice_get_within, get_or_from_slice_get}
 use Rattle.vector_stamp.specs.declared.clock.Stamp.{Stamp}
 use Rattle.shard_queue.specs.Sent.{sent_as}
-use Rattle.shard_queue.specs.Incoming.{Incoming, Event, Arrives, TakesHead, nothing_arrived, head_of, has_arrived, after_head_if, after_event, inbox_after, taken, taken_by, processed_in, brings, AreOfSent}
+use Rattle.shard_queue.specs.Incoming.{Incoming, Event, Arrives, TakesHead, nothing_arrived, head_of, has_arrived, after_head_if, after_event, inbox_after, taken, taken_by, processed_in, brings, AreOfSent, after_arrival, waiting_at, WaitingLaws}
 use Rattle.shard_queue.proofs.Waiting.{put-there, put-others, take-others, AllWaiting, all-put, all-take, all-found}
 
 has_here : {X : Type 0} (x : X) (xs : List X) → Contains (x ∷ xs) x
@@ -149,3 +149,32 @@ module _ {M : Type 0} (stamp_of : M → Stamp) where
 
   pub processed-sent : (sent : List M) (events : List (Event M)) → AreOfSent sent events → processed_in stamp_of nothing_arrived events ≡ take (inbox_after stamp_of events).processed sent
   processed-sent sent events of = takes_on sent nothing_arrived events of (fed_nothing sent)
+
+module _ {M : Type 0} (stamp_of : M → Stamp) where
+  -- What waits under each number
+
+  -- the inbox after an arrival of which it is known whether its number arrived before
+  abbrev arrival_if : Bool → ℕ → M → Incoming M → Incoming M
+  arrival_if before number message inbox = cond before inbox (record inbox { waiting = insert_entry nat_cmp inbox.waiting number message })
+
+  others_if : (before : Bool) (number other : ℕ) (message : M) (inbox : Incoming M) → other ≢ number → waiting_at other (arrival_if before number message inbox) ≡ waiting_at other inbox
+  others_if true number other message inbox differ = refl
+  others_if false number other message inbox differ = put-others other number message inbox.waiting differ
+
+  processed_if : (before : Bool) (number : ℕ) (message : M) (inbox : Incoming M) → (arrival_if before number message inbox).processed ≡ inbox.processed
+  processed_if true number message inbox = refl
+  processed_if false number message inbox = refl
+
+  last_if : (before : Bool) (number : ℕ) (message : M) (inbox : Incoming M) → (arrival_if before number message inbox).last ≡ inbox.last
+  last_if true number message inbox = refl
+  last_if false number message inbox = refl
+
+  -- both change what waits under one number alone
+  pub waiting_laws : WaitingLaws stamp_of
+  waiting_laws = record {
+    arrived = λ number message inbox new. ap (λ (before : Bool). waiting_at number (arrival_if before number message inbox)) new ∙ put-there number message inbox.waiting;
+    others = λ number other message inbox differ. others_if (has_arrived number inbox) number other message inbox differ;
+    processed = λ number message inbox. processed_if (has_arrived number inbox) number message inbox;
+    last = λ number message inbox. last_if (has_arrived number inbox) number message inbox;
+    still = λ other inbox differ. take-others other (inbox.processed + 1) inbox.waiting differ;
+  }

@@ -1,5 +1,5 @@
 -- The receiving end of a channel: what waits there by its number, and how many messages were processed.
-use Rattle.std.specs.Prelude.{◌≡◌, ℕ, ◌+◌, Bool, ◌||◌, ◌==◌, false, List, [], ◌∷◌, ◌++◌, fold, Option, None, Some, is_some, nat_le, Contains, if◌then◌else◌}
+use Rattle.std.specs.Prelude.{◌≡◌, ◌≢◌, ℕ, ◌+◌, Bool, ◌||◌, ◌==◌, false, List, [], ◌∷◌, ◌++◌, fold, Option, None, Some, is_some, nat_le, Contains, if◌then◌else◌}
 use Rattle.std.specs.Option.{option_map}
 use Rattle.std.specs.Ordering.{nat_cmp}
 use Rattle.std.specs.Map.{lookup, remove_entry}
@@ -86,3 +86,12 @@ module _ {M : Type 0} where
   -- what arrives is what was sent under that number; it may come in any order, again, or never
   abbrev pub AreOfSent : List M → List (Event M) → Type 0
   AreOfSent sent events = (number : ℕ) (message : M) → Contains events (Arrives number message) → sent_as number sent ≡ Some message
+
+module _ {M : Type 0} (stamp_of : M → Stamp) where
+  -- what waits under each number after an arrival and after the head was processed: both change what waits under one number alone
+  pub record WaitingLaws : Type 0 where
+    pub arrived : (number : ℕ) (message : M) (inbox : Incoming M) → has_arrived number inbox ≡ false → waiting_at number (after_arrival number message inbox) ≡ Some message
+    pub others : (number other : ℕ) (message : M) (inbox : Incoming M) → other ≢ number → waiting_at other (after_arrival number message inbox) ≡ waiting_at other inbox
+    pub processed : (number : ℕ) (message : M) (inbox : Incoming M) → (after_arrival number message inbox).processed ≡ inbox.processed
+    pub last : (number : ℕ) (message : M) (inbox : Incoming M) → (after_arrival number message inbox).last ≡ inbox.last
+    pub still : (other : ℕ) (inbox : Incoming M) → other ≢ inbox.processed + 1 → waiting_at other (after_head stamp_of inbox) ≡ waiting_at other inbox

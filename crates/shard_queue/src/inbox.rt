@@ -48,6 +48,13 @@ impl<M: Stamped + Drop> Inbox<M> {
         }
     }
 
+    /// Whether the message of this number arrived before: it was processed, or it waits.
+    pub fn has(&self, number: u64) -> bool
+        ensures { result ≡ has_arrived number self.now }
+    {
+        number < self.next || self.waiting.contains_key(&number)
+    }
+
     /// Takes in the message of this number, and drops it if the number arrived before. The one error is out of memory.
     pub fn arrive(&mut self, _alloc: Global, number: u64, message: M) -> Result<Arrival, AllocError>
         requires { 1 ≤ number }
@@ -56,7 +63,7 @@ impl<M: Stamped + Drop> Inbox<M> {
         ensures inbox { OnOk result (self.new ≡ after_arrival number message self.old) }
         ensures refused { OnErr result (self.new ≡ self.old) }
     {
-        if number < self.next || self.waiting.contains_key(&number) {
+        if self.has(number) {
             return Ok(Arrival::Repeat);
         }
         self.waiting.insert(number, message)?;

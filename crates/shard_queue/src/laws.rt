@@ -1,7 +1,7 @@
 //! What follows from the definitions, as contracts without a body.
 ghost use Rattle.std.specs.Prelude.{◌≡◌, ℕ, ◌≤◌, ◌<◌, List, take, length, IsSome};
 ghost use Rattle.std.specs.List.{list_any};
-ghost use Rattle.shard_queue.specs.Incoming.{Event, nothing_arrived, waiting_at, has_arrived, inbox_after, processed_in, brings, AreOfSent};
+ghost use Rattle.shard_queue.specs.Incoming.{Event, nothing_arrived, waiting_at, has_arrived, inbox_after, processed_in, brings, AreOfSent, WaitingLaws};
 
 use vector_stamp::Stamped;
 
@@ -14,4 +14,9 @@ pub fn channels_give_what_was_sent<M: Stamped>()
         → (inbox_after M.stamp_of events).processed ≤ length sent }
     ensures arrived { (number : ℕ) (events : List (Event M)) → 1 ≤ number
         → has_arrived number (inbox_after M.stamp_of events) ≡ list_any (brings number) events }
+{}
+
+/// What waits under each number after an arrival, and after the head was processed, as one fact for proofs that take it as a premise.
+pub fn each_number_waits_by_itself<M: Stamped>()
+    ensures { WaitingLaws M.stamp_of }
 {}

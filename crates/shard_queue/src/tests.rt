@@ -1,4 +1,6 @@
 use crate::{Arrival, Inbox, Outbox};
+use std::alloc::Global;
+use std::process::Abort;
 use std::test::Fail;
 use vector_stamp::{Clock, Stamp, Stamped};
 
@@ -48,16 +50,63 @@ fn make_note(count: u64) -> Note {
     Note { count }
 }
 
-// What arrives out of order, or again, is processed once, in the order of numbers.
+// Three messages are sent.
+fn three_sent(rt: &impl Abort, alloc: Global) -> Outbox<Note> {
+    let mut outbox = Outbox::new(alloc);
+    outbox
+        .push(alloc, Note { count: 3 })
+        .ok()
+        .expect(rt, "memory");
+    outbox
+        .push(alloc, Note { count: 5 })
+        .ok()
+        .expect(rt, "memory");
+    outbox
+        .push(alloc, Note { count: 9 })
+        .ok()
+        .expect(rt, "memory");
+    outbox
+}
+
+// The message of a number is fetched and delivered; `None` if it was not sent.
+fn deliver(
+    rt: &impl Abort,
+    alloc: Global,
+    outbox: &Outbox<Note>,
+    inbox: &mut Inbox<Note>,
+    number: u64,
+) -> Option<Arrival> {
+    let count = outbox.get(number)?.count;
+    if number == 0 {
+        panic!(rt; "numbers are from 1");
+    }
+    let had = inbox.has(number);
+    let arrival = inbox
+        .arrive(alloc, number, make_note(count))
+        .expect(rt, "memory");
+    assert!(rt; inbox.has(number) && had == (arrival == Arrival::Repeat));
+    Some(arrival)
+}
+
+// What arrives out of order, or again, is processed once, in the order of numbers. A fourth message was never sent.
 #[test]
 fn what_arrived(rt: HostRuntime) -> Result<(), Fail> {
     let alloc = rt.alloc();
+    let outbox = three_sent(&rt, alloc);
     let mut inbox = Inbox::new(alloc);
-    assert_eq!(rt; inbox.arrive(alloc, 3, make_note(9))?, Arrival::Kept);
-    assert!(rt; inbox.head().is_none() && inbox.last().is_none());
-    assert_eq!(rt; inbox.arrive(alloc, 1, make_note(3))?, Arrival::Kept);
-    assert_eq!(rt; inbox.arrive(alloc, 1, make_note(4))?, Arrival::Repeat);
-    assert_eq!(rt; inbox.arrive(alloc, 2, make_note(5))?, Arrival::Kept);
+    let rows = [
+        (3, Some(Arrival::Kept)),
+        (1, Some(Arrival::Kept)),
+        (1, Some(Arrival::Repeat)),
+        (2, Some(Arrival::Kept)),
+        (4, None),
+    ];
+    for (number, answer) in rows {
+        assert!(rt; number == 3 || inbox.has(3) && inbox.last().is_none());
+        assert!(rt; inbox.head().is_some() == inbox.has(1));
+        let arrival = deliver(&rt, alloc, &outbox, &mut inbox, number);
+        assert_eq!(rt; arrival, answer, "at {number}");
+    }
     for (number, count) in [(1, 3), (2, 5), (3, 9)] {
         assert_eq!(rt; inbox.next(), number);
         assert_eq!(rt; inbox.head().map(|note| note.count), Some(count));
@@ -69,8 +118,39 @@ fn what_arrived(rt: HostRuntime) -> Result<(), Fail> {
         }
         inbox.advance();
         assert_eq!(rt; inbox.last(), Some(make_note(count).stamp()));
-        assert_eq!(rt; inbox.arrive(alloc, number, make_note(7))?, Arrival::Repeat);
+        let again = deliver(&rt, alloc, &outbox, &mut inbox, number);
+        assert_eq!(rt; again, Some(Arrival::Repeat));
     }
     assert!(rt; inbox.head().is_none());
     Ok(())
+}
+
+// Messages are sent without room that was taken before, and with it.
+#[test]
+fn sends_with_room_and_without(rt: HostRuntime) -> Result<(), Fail> {
+    let alloc = rt.alloc();
+    let mut outbox = Outbox::new(alloc);
+    assert_eq!(rt; outbox.push(alloc, Note { count: 3 }).ok(), Some(1));
+    assert_eq!(rt; outbox.push(alloc, Note { count: 4 }).ok(), Some(2));
+    outbox.reserve(alloc)?;
+    outbox.reserve(alloc)?;
+    assert_eq!(rt; outbox.push(alloc, Note { count: 9 }).ok(), Some(3));
+    assert_eq!(rt; outbox.get(3).map(|note| note.count), Some(9));
+    Ok(())
+}
+
+// Forty messages arrive, the last one first, and then once more.
+#[test]
+fn many_wait(rt: HostRuntime) {
+    let alloc = rt.alloc();
+    let mut inbox = Inbox::new(alloc);
+    for before in 0..40 {
+        let arrived = inbox.arrive(alloc, 40 - before, make_note(before));
+        assert!(rt; arrived == Ok(Arrival::Kept));
+    }
+    for before in 0..40 {
+        let arrived = inbox.arrive(alloc, 40 - before, make_note(before));
+        assert!(rt; arrived == Ok(Arrival::Repeat));
+    }
+    assert_eq!(rt; inbox.head().map(|note| note.count), Some(39));
 }

@@ -190,3 +190,24 @@ base_seen pairs program chain (Ok view) is reaches = λ dropped.
     let updates : view.updates ≡ chain.dropped + seen_of pairs program (stamps_of chain.kept) = ap (λ (v : View). v.updates) is in
     omega (arith, some, updates)
 base_seen pairs program chain (Err error) is reaches = tt
+
+-- A judge that is asked twice about one version
+
+pub learns_twice : (program update : Stamp) (old mid new : List Stamp) → LearnsOnly (program ∷ update ∷ []) old mid → LearnsOnly (program ∷ update ∷ []) mid new → LearnsOnly (program ∷ update ∷ []) old new
+learns_twice program update old mid new first second stamp has = elim (second stamp has) [
+  | inl before ↦ first stamp before
+  | inr handed ↦ inr handed
+]
+
+pub still_coherent : ((stamps others : List Stamp) → AreCoherent others → ((stamp : Stamp) → Contains stamps stamp → Contains others stamp) → AreCoherent stamps) → (program update : Stamp) (old mid : List Stamp) → LearnsOnly (program ∷ update ∷ []) old mid → AreCoherent (program ∷ update ∷ old) → AreCoherent (program ∷ update ∷ mid)
+still_coherent part program update old mid learns coherent =
+    part (program ∷ update ∷ mid) (program ∷ update ∷ old) coherent (λ stamp has. elim (has_read program (update ∷ mid) stamp has) [
+      | inl is ↦ subst (Contains (program ∷ update ∷ old)) is (has_head program (update ∷ old))
+      | inr later ↦ elim (has_read update mid stamp later) [
+        | inl is ↦ subst (Contains (program ∷ update ∷ old)) is (has_tail program (update ∷ old) update (has_head update old))
+        | inr known ↦ elim (learns stamp known) [
+          | inl before ↦ Contains-append_right (program ∷ update ∷ []) old stamp before
+          | inr handed ↦ Contains-append_left (program ∷ update ∷ []) old stamp handed
+        ]
+      ]
+    ])

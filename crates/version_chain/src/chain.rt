@@ -60,6 +60,13 @@ impl Chain {
         self.versions.len()
     }
 
+    /// A copy of the state after the newest update: the operations of the next one have to pass on it. It is absent if there is no update. The one error is out of memory.
+    pub fn newest(&self, alloc: Global) -> Result<Option<Record>, AllocError>
+        ensures { IfOk result (λ state. state ≡ newest_state self.now.kept) }
+    {
+        newest_copy(alloc, self.versions.as_slice())
+    }
+
     /// Applies an update: the operations of a transaction of this stamp, before which that many updates were applied. The one error is out of memory.
     pub fn apply_update(
         &mut self,
@@ -89,7 +96,7 @@ impl Chain {
     }
 
     /// What a program sees. From the newest version: one whose stamp is after the program's is skipped, one whose stamp is before it is seen, and for an unordered one the judge is asked to put it before the program: it is skipped if the judge refuses, and seen if not.
-    /// The one error is out of memory. It takes the time of the versions that it skips, and copies a record for each one that the judge is asked about or that is seen.
+    /// The one error is out of memory. It takes the time of the versions that it skips, and copies no record but the one that it answers.
     pub fn view_at<J: Judge>(
         &self,
         alloc: Global,

@@ -311,3 +311,117 @@ fn an_update_is_taken_back(rt: HostRuntime) {
     let seen = view(&rt, alloc, &chain, stamp(0, 5, 0, 0), &mut judge);
     assert!(rt; shows(&seen, None, 3, false));
 }
+
+// Applies an update of that many reads of a vertex, which pass whatever its state.
+fn apply_reads(rt: &impl Abort, alloc: Global, chain: &mut Chain, stamp: Stamp, v: Name) {
+    let before = chain.count();
+    if before == u64::MAX {
+        panic!(rt; "too many");
+    }
+    let ops = [Op::Get { v }, Op::Get { v }, Op::Get { v }];
+    chain
+        .apply_update(alloc, stamp, before, &ops)
+        .expect(rt, "memory");
+}
+
+fn apply_nothing(rt: &impl Abort, alloc: Global, chain: &mut Chain, stamp: Stamp) {
+    let before = chain.count();
+    if before == u64::MAX {
+        panic!(rt; "too many");
+    }
+    chain
+        .apply_update(alloc, stamp, before, &[])
+        .expect(rt, "memory");
+}
+
+// Updates of several operations and of none, on a vertex that is absent, there, deleted and there again.
+#[test]
+fn updates_of_each_state(rt: HostRuntime) {
+    let alloc = rt.alloc();
+    let v = name(&rt, "v");
+    let mut chain = Chain::new(alloc);
+    let mut judge = judge_of(&rt, alloc, &[]);
+    apply_nothing(&rt, alloc, &mut chain, stamp(0, 1, 0, 0));
+    apply_reads(&rt, alloc, &mut chain, stamp(0, 2, 0, 0), v);
+    let absent = view(&rt, alloc, &chain, stamp(0, 3, 0, 0), &mut judge);
+    assert!(rt; shows(&absent, None, 2, false));
+    apply(&rt, alloc, &mut chain, stamp(0, 4, 0, 0), Op::Create { v });
+    apply_reads(&rt, alloc, &mut chain, stamp(0, 5, 0, 0), v);
+    apply_nothing(&rt, alloc, &mut chain, stamp(0, 6, 0, 0));
+    let there = view(&rt, alloc, &chain, stamp(0, 7, 0, 0), &mut judge);
+    assert!(rt; shows(&there, Some(0), 5, false));
+    apply(&rt, alloc, &mut chain, stamp(0, 8, 0, 0), Op::Delete { v });
+    apply(&rt, alloc, &mut chain, stamp(0, 9, 0, 0), Op::Create { v });
+    apply(&rt, alloc, &mut chain, stamp(0, 10, 0, 0), set(&rt, v, "a"));
+    let again = view(&rt, alloc, &chain, stamp(0, 11, 0, 0), &mut judge);
+    assert!(rt; shows(&again, Some(1), 8, false));
+}
+
+// An unordered update that deletes the vertex is put before the program, which sees it absent.
+#[test]
+fn an_unordered_deletion_is_seen(rt: HostRuntime) {
+    let alloc = rt.alloc();
+    let v = name(&rt, "v");
+    let program = stamp(2, 0, 0, 1);
+    let mut chain = Chain::new(alloc);
+    apply(&rt, alloc, &mut chain, stamp(0, 1, 0, 0), Op::Create { v });
+    apply(&rt, alloc, &mut chain, stamp(1, 1, 1, 0), Op::Delete { v });
+    let mut judge = judge_of(&rt, alloc, &[]);
+    let seen = view(&rt, alloc, &chain, program, &mut judge);
+    assert!(rt; shows(&seen, None, 2, true));
+    let again = view(&rt, alloc, &chain, program, &mut judge);
+    assert!(rt; shows(&again, None, 2, false));
+}
+
+// Two unordered updates are refused, and the one before them is put before the program.
+#[test]
+fn the_third_update_is_seen(rt: HostRuntime) {
+    let alloc = rt.alloc();
+    let program = Stamp {
+        home: 3,
+        clock: Clock {
+            epoch: 0,
+            counts: [0, 0, 0, 1, 0, 0, 0, 0],
+        },
+    };
+    let clocks = [stamp(0, 1, 0, 0), stamp(1, 0, 1, 0), stamp(2, 0, 0, 1)];
+    let chain = three_updates(&rt, alloc, &clocks);
+    let pairs = [(program, clocks[1]), (program, clocks[2])];
+    let mut judge = judge_of(&rt, alloc, &pairs);
+    let seen = view(&rt, alloc, &chain, program, &mut judge);
+    assert!(rt; shows(&seen, Some(0), 1, true));
+    assert_eq!(rt; judge.pairs.len(), 3);
+}
+
+// An update of each kind of operation, one after another.
+#[test]
+fn updates_of_each_kind(rt: HostRuntime) {
+    let alloc = rt.alloc();
+    let v = name(&rt, "v");
+    let (edge, key) = (name(&rt, "e"), name(&rt, "k"));
+    let tag = Op::Tag {
+        v,
+        edge,
+        key,
+        value: v,
+    };
+    let updates = [
+        (1, Op::Create { v }),
+        (2, set(&rt, v, "k")),
+        (3, Op::Get { v }),
+        (4, Op::Link { v, edge, target: v }),
+        (5, tag),
+        (6, Op::Untag { v, edge, key }),
+        (7, Op::Unlink { v, edge }),
+        (8, Op::Unset { v, key }),
+        (9, Op::Delete { v }),
+    ];
+    let mut chain = Chain::new(alloc);
+    for (own, op) in updates {
+        apply(&rt, alloc, &mut chain, stamp(0, own, 0, 0), op);
+        assert_eq!(rt; chain.count(), own);
+    }
+    let mut judge = judge_of(&rt, alloc, &[]);
+    let seen = view(&rt, alloc, &chain, stamp(0, 10, 0, 0), &mut judge);
+    assert!(rt; shows(&seen, None, 9, false));
+}

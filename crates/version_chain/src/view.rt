@@ -70,7 +70,7 @@ pub(crate) fn look<J: Judge>(
     }
 }
 
-// Asks the judge to put an unordered version before the program. The state is copied first, so that nothing can fail after the judge added the pair.
+// Asks the judge to put an unordered version before the program. The state is copied once the judge doesn't refuse, and before it adds the pair: nothing can fail after that.
 fn ask<J: Judge>(
     alloc: Global,
     author: u32,
@@ -94,6 +94,10 @@ fn ask<J: Judge>(
         (places_of (additions_from 0 (J.pairs judge.old) (read_of seen version.now.stamp) program))) }
     ensures not_logged { OnErr result (IsTrue J.keeps_log → J.log_of judge.new ≡ J.log_of judge.old) }
 {
+    parts_and_unions_are_coherent();
+    if is_refused(alloc, author, program, judge, version.stamp)? {
+        return Ok(None);
+    }
     let state = version.state.copy(alloc)?;
     let earlier = [version.stamp];
     match judge.settle(alloc, author, &earlier, program, true) {
@@ -102,6 +106,31 @@ fn ask<J: Judge>(
             settled: !put.places.as_slice().is_empty(),
         })),
         Err(Refusal::Precedes { .. }) => Ok(None),
+        Err(Refusal::Memory) => Err(AllocError),
+    }
+}
+
+// Whether the judge refuses to put an unordered version before the program. It adds no pair.
+fn is_refused<J: Judge>(
+    alloc: Global,
+    author: u32,
+    program: Stamp,
+    judge: &mut J,
+    update: Stamp,
+) -> Result<bool, AllocError>
+    requires other_id { id_of update ≢ id_of program }
+    requires coherent { AreCoherent (program ∷ update ∷ J.known judge.old) }
+    ensures refused { IfOk result (λ refused. refused ≡ precedes (J.pairs judge.old) program update) }
+    ensures pairs { J.pairs judge.new ≡ J.pairs judge.old }
+    ensures known { (stamp : Stamp) → Contains (J.known judge.new) stamp
+        → Contains (J.known judge.old) stamp ⊎ Contains (program ∷ update ∷ []) stamp }
+    ensures stay_known { (stamp : Stamp) → Contains (J.known judge.old) stamp → Contains (J.known judge.new) stamp }
+    ensures not_logged { IsTrue J.keeps_log → J.log_of judge.new ≡ J.log_of judge.old }
+{
+    let earlier = [update];
+    match judge.settle(alloc, author, &earlier, program, false) {
+        Ok(_) => Ok(false),
+        Err(Refusal::Precedes { .. }) => Ok(true),
         Err(Refusal::Memory) => Err(AllocError),
     }
 }

@@ -1,5 +1,7 @@
 ghost use Rattle.std.specs.Prelude.{◌≡◌, ◌≢◌, ◌∷◌, []};
-ghost use Rattle.graph_ops.specs.declared.op.Op.TheVariants.{Create};
+ghost use Rattle.graph_ops.specs.declared.op.Op.TheVariants.{Create, Get};
+ghost use Rattle.version_chain.specs.Chains.{update_count};
+ghost use Rattle.version_graph.specs.Graphs.{chain_of, chain_or_new};
 
 use crate::VersionGraph;
 use graph_ops::{Name, Op, Part};
@@ -71,4 +73,73 @@ fn three_vertices(rt: HostRuntime) -> Result<(), Fail> {
     }
     assert!(rt; graph.chain(name(&rt, "d")).is_none());
     Ok(())
+}
+
+// The part of a vertex that it names for the next time, and which only reads.
+fn read(rt: &impl Abort, alloc: Global, v: Name, before: u64) -> Part
+    ensures vertex { result.vertex ≡ v }
+    ensures before { result.before ≡ before }
+    ensures ops { result.ops ≡ Get v ∷ [] }
+{
+    let mut ops = Items::new(alloc);
+    ops.push(Op::Get { v }).expect(rt, "memory");
+    Part {
+        vertex: v,
+        before,
+        ops,
+    }
+}
+
+fn count(graph: &VersionGraph, v: Name) -> u64
+    ensures { result ≡ update_count (chain_or_new (chain_of graph.now v)) }
+{
+    match graph.chain(v) {
+        None => 0,
+        Some(chain) => chain.count(),
+    }
+}
+
+// Reads one vertex, whether it has updates or not. Reports whether it did.
+fn read_one(
+    rt: &impl Abort,
+    alloc: Global,
+    graph: &mut VersionGraph,
+    stamp: Stamp,
+    v: Name,
+) -> bool {
+    let before = count(graph, v);
+    if before == u64::MAX {
+        panic!(rt; "too many");
+    }
+    let parts = [read(rt, alloc, v, before)];
+    graph.apply_parts(alloc, stamp, &parts).is_ok()
+}
+
+fn stamp(count: u64) -> Stamp {
+    Stamp {
+        home: 0,
+        clock: Clock {
+            epoch: 0,
+            counts: [count, 0, 0, 0, 0, 0, 0, 0],
+        },
+    }
+}
+
+// Ten updates of each of two vertices in turn, and one of no part.
+#[test]
+fn updates_of_what_is_there(rt: HostRuntime) {
+    let alloc = rt.alloc();
+    let mut graph = VersionGraph::new(alloc);
+    let (a, b) = (name(&rt, "a"), name(&rt, "b"));
+    for number in 0..10 {
+        let stamp = stamp(number + 1);
+        assert!(rt; read_one(&rt, alloc, &mut graph, stamp, a));
+        assert!(rt; read_one(&rt, alloc, &mut graph, stamp, b));
+        assert_eq!(rt;
+            (count(&graph, a), count(&graph, b)),
+            (number + 1, number + 1)
+        );
+    }
+    assert!(rt; graph.apply_parts(alloc, stamp(11), &[]) == Ok(()));
+    assert_eq!(rt; (count(&graph, a), count(&graph, b)), (10, 10));
 }

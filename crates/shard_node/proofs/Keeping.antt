@@ -1,0 +1,233 @@
+-- What a shard keeps goes on being the replay of its log, with each deed.
+use Rattle.std.proofs.Common.{◌≡◌, ◌≢◌, ℕ, ◌+◌, ◌<◌, ◌≤◌, Bool, true, false, cond, List, [], ◌∷◌, ◌++◌, drop, length, slice_get, slice_set, Option, None, Some, is_some, inl, inr, refl, sym, ap, subst, ◌∙◌, arith}
+use Rattle.std.specs.Prelude.{◌==◌, All, if◌then◌else◌}
+use Rattle.std.specs.Option.{option_map}
+use Rattle.std.proofs.lemmas.Bool.{cases_eq, cases_lt, eq-eqb, ne_eqb}
+use Rattle.std.proofs.lemmas.Bool.Decides.{leb_tells}
+use Rattle.std.proofs.lemmas.List.{length-set}
+use Rattle.std.proofs.lemmas.Option.{slice_get_within, get_or_from_slice_get}
+use Rattle.proof_base.proofs.Entries.{each_none, each_push}
+use Rattle.proof_base.proofs.Members.{has_none}
+use Rattle.weave_data.specs.declared.name.Name.{Name}
+use Rattle.vector_stamp.specs.declared.clock.Stamp.{Stamp}
+use Rattle.version_chain.specs.Chains.{ChainView}
+use Rattle.shard_queue.specs.Incoming as incoming
+use Rattle.shard_queue.specs.Incoming.{Incoming, nothing_arrived, waiting_at, has_arrived, after_arrival, after_head, WaitingLaws}
+use Rattle.version_graph.specs.Graphs.{Chains, chain_of, after_parts}
+use Rattle.weave_entries.specs.declared.message.Message.{Message}
+use Rattle.weave_entries.specs.declared.shard_log.ShardEntry.{ShardEntry}
+use Rattle.weave_entries.specs.declared.shard_log.ShardDeed.TheVariants.{Arrived, Applied, Visited}
+use Rattle.weave_entries.specs.ShardReplay.{arrived_at, processed_by, processed_count, head_of, updates_of, waits_at, first_unready, dropped_after, dropped_from}
+use Rattle.vector_stamp.specs.Precedence.{Given}
+use Rattle.version_chain.specs.Views.{view_of}
+use Rattle.shard_node.specs.Shards.{IsTakable, PassesAt, chain_in, chain_in_if, versions_from}
+use Rattle.shard_node.specs.Rules.{FitsShard}
+use Rattle.shard_node.specs.Keeping.{IsInboxOf, IsReplayOf}
+use Rattle.shard_node.proofs.Places.{get_set_here, get_set_other, some_is}
+use Rattle.shard_node.proofs.Replay.{arrived-still, arrived-new, arrived-others, count-still, count-applied, updates-still, updates-applied, all-still, all-applied, dropped-push}
+use Rattle.shard_node.proofs.Updates.{chain_from, parts-on}
+
+-- the stamp of a message
+abbrev pub stamp_in : Message → Stamp
+stamp_in message = message.stamp
+
+-- An inbox
+
+module _ (gate : ℕ) (log : List ShardEntry) (inbox : Incoming Message) (kept : IsInboxOf gate log inbox) where
+  -- a number that has not arrived is above the processed ones
+  above_processed : (number : ℕ) → 1 ≤ number → arrived_at gate number log ≡ None → processed_count gate log < number
+  above_processed number some none = elim (cases_lt (processed_count gate log) number) [
+    | inl above ↦ above
+    | inr within ↦ let there : false ≡ true = sym (ap is_some none) ∙ kept.arrived number some within in absurd cc
+  ]
+
+  pub has-arrived : (number : ℕ) → 1 ≤ number → has_arrived number inbox ≡ is_some (arrived_at gate number log)
+  has-arrived number some = elim (leb_tells number inbox.processed) [
+    | inl within ↦ rw within.0 (sym (kept.arrived number some (subst (λ n. number ≤ n) kept.processed within.1)))
+    | inr above ↦ rw above.0 (ap is_some (kept.waits number (subst (λ n. n < number) kept.processed above.1)))
+  ]
+
+  pub head-is : incoming.head_of inbox ≡ head_of gate log
+  head-is = ap (λ n. waiting_at (n + 1) inbox) kept.processed ∙ kept.waits (processed_count gate log + 1) (omega arith)
+
+  -- it is that of a longer log, if nothing happened on the channel
+  inbox-still : (longer : List ShardEntry) → processed_count gate longer ≡ processed_count gate log → ((number : ℕ) → arrived_at gate number longer ≡ arrived_at gate number log) → IsInboxOf gate longer inbox
+  inbox-still longer count same = record {
+    processed = kept.processed ∙ sym count;
+    last = kept.last ∙ ap (option_map stamp_in) (sym (ap (λ n. arrived_at gate n longer) count ∙ same (processed_count gate log)));
+    waits = λ number above. kept.waits number (subst (λ n. n < number) count above) ∙ sym (same number);
+    arrived = λ number some within. ap is_some (same number) ∙ kept.arrived number some (subst (λ n. number ≤ n) count within);
+    from_one = same 0 ∙ kept.from_one;
+  }
+
+  -- a message arrived
+  inbox-arrives : WaitingLaws stamp_in → (author number : ℕ) (message : Message) → 1 ≤ number → arrived_at gate number log ≡ None → IsInboxOf gate (log ++ record { author = author; deed = Arrived gate number message } ∷ []) (after_arrival number message inbox)
+  inbox-arrives laws author number message some none =
+      let entry : ShardEntry = record { author = author; deed = Arrived gate number message } in
+      let above = above_processed number some none in
+      let new : has_arrived number inbox ≡ false = has-arrived number some ∙ ap is_some none in
+      let count : processed_count gate (log ++ entry ∷ []) ≡ processed_count gate log = count-still log entry refl gate in
+      let others : (k : ℕ) → number ≢ k → arrived_at gate k (log ++ entry ∷ []) ≡ arrived_at gate k log = λ k differ. arrived-others log author gate number message gate k (λ same. differ same.1) in
+      record {
+        processed = laws.processed number message inbox ∙ kept.processed ∙ sym count;
+        last = laws.last number message inbox ∙ kept.last ∙ ap (option_map stamp_in) (sym (ap (λ n. arrived_at gate n (log ++ entry ∷ [])) count ∙ others (processed_count gate log) (λ same. omega (arith, same, above))));
+        waits = λ k over. elim (cases_eq k number) [
+          | inl same ↦ subst (λ n. waiting_at n (after_arrival number message inbox) ≡ arrived_at gate n (log ++ entry ∷ [])) (sym same) (laws.arrived number message inbox new ∙ sym (arrived-new log author gate number message none))
+          | inr differ ↦ laws.others number k message inbox differ ∙ kept.waits k (subst (λ n. n < k) count over) ∙ sym (others k (λ same. differ (sym same)))
+        ];
+        arrived = λ k from_one within. let below = subst (λ n. k ≤ n) count within in ap is_some (others k (λ same. omega (arith, same, above, below))) ∙ kept.arrived k from_one below;
+        from_one = others 0 (λ same. omega (arith, same, some)) ∙ kept.from_one;
+      }
+
+  -- its head was processed
+  inbox-advances : WaitingLaws stamp_in → (author : ℕ) (head : Message) → head_of gate log ≡ Some head → IsInboxOf gate (log ++ record { author = author; deed = Applied gate (processed_count gate log + 1) } ∷ []) (after_head stamp_in inbox)
+  inbox-advances laws author head is =
+      let entry : ShardEntry = record { author = author; deed = Applied gate (processed_count gate log + 1) } in
+      let count : processed_count gate (log ++ entry ∷ []) ≡ processed_count gate log + 1 = count-applied log author gate (processed_count gate log + 1) gate ∙ ap (λ (b : Bool). processed_count gate log + cond b 1 0) (eq-eqb gate gate refl) in
+      let same : (number : ℕ) → arrived_at gate number (log ++ entry ∷ []) ≡ arrived_at gate number log = λ number. arrived-still log entry refl gate number in
+      let processed_is = kept.processed in
+      record {
+        processed = ap (λ n. n + 1) processed_is ∙ sym count;
+        last = ap (option_map stamp_in) (head-is ∙ sym (same (processed_count gate log + 1)) ∙ ap (λ n. arrived_at gate n (log ++ entry ∷ [])) (sym count));
+        waits = λ k over. let over_next = subst (λ n. n < k) count over in laws.still k inbox (λ at. omega (arith, at, over_next, processed_is)) ∙ kept.waits k (omega (arith, over_next)) ∙ sym (same k);
+        arrived = λ k from_one within. let below = subst (λ n. k ≤ n) count within in elim (cases_eq k (processed_count gate log + 1)) [
+          | inl at ↦ ap (λ n. is_some (arrived_at gate n (log ++ entry ∷ []))) at ∙ ap is_some (same (processed_count gate log + 1) ∙ is)
+          | inr before ↦ ap is_some (same k) ∙ kept.arrived k from_one (elim (cases_lt k (processed_count gate log + 1)) [
+            | inl less ↦ omega (arith, less)
+            | inr over ↦ absurd (before (omega (arith, over, below)))
+          ])
+        ];
+        from_one = same 0 ∙ kept.from_one;
+      }
+
+-- an inbox to which nothing came is that of the empty log
+pub inbox-new : (gate : ℕ) → IsInboxOf gate [] nothing_arrived
+inbox-new gate = record {
+  processed = refl;
+  last = refl;
+  waits = λ number above. refl;
+  arrived = λ number some within. absurd (omega (arith, some, within));
+  from_one = refl;
+}
+
+-- The chain of a vertex
+
+pub chain-is : (v : Name) (log : List ShardEntry) → dropped_from v [] log 0 ≡ 0 → chain_in_if v log ≡ chain_from (updates_of v log)
+chain-is v log none = ap (λ (dropped : ℕ). if length (updates_of v log) == 0 then None else Some (record { dropped = dropped; kept = drop dropped (versions_from None (updates_of v log)) })) none
+
+-- the processed number of another channel stays
+other_count : (author gate : ℕ) (log : List ShardEntry) (other : ℕ) → gate ≢ other → processed_count other (log ++ record { author = author; deed = Applied gate (processed_count gate log + 1) } ∷ []) ≡ processed_count other log
+other_count author gate log other differ =
+    count-applied log author gate (processed_count gate log + 1) other ∙ ap (λ (b : Bool). processed_count other log + cond b 1 0) (ne_eqb gate other differ) ∙ omega arith
+
+-- All that is kept
+
+module _ (gates : ℕ) (inboxes : List (Incoming Message)) (chains : Chains) (log : List ShardEntry) (kept : IsReplayOf gates inboxes chains log) where
+  -- nothing is dropped by a deed that drops nothing
+  dropped-none : (entry : ShardEntry) → ((v : Name) (dropped : ℕ) → dropped_after v log entry.deed dropped ≡ dropped) → (v : Name) → dropped_from v [] (log ++ entry ∷ []) 0 ≡ 0
+  dropped-none entry still v = dropped-push v [] log entry 0 ∙ still v (dropped_from v [] log 0) ∙ kept.nothing_dropped v
+
+  -- the chains stay, if nothing is processed
+  chains-still : (entry : ShardEntry) → processed_by entry.deed ≡ [] → ((v : Name) (dropped : ℕ) → dropped_after v log entry.deed dropped ≡ dropped) → (v : Name) → chain_of chains v ≡ chain_in_if v (log ++ entry ∷ [])
+  chains-still entry none still v =
+      kept.chains_are v
+      ∙ chain-is v log (kept.nothing_dropped v)
+      ∙ ap chain_from (sym (updates-still log entry none kept.all_arrived v))
+      ∙ sym (chain-is v (log ++ entry ∷ []) (dropped-none entry still v))
+
+  -- with an inbox in its place the others stay
+  placed : (gate : ℕ) (next : Incoming Message) (longer : List ShardEntry) → gate < gates → IsInboxOf gate longer next → ((other : ℕ) (inbox : Incoming Message) → other ≢ gate → IsInboxOf other log inbox → IsInboxOf other longer inbox) → (other : ℕ) (inbox : Incoming Message) → slice_get (slice_set inboxes gate next) other ≡ Some inbox → IsInboxOf other longer inbox
+  placed gate next longer below here others other inbox at =
+      let count = kept.count in
+      elim (cases_eq other gate) [
+        | inl same ↦
+            let is : next ≡ inbox = some_is (sym (get_set_here inboxes gate next (omega (arith, below, count))) ∙ ap (slice_get (slice_set inboxes gate next)) (sym same) ∙ at) in
+            subst (λ n. IsInboxOf n longer inbox) (sym same) (subst (IsInboxOf gate longer) is here)
+        | inr differ ↦ others other inbox differ (kept.channels other inbox (sym (get_set_other inboxes gate other next differ) ∙ at))
+      ]
+
+  -- a message arrived
+  pub keeps_arrived : WaitingLaws stamp_in → (author gate number : ℕ) (message : Message) (inbox next : Incoming Message) (longer : List ShardEntry) → gate < gates → 1 ≤ number → IsTakable message → arrived_at gate number log ≡ None → slice_get inboxes gate ≡ Some inbox → next ≡ after_arrival number message inbox → longer ≡ log ++ record { author = author; deed = Arrived gate number message } ∷ [] → IsReplayOf gates (slice_set inboxes gate next) chains longer
+  keeps_arrived laws author gate number message inbox next longer below some takable none at is longer_is =
+      let entry : ShardEntry = record { author = author; deed = Arrived gate number message } in
+      let here : IsInboxOf gate (log ++ entry ∷ []) next = subst (IsInboxOf gate (log ++ entry ∷ [])) (sym is) (inbox-arrives gate log inbox (kept.channels gate inbox at) laws author number message some none) in
+      let still : (v : Name) (dropped : ℕ) → dropped_after v log entry.deed dropped ≡ dropped = λ v dropped. refl in
+      subst (λ (l : List ShardEntry). IsReplayOf gates (slice_set inboxes gate next) chains l) (sym longer_is) (record {
+        some_gate = kept.some_gate;
+        few_gates = kept.few_gates;
+        count = length-set inboxes gate next ∙ kept.count;
+        channels = placed gate next (log ++ entry ∷ []) below here (λ other one differ of. inbox-still other log one of (log ++ entry ∷ []) (count-still log entry refl other) (λ k. arrived-others log author gate number message other k (λ same. differ (sym same.0))));
+        chains_are = chains-still entry refl still;
+        takable = λ at_gate k one arrived. elim (cases_eq gate at_gate) [
+          | inl same ↦ elim (cases_eq number k) [
+            | inl also ↦
+                let found : Some message ≡ Some one = sym (arrived-new log author gate number message none) ∙ (λ i. arrived_at (same i) (also i) (log ++ entry ∷ [])) ∙ arrived in
+                subst IsTakable (some_is found) takable
+            | inr differ ↦ kept.takable at_gate k one (sym (arrived-others log author gate number message at_gate k (λ both. differ both.1)) ∙ arrived)
+          ]
+          | inr differ ↦ kept.takable at_gate k one (sym (arrived-others log author gate number message at_gate k (λ both. differ both.0)) ∙ arrived)
+        ];
+        all_arrived = all-still log entry refl kept.all_arrived;
+        nothing_dropped = dropped-none entry still;
+        rules = each_push (λ before one. FitsShard gates before one.deed) log entry kept.rules (record { gate_is = below; from_one = some; new = none; takable = takable });
+      })
+
+  -- a head was processed
+  pub keeps_applied : WaitingLaws stamp_in → (author gate number : ℕ) (head : Message) (inbox next : Incoming Message) (after : Chains) (longer : List ShardEntry) → gate < gates → head_of gate log ≡ Some head → waits_at head log ≡ None → PassesAt log head → slice_get inboxes gate ≡ Some inbox → next ≡ after_head stamp_in inbox → number ≡ inbox.processed + 1 → ((v : Name) → chain_of after v ≡ after_parts head.stamp v (chain_of chains v) head.parts) → longer ≡ log ++ record { author = author; deed = Applied gate number } ∷ [] → IsReplayOf gates (slice_set inboxes gate next) after longer
+  keeps_applied laws author gate number head inbox next after longer below is in_turn passes at next_is number_is applied longer_is =
+      let channel = kept.channels gate inbox at in
+      let entry : ShardEntry = record { author = author; deed = Applied gate (processed_count gate log + 1) } in
+      let own : number ≡ processed_count gate log + 1 = number_is ∙ ap (λ n. n + 1) channel.processed in
+      let whole : longer ≡ log ++ entry ∷ [] = longer_is ∙ ap (λ (n : ℕ). log ++ record { author = author; deed = Applied gate n } ∷ []) own in
+      let here : IsInboxOf gate (log ++ entry ∷ []) next = subst (IsInboxOf gate (log ++ entry ∷ [])) (sym next_is) (inbox-advances gate log inbox channel laws author head is) in
+      let still : (v : Name) (dropped : ℕ) → dropped_after v log entry.deed dropped ≡ dropped = λ v dropped. refl in
+      subst (λ (l : List ShardEntry). IsReplayOf gates (slice_set inboxes gate next) after l) (sym whole) (record {
+        some_gate = kept.some_gate;
+        few_gates = kept.few_gates;
+        count = length-set inboxes gate next ∙ kept.count;
+        channels = placed gate next (log ++ entry ∷ []) below here (λ other one differ of. inbox-still other log one of (log ++ entry ∷ []) (other_count author gate log other (λ same. differ (sym same))) (λ k. arrived-still log entry refl other k));
+        chains_are = λ v.
+            applied v
+            ∙ ap (λ (chain : Option ChainView). after_parts head.stamp v chain head.parts) (kept.chains_are v ∙ chain-is v log (kept.nothing_dropped v))
+            ∙ parts-on head.stamp v (updates_of v log) head.parts
+            ∙ ap chain_from (sym (updates-applied log author gate (processed_count gate log + 1) head is kept.all_arrived v))
+            ∙ sym (chain-is v (log ++ entry ∷ []) (dropped-none entry still v));
+        takable = λ at_gate k one arrived. kept.takable at_gate k one (sym (arrived-still log entry refl at_gate k) ∙ arrived);
+        all_arrived = all-applied log author gate (processed_count gate log + 1) head is kept.all_arrived;
+        nothing_dropped = dropped-none entry still;
+        rules = each_push (λ before one. FitsShard gates before one.deed) log entry kept.rules (record { gate_is = below; number_is = refl; message = head; head = is; in_turn = in_turn; passes = passes });
+      })
+
+  -- a program read a vertex
+  pub keeps_visited : (author request : ℕ) (stamp : Stamp) (vertex : Name) (updates : ℕ) (settled : Bool) (longer : List ShardEntry) → first_unready gates stamp log ≡ None → updates ≤ length (updates_of vertex log) → (pairs : List Given) → updates ≡ (view_of pairs stamp (chain_in vertex log)).updates → settled ≡ (view_of pairs stamp (chain_in vertex log)).settled → longer ≡ log ++ record { author = author; deed = Visited request stamp vertex updates settled } ∷ [] → IsReplayOf gates inboxes chains longer
+  keeps_visited author request stamp vertex updates settled longer ready applied pairs updates_are settled_is longer_is =
+      let entry : ShardEntry = record { author = author; deed = Visited request stamp vertex updates settled } in
+      let still : (v : Name) (dropped : ℕ) → dropped_after v log entry.deed dropped ≡ dropped = λ v dropped. refl in
+      subst (λ (l : List ShardEntry). IsReplayOf gates inboxes chains l) (sym longer_is) (record {
+        some_gate = kept.some_gate;
+        few_gates = kept.few_gates;
+        count = kept.count;
+        channels = λ gate inbox at. inbox-still gate log inbox (kept.channels gate inbox at) (log ++ entry ∷ []) (count-still log entry refl gate) (λ k. arrived-still log entry refl gate k);
+        chains_are = chains-still entry refl still;
+        takable = λ at_gate k one arrived. kept.takable at_gate k one (sym (arrived-still log entry refl at_gate k) ∙ arrived);
+        all_arrived = all-still log entry refl kept.all_arrived;
+        nothing_dropped = dropped-none entry still;
+        rules = each_push (λ before one. FitsShard gates before one.deed) log entry kept.rules (record { ready = ready; applied = applied; pairs = pairs; updates_are = updates_are; settled_is = settled_is });
+      })
+
+-- before the first entry nothing has arrived, and no vertex has updates
+pub keeps_none : (gates : ℕ) (inboxes : List (Incoming Message)) (chains : Chains) (log : List ShardEntry) → log ≡ [] → 1 ≤ gates → gates ≤ 8 → length inboxes ≡ gates → All (λ (inbox : Incoming Message). inbox ≡ nothing_arrived) inboxes → ((v : Name) → chain_of chains v ≡ None) → IsReplayOf gates inboxes chains log
+keeps_none gates inboxes chains log log_is some few count empty none =
+    subst (λ (l : List ShardEntry). IsReplayOf gates inboxes chains l) (sym log_is) (record {
+      some_gate = some;
+      few_gates = few;
+      count = count;
+      channels = λ gate inbox at.
+          let new : inbox ≡ nothing_arrived = subst (λ (one : Incoming Message). one ≡ nothing_arrived) (get_or_from_slice_get inboxes gate inbox inbox at) (empty gate inbox (slice_get_within inboxes gate inbox at)) in
+          subst (IsInboxOf gate []) (sym new) (inbox-new gate);
+      chains_are = none;
+      takable = λ gate number message arrived. let never : None ≡ Some message = arrived in absurd cc;
+      all_arrived = λ of has. absurd (has_none of has);
+      nothing_dropped = λ v. refl;
+      rules = each_none (λ before one. FitsShard gates before one.deed);
+    })

@@ -1,0 +1,7 @@
+pub mod Places
+pub mod Replay
+pub mod Updates
+pub mod Keeping
+pub mod Ready
+pub mod Stamps
+pub mod Splitting

@@ -1,0 +1,154 @@
+-- What the inboxes and the chains of a shard say is what the replay of its log says.
+use Rattle.std.proofs.Common.{◌≡◌, ℕ, suc, ◌+◌, Bool, true, false, cond, List, [], ◌∷◌, drop, length, slice_get, get_or, Option, None, Some, is_some, inl, inr, refl, sym, ap, subst, ◌∙◌, arith}
+use Rattle.std.specs.Prelude.{◌==◌, ◌||◌, not, IsTrue, ◌-◌, ◌<◌, ◌≤◌}
+use Rattle.std.specs.List.{find, range_with_len}
+use Rattle.std.specs.Option.{option_map}
+use Rattle.std.proofs.lemmas.Bool.Decides.{eqb_tells}
+use Rattle.std.proofs.lemmas.List.Elements.{All-contains_itself}
+use Rattle.std.proofs.lemmas.List.{length-map}
+use Rattle.std.proofs.lemmas.Option.{slice_get_read}
+use Rattle.proof_base.proofs.Members.{find_lacks}
+use Rattle.weave_data.specs.declared.name.Name.{Name}
+use Rattle.graph_ops.specs.declared.part.Part.{Part}
+use Rattle.graph_ops.specs.Operations.{State}
+use Rattle.graph_ops.specs.VertexOps.{none_refused}
+use Rattle.vector_stamp.specs.declared.clock.Stamp.{Stamp}
+use Rattle.vector_stamp.specs.Precedence.{Given}
+use Rattle.vector_stamp.specs.Seeing.{seen_of}
+use Rattle.version_chain.specs.Chains.{ChainView, update_count, stamps_of, newest_state}
+use Rattle.version_graph.specs.Graphs.{Chains, chain_of, chain_or_new, AreNextUpdates}
+use Rattle.shard_queue.specs.Incoming as incoming
+use Rattle.shard_queue.specs.Incoming.{Incoming, has_arrived}
+use Rattle.weave_entries.specs.declared.message.Message.{Message}
+use Rattle.weave_entries.specs.declared.shard_log.ShardEntry.{ShardEntry}
+use Rattle.weave_entries.specs.ShardReplay.{Update, arrived_at, processed_count, head_of, last_of, updates_of, waits_at, state_of_updates, is_past, is_ready_for, first_unready, kept_of}
+use Rattle.shard_node.specs.Shards.{PassesAt, versions_from, chain_in, update_stamps, updates_read}
+use Rattle.shard_node.specs.Keeping.{first_differing, is_after, is_channel_ready, first_not_ready, IsInboxOf, IsReplayOf}
+use Rattle.shard_node.proofs.Replay.{processed_are_few}
+use Rattle.shard_node.proofs.Updates.{chain_from, or_new, count-is, newest-state-is, stamps-are, length-versions}
+use Rattle.shard_node.proofs.Keeping.{stamp_in, has-arrived, head-is, chain-is}
+
+none_mapped : {A B : Type 0} (f : A → B) (x : Option A) → option_map f x ≡ None → x ≡ None
+none_mapped f None none = refl
+none_mapped f (Some x) none = absurd cc
+
+-- What became of a message
+
+pub not_there : (x : Option Message) → is_some x ≡ false → x ≡ None
+not_there None none = refl
+not_there (Some message) none = absurd cc
+
+-- Channels
+
+after-is : (stamp : Stamp) (found : Option Message) → is_after stamp (option_map stamp_in found) ≡ is_past stamp found
+after-is stamp None = refl
+after-is stamp (Some message) = refl
+
+ready-is : (stamp : Stamp) (gate : ℕ) (log : List ShardEntry) (inbox : Incoming Message) → IsInboxOf gate log inbox → is_channel_ready stamp inbox ≡ is_ready_for stamp log gate
+ready-is stamp gate log inbox kept =
+    (λ i. is_after stamp (kept.last i) || is_after stamp (option_map stamp_in (head-is gate log inbox kept i)))
+    ∙ (λ i. after-is stamp (last_of gate log) i || after-is stamp (head_of gate log) i)
+
+turned : {A : Type 0} (ready : Bool) (x y : A) → cond ready x y ≡ cond (not ready) y x
+turned true x y = refl
+turned false x y = refl
+
+unready-from : (place : ℕ) (stamp : Stamp) (inboxes : List (Incoming Message)) (log : List ShardEntry) → ((k : ℕ) (inbox : Incoming Message) → slice_get inboxes k ≡ Some inbox → is_channel_ready stamp inbox ≡ is_ready_for stamp log (place + k)) → first_not_ready place stamp inboxes ≡ find (λ gate. not (is_ready_for stamp log gate)) (range_with_len place (length inboxes))
+unready-from place stamp [] log each = refl
+unready-from place stamp (inbox ∷ inboxes) log each =
+    let at_place : place + 0 ≡ place = omega arith in
+    let here : is_channel_ready stamp inbox ≡ is_ready_for stamp log place = each 0 inbox refl ∙ ap (is_ready_for stamp log) at_place in
+    let rest : first_not_ready (place + 1) stamp inboxes ≡ find (λ gate. not (is_ready_for stamp log gate)) (range_with_len (place + 1) (length inboxes)) =
+    unready-from (place + 1) stamp inboxes log (λ k one at. each (suc k) one at ∙ ap (is_ready_for stamp log) (omega arith)) in
+    (λ i. cond (here i) (rest i) (Some place)) ∙ turned (is_ready_for stamp log place) (find (λ gate. not (is_ready_for stamp log gate)) (range_with_len (place + 1) (length inboxes))) (Some place)
+
+module _ (gates : ℕ) (inboxes : List (Incoming Message)) (chains : Chains) (log : List ShardEntry) (kept : IsReplayOf gates inboxes chains log) where
+  -- the inbox of a gatekeeper is in its place
+  pub at_gate : (gate : ℕ) (inbox : Incoming Message) → gate < gates → inbox ≡ get_or inboxes gate inbox → slice_get inboxes gate ≡ Some inbox
+  at_gate gate inbox below is = let count = kept.count in slice_get_read inboxes _ gate inbox refl (omega (arith, below, count)) is
+
+  pub arrived-is : (gate number : ℕ) (inbox : Incoming Message) → slice_get inboxes gate ≡ Some inbox → 1 ≤ number → has_arrived number inbox ≡ is_some (arrived_at gate number log)
+  arrived-is gate number inbox at some = has-arrived gate log inbox (kept.channels gate inbox at) number some
+
+  pub unready-is : (stamp : Stamp) → first_not_ready 0 stamp inboxes ≡ first_unready gates stamp log
+  unready-is stamp =
+      unready-from 0 stamp inboxes log (λ k inbox at. ready-is stamp k log inbox (kept.channels k inbox at) ∙ ap (is_ready_for stamp log) (omega arith))
+      ∙ ap (λ n. find (λ gate. not (is_ready_for stamp log gate)) (range_with_len 0 n)) kept.count
+
+  pub inbox-head : (gate : ℕ) (inbox : Incoming Message) → slice_get inboxes gate ≡ Some inbox → incoming.head_of inbox ≡ head_of gate log
+  inbox-head gate inbox at = head-is gate log inbox (kept.channels gate inbox at)
+
+  -- its next number is one more than what was processed, which the log bounds
+  pub number-is : (gate : ℕ) (inbox : Incoming Message) → slice_get inboxes gate ≡ Some inbox → inbox.processed ≡ processed_count gate log
+  number-is gate inbox at = (kept.channels gate inbox at).processed
+
+  pub processed-few : (gate : ℕ) (inbox : Incoming Message) → slice_get inboxes gate ≡ Some inbox → inbox.processed ≤ length log
+  processed-few gate inbox at = let few = processed_are_few gate log in subst (λ n. n ≤ length log) (sym (number-is gate inbox at)) few
+
+  -- Chains
+
+  chain-from : (v : Name) → chain_of chains v ≡ chain_from (updates_of v log)
+  chain-from v = kept.chains_are v ∙ chain-is v log (kept.nothing_dropped v)
+
+  pub seen-chain : (v : Name) → chain_or_new (chain_of chains v) ≡ chain_in v log
+  seen-chain v =
+      ap chain_or_new (chain-from v)
+      ∙ or_new (updates_of v log)
+      ∙ ap (λ (dropped : ℕ). record { dropped = dropped; kept = drop dropped (versions_from None (updates_of v log)) }) (sym (kept.nothing_dropped v))
+
+  pub seen-stamps : (v : Name) → stamps_of (chain_or_new (chain_of chains v)).kept ≡ update_stamps v log
+  seen-stamps v =
+      ap (λ (chain : Option ChainView). stamps_of (chain_or_new chain).kept) (chain-from v)
+      ∙ ap (λ (chain : ChainView). stamps_of chain.kept) (or_new (updates_of v log))
+      ∙ stamps-are None (updates_of v log)
+
+  -- a program reads at most the updates that were applied
+  pub read-few : ((pairs : List Given) (program : Stamp) (updates : List Stamp) → seen_of pairs program updates ≤ length updates) → (pairs : List Given) (program : Stamp) (v : Name) → updates_read pairs program v log ≤ length (updates_of v log)
+  read-few within pairs program v =
+      let few = within pairs program (stamps_of (chain_in v log).kept) in
+      let none = kept.nothing_dropped v in
+      let stamps : stamps_of (chain_in v log).kept ≡ update_stamps v log = ap (λ (chain : ChainView). stamps_of chain.kept) (sym (seen-chain v)) ∙ seen-stamps v in
+      let long : length (stamps_of (chain_in v log).kept) ≡ length (updates_of v log) = ap length stamps ∙ length-map (updates_of v log) (λ (update : Update). update.stamp) in
+      omega (arith, few, none, long)
+
+  count-at : (v : Name) → update_count (chain_or_new (chain_of chains v)) ≡ length (updates_of v log)
+  count-at v = ap (λ (chain : Option ChainView). update_count (chain_or_new chain)) (chain-from v) ∙ count-is (updates_of v log)
+
+  pub kept-is : (v : Name) → length (chain_or_new (chain_of chains v)).kept ≡ kept_of v log
+  kept-is v =
+      let long = length-versions None (updates_of v log) in
+      let none = kept.nothing_dropped v in
+      ap (λ (chain : Option ChainView). length (chain_or_new chain).kept) (chain-from v)
+      ∙ ap (λ (chain : ChainView). length chain.kept) (or_new (updates_of v log))
+      ∙ omega (arith, long, none)
+
+  -- A head
+
+  pub waits-is : (head : Message) → first_differing chains head.parts ≡ waits_at head log
+  waits-is head = (λ i. option_map (λ (part : Part). part.vertex) (find (λ (part : Part). not (part.before == count-at part.vertex i)) head.parts))
+
+  -- the newest state of a vertex is that after its updates
+  pub state-at : (v : Name) → newest_state (chain_or_new (chain_of chains v)).kept ≡ state_of_updates (updates_of v log)
+  state-at v = ap (λ (chain : Option ChainView). newest_state (chain_or_new chain).kept) (chain-from v) ∙ newest-state-is (updates_of v log)
+
+  -- a head that doesn't wait, and whose operations pass, has the next updates of its vertices
+  pub next-updates : (gate : ℕ) (head : Message) → head_of gate log ≡ Some head → waits_at head log ≡ None → PassesAt log head → AreNextUpdates chains head.parts
+  next-updates gate head is none passes =
+      let takable = kept.takable gate (processed_count gate log + 1) head is in
+      record {
+        apart = takable.apart;
+        next = λ k d below. record {
+          count = counted k d below;
+          small = takable.small k d below;
+          passes = subst (λ (state : State). IsTrue (none_refused (get_or head.parts k d).ops state)) (sym (state-at (get_or head.parts k d).vertex)) (passes k d below);
+        };
+      }
+    where
+      counted : (k : ℕ) (d : Part) → k < length head.parts → (get_or head.parts k d).before ≡ update_count (chain_or_new (chain_of chains (get_or head.parts k d).vertex))
+      counted k d below =
+          let part = get_or head.parts k d in
+          let found : find (λ (each : Part). not (each.before == length (updates_of each.vertex log))) head.parts ≡ None = none_mapped (λ (each : Part). each.vertex) (find (λ (each : Part). not (each.before == length (updates_of each.vertex log))) head.parts) none in
+          elim (eqb_tells part.before (length (updates_of part.vertex log))) [
+            | inl same ↦ same.1 ∙ sym (count-at part.vertex)
+            | inr differ ↦ absurd (find_lacks (λ (each : Part). not (each.before == length (updates_of each.vertex log))) head.parts part found (All-contains_itself head.parts k d below) (ap not differ.0))
+          ]

@@ -1,0 +1,58 @@
+-- What a shard keeps beside its log. No public contract cites this.
+use Rattle.std.specs.Prelude.{◌≡◌, ℕ, ◌+◌, ◌<◌, ◌≤◌, ◌==◌, ◌||◌, Bool, false, not, if◌then◌else◌, List, [], ◌∷◌, length, slice_get, Option, None, Some, IsSome, Contains}
+use Rattle.std.specs.Option.{option_map}
+use Rattle.std.specs.List.{find}
+use Rattle.graph_ops.specs.declared.part.Part.{Part}
+use Rattle.vector_stamp.specs.declared.clock.Stamp.{Stamp}
+use Rattle.vector_stamp.specs.Order.{stamp_before}
+use Rattle.version_chain.specs.Chains.{update_count}
+use Rattle.weave_data.specs.declared.name.Name.{Name}
+use Rattle.shard_queue.specs.Incoming.{Incoming, head_of, waiting_at}
+use Rattle.version_graph.specs.Graphs.{Chains, chain_of, chain_or_new}
+use Rattle.weave_entries.specs.declared.message.Message.{Message}
+use Rattle.weave_entries.specs.declared.shard_log.ShardEntry.{ShardEntry}
+use Rattle.weave_entries.specs.ShardReplay.{arrived_at, processed_of, processed_count, last_of, dropped_from}
+use Rattle.shard_node.specs.Shards.{chain_in_if, IsTakable}
+use Rattle.shard_node.specs.Rules.{IsShardLog}
+
+-- the first vertex of these parts whose count is not the number of updates that its chain has
+abbrev pub first_differing : Chains → List Part → Option Name
+first_differing chains parts = option_map (λ (part : Part). part.vertex) (find (λ (part : Part). not (part.before == update_count (chain_or_new (chain_of chains part.vertex)))) parts)
+
+-- there is a stamp, and it is after this one
+abbrev pub is_after : Stamp → Option Stamp → Bool
+is_after stamp None = false
+is_after stamp (Some other) = stamp_before stamp other
+
+-- the stamp of the last processed message of a channel, or of its head, is after this one
+abbrev pub is_channel_ready : Stamp → Incoming Message → Bool
+is_channel_ready stamp inbox = is_after stamp inbox.last || is_after stamp (option_map (λ (message : Message). message.stamp) (head_of inbox))
+
+-- the place, counted on from this one, of the first channel that is not ready
+abbrev pub first_not_ready : ℕ → Stamp → List (Incoming Message) → Option ℕ
+first_not_ready place stamp [] = None
+first_not_ready place stamp (inbox ∷ inboxes) = if is_channel_ready stamp inbox then first_not_ready (place + 1) stamp inboxes else Some place
+
+-- an inbox is that of a gatekeeper's channel at the end of a log
+pub record IsInboxOf (gate : ℕ) (log : List ShardEntry) (inbox : Incoming Message) : Type 0 where
+  pub processed : inbox.processed ≡ processed_count gate log
+  pub last : inbox.last ≡ option_map (λ (message : Message). message.stamp) (last_of gate log)
+  pub waits : (number : ℕ) → processed_count gate log < number → waiting_at number inbox ≡ arrived_at gate number log
+  pub arrived : (number : ℕ) → 1 ≤ number → number ≤ processed_count gate log → IsSome (arrived_at gate number log)
+  pub from_one : arrived_at gate 0 log ≡ None
+
+-- each message that was processed had arrived
+abbrev pub ProcessedArrived : List ShardEntry → Type 0
+ProcessedArrived log = (of : ℕ × ℕ) → Contains (processed_of log) of → IsSome (arrived_at of.0 of.1 log)
+
+-- all that it keeps is what the replay of the log gives
+pub record IsReplayOf (gates : ℕ) (inboxes : List (Incoming Message)) (chains : Chains) (log : List ShardEntry) : Type 0 where
+  pub some_gate : 1 ≤ gates
+  pub few_gates : gates ≤ 8
+  pub count : length inboxes ≡ gates
+  pub channels : (gate : ℕ) (inbox : Incoming Message) → slice_get inboxes gate ≡ Some inbox → IsInboxOf gate log inbox
+  pub chains_are : (v : Name) → chain_of chains v ≡ chain_in_if v log
+  pub takable : (gate number : ℕ) (message : Message) → arrived_at gate number log ≡ Some message → IsTakable message
+  pub all_arrived : ProcessedArrived log
+  pub nothing_dropped : (v : Name) → dropped_from v [] log 0 ≡ 0
+  pub rules : IsShardLog gates log

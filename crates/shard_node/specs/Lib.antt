@@ -1,0 +1,4 @@
+pub mod Keeping
+pub mod Rules
+pub mod Shards
+pub mod TestWords

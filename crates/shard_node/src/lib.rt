@@ -1,0 +1,16 @@
+//! Shards: they take messages in any order, process each channel in number order, and give programs the state of a vertex that they see (Weaver, PVLDB 9(11) 2016).
+//!
+//! A `Shard` keeps a log, and contracts see nothing of it but that log, its number and the number of gatekeepers. What waits, what was processed and the versions of each vertex are what the replay of the log gives.
+#![tactic(auto)]
+
+mod channels;
+mod fault;
+pub mod laws;
+mod shard;
+#[cfg(test)]
+mod tests;
+mod turns;
+
+pub use fault::{ApplyFault, VisitFault};
+pub use shard::Shard;
+pub use shard_queue::Arrival;
