@@ -1,0 +1,18 @@
+-- What the lemmas on an account are given: the account, its script's limits, and the laws of the crates below.
+use Rattle.vector_stamp.specs.Precedence.{IsAcyclic}
+use Rattle.program_defs.specs.declared.script.Script.{Script}
+use Rattle.weave_account.specs.declared.account.Account.{Account}
+use Rattle.weave_account.specs.Account.{pairs_in}
+use Rattle.weave_account.specs.IsAccount.{IsAccount}
+use Rattle.weave_account.specs.Limits.{IsWithinLimits}
+use Rattle.weave_account.specs.LowerLaws.{LowerLaws}
+
+-- an account of a script within its limits
+pub record Basis (script : Script) (account : Account) : Type 0 where
+  pub laws : LowerLaws
+  pub limits : IsWithinLimits script
+  pub is : IsAccount script account
+
+-- nothing precedes itself
+pub acyclic : (script : Script) (account : Account) → Basis script account → IsAcyclic (pairs_in account)
+acyclic script account basis = basis.laws.acyclic account.oracle basis.is.oracle.log

@@ -1,0 +1,189 @@
+-- Logs that are no account, each refused by one clause.
+use Rattle.std.proofs.Common.{◌≡◌, ℕ, true, false, List, [], ◌∷◌, ◌++◌, map, length, Contains, IsTrue, Some, inl, inr, refl, sym, ap, subst, ◌∙◌, arith}
+use Rattle.std.specs.List.{flat_map}
+use Rattle.proof_base.proofs.Members.{has_none, has_read, has_head, only}
+use Rattle.vector_stamp.specs.declared.clock.Stamp.{Stamp}
+use Rattle.vector_stamp.specs.Precedence.{precedes}
+use Rattle.graph_ops.specs.declared.part.Part.{Part}
+use Rattle.weave_entries.specs.declared.gate_log.GateEntry.{GateEntry}
+use Rattle.weave_entries.specs.declared.gate_log.GateDeed.TheVariants.{BeganProgram, Heard, Sent}
+use Rattle.weave_entries.specs.declared.message.Addressed.{Addressed}
+use Rattle.weave_entries.specs.declared.oracle_log.OracleEntry.{OracleEntry}
+use Rattle.weave_entries.specs.declared.oracle_log.OracleDeed.TheVariants.{Settled}
+use Rattle.weave_entries.specs.declared.shard_log.ShardDeed.TheVariants.{Collected, Visited}
+use Rattle.weave_entries.specs.declared.store_log.StoreEntry.{StoreEntry}
+use Rattle.weave_entries.specs.ShardReplay.{Visit, visits_of}
+use Rattle.weave_entries.specs.StoreReplay.{Commit, Judgement, judged_by, commit_by, commits_of}
+use Rattle.weave_entries.specs.StoreRule.{asked_stamps, lasts_of}
+use Rattle.weave_entries.specs.Sending.{messages_of}
+use Rattle.weave_account.specs.declared.account.Account.{Account}
+use Rattle.weave_account.specs.Account.{Precedence, shard_log}
+use Rattle.weave_account.specs.IsAccount.{IsAccount}
+use Rattle.weave_account.specs.LowerLaws.{LowerLaws}
+use Rattle.weave_account.proofs.ExampleReader as reader
+use Rattle.weave_account.proofs.ExampleWriters as writers
+use Rattle.std.proofs.lemmas.List.{length-append}
+use Rattle.std.specs.Prelude.{codes}
+use Rattle.graph_ops.specs.declared.op.Op.TheVariants.{Create, Set}
+use Rattle.std.proofs.Common.{zero, suc}
+use Rattle.weave_entries.specs.declared.shard_log.ShardEntry.{ShardEntry}
+use Rattle.std.proofs.Common.{◌≤◌}
+use Rattle.std.proofs.Common.{None}
+
+-- Of two unordered writers
+
+-- the second commits, and the oracle has no pair
+pub no-pair : LowerLaws → ¬ IsAccount writers.script (record writers.account { oracle = [] })
+no-pair laws is =
+    let before : Precedence (record writers.account { oracle = [] }) writers.x writers.y = (is.store.judges (writers.j1 ∷ []) writers.j2 [] refl).verdict.after_last writers.v refl _ refl in
+    let test : IsTrue (precedes [] writers.x writers.y) = (laws.decided [] writers.x writers.y).0 before in
+    cc
+
+-- the oracle was asked of a stamp beside that of the last commit
+abbrev zero-stamp : Stamp
+zero-stamp = record { home = 0; clock = writers.clock 0 0 }
+
+abbrev asked-of-two : OracleEntry
+asked-of-two = record { author = 0; deed = Settled (zero-stamp ∷ writers.x ∷ []) writers.y (1 ∷ []) }
+
+same-head : {A : Type 0} (x y : A) → x ∷ [] ≡ y ∷ [] → x ≡ y
+same-head x y e = cc
+
+pub other-earlier : ¬ IsAccount writers.script (record writers.account { oracle = asked-of-two ∷ [] })
+other-earlier is = elim (is.oracle.asked asked-of-two (has_head asked-of-two [])) [
+  | inl commit ↦ by-commit commit.before commit.entry commit.after commit.at commit.commit commit.commit_is commit.later_is commit.earlier_are
+  | inr visit ↦ by-visit visit.shard visit.visit visit.visited
+]
+  where
+    by-commit : (before : List StoreEntry) (entry : StoreEntry) (after : List StoreEntry) → writers.j1 ∷ writers.j2 ∷ [] ≡ before ++ entry ∷ after → (commit : Commit) → commit_by entry.deed ≡ commit ∷ []
+        → writers.y ≡ commit.stamp → zero-stamp ∷ writers.x ∷ [] ≡ asked_stamps commit.stamp (lasts_of commit.ops (commits_of before)) → ⊥
+    by-commit [] entry after at commit commit-is later earlier =
+        let entry-is : writers.j1 ≡ entry = cc in
+        let its = subst (λ (e : StoreEntry). commit_by e.deed ≡ commit ∷ []) (sym entry-is) commit-is in
+        let commit-is : record { request = 0; stamp = writers.x; ops = Create writers.v ∷ [] } ≡ commit = same-head _ _ its in
+        let homes : writers.y.home ≡ writers.x.home = ap (λ (s : Stamp). s.home) (later ∙ ap (λ (c : Commit). c.stamp) (sym commit-is)) in
+        absurd (omega (arith, homes))
+    by-commit (first ∷ []) entry after at commit commit-is later earlier =
+        let first-is : writers.j1 ≡ first = cc in
+        let entry-is : writers.j2 ≡ entry = cc in
+        let its = subst (λ (e : StoreEntry). commit_by e.deed ≡ commit ∷ []) (sym entry-is) commit-is in
+        let commit-is : record { request = 1; stamp = writers.y; ops = Set writers.v (codes "k") (codes "x") ∷ [] } ≡ commit = same-head _ _ its in
+        let asked : zero-stamp ∷ writers.x ∷ [] ≡ writers.x ∷ [] = earlier ∙ ap (λ (c : Commit). asked_stamps c.stamp (lasts_of c.ops (commits_of (first ∷ [])))) (sym commit-is) ∙ ap (λ f. asked_stamps writers.y (lasts_of (Set writers.v (codes "k") (codes "x") ∷ []) (commits_of (f ∷ [])))) (sym first-is) in
+        let two : 2 ≡ 1 = ap (λ (xs : List Stamp). length xs) asked in
+        absurd (omega (arith, two))
+    by-commit (first ∷ second ∷ before) entry after at commit commit-is later earlier = let long = ap length at in let more = length-append before (entry ∷ after) in absurd (omega (arith, long, more))
+
+    by-visit : (shard : ℕ) (visit : Visit) → Contains (visits_of (shard_log writers.account shard)) visit → ⊥
+    by-visit zero visit h = has_none visit h
+    by-visit (suc shard) visit h = has_none visit h
+
+-- what one transaction sends is made from the other one's operations
+abbrev of-other : GateEntry
+of-other = record { author = 0; deed = Sent 0 (record { shard = 0; number = 1; message = record writers.m2 { request = Some 0; stamp = writers.x; low = writers.clock 1 0 } } ∷ []) }
+
+pub others-verdict : ¬ IsAccount writers.script (record writers.account { gates = (writers.g1 ∷ of-other ∷ []) ∷ (writers.h1 ∷ writers.h2 ∷ []) ∷ [] })
+others-verdict is =
+    let sends = is.channels 0 (writers.g1 ∷ []) of-other [] refl in
+    elim (has_read (judged_by 0 writers.j1.deed) (judged_by 0 writers.j2.deed ∷ []) sends.judged sends.is_judged) [
+      | inl first ↦
+          let messages = sends.messages_are ∙ ap (λ (j : Judgement). messages_of 1 (writers.g1 ∷ []) (record { author = 0; request = 0; stamp = j.stamp }) j.ops j.verdict) (sym first) in
+          let counts = ap (flat_map (λ (a : Addressed). map (λ (part : Part). part.before) a.message.parts)) messages in
+          cc
+      | inr second ↦
+          let its = only (judged_by 0 writers.j2.deed) sends.judged second in
+          let request : (judged_by 0 writers.j2.deed).request ≡ 0 = ap (λ (j : Judgement). j.request) its ∙ sends.request_is in
+          absurd (omega (arith, request))
+    ]
+
+-- Of a program that reads a transaction
+
+-- the program reads the vertex before its update, which is before the program
+abbrev skips : Account
+skips = record reader.account { shards = (reader.s1 ∷ reader.s2 ∷ reader.s3 ∷ record { author = 0; deed = Visited 1 (reader.stamp 2) reader.v 0 false } ∷ []) ∷ [] }
+
+pub too-early : LowerLaws → ¬ IsAccount reader.script skips
+too-early laws is =
+    let before : Precedence skips (reader.stamp 2) (reader.stamp 1) = (is.shards.deeds 0 (reader.s1 ∷ reader.s2 ∷ reader.s3 ∷ []) (record { author = 0; deed = Visited 1 (reader.stamp 2) reader.v 0 false }) [] refl).before_skipped _ refl in
+    let test : IsTrue (precedes [] (reader.stamp 2) (reader.stamp 1)) = (laws.decided [] (reader.stamp 2) (reader.stamp 1)).0 before in
+    cc
+
+-- nothing after the program has come from the gatekeeper
+abbrev unready : Account
+unready = record reader.account { shards = (reader.s1 ∷ reader.s2 ∷ reader.s4 ∷ []) ∷ [] }
+
+pub not-ready : ¬ IsAccount reader.script unready
+not-ready is = let ready = (is.shards.deeds 0 (reader.s1 ∷ reader.s2 ∷ []) reader.s4 [] refl).ready in cc
+
+-- the same message is applied again
+abbrev again : Account
+again = record reader.account { shards = (reader.s1 ∷ reader.s2 ∷ reader.s2 ∷ []) ∷ [] }
+
+pub applied-twice : ¬ IsAccount reader.script again
+applied-twice is = let number = (is.shards.deeds 0 (reader.s1 ∷ reader.s2 ∷ []) reader.s2 [] refl).number_is in cc
+
+-- the visit is marked as settled, and the oracle has no entry for it
+abbrev marked : Account
+marked = record reader.account { shards = (reader.s1 ∷ reader.s2 ∷ reader.s3 ∷ record { author = 0; deed = Visited 1 (reader.stamp 2) reader.v 1 true } ∷ []) ∷ [] }
+
+pub no-entry : ¬ IsAccount reader.script marked
+no-entry is =
+    let its = is.oracle.marked 0 (record { author = 0; request = 1; stamp = reader.stamp 2; vertex = reader.v; updates = 1; settled = true }) (has_head _ []) refl in
+    has_none its.entry its.is_there
+
+-- the program is finished, and has not read its vertex
+abbrev unread : Account
+unread = record reader.account { shards = (reader.s1 ∷ reader.s2 ∷ reader.s3 ∷ []) ∷ [] }
+
+pub finished-early : ¬ IsAccount reader.script unread
+finished-early is = let next = (is.programs 1 _ _ refl refl).whole refl in cc
+
+-- it is finished, and has no reply
+abbrev unreplied : Account
+unreplied = record reader.account { sessions = (reader.b1 ∷ reader.b2 ∷ reader.b3 ∷ []) ∷ [] }
+
+pub finished-unreplied : ¬ IsAccount reader.script unreplied
+finished-unreplied is = let replied = is.sessions.finished_are_replied 1 _ refl refl refl in cc
+
+-- the transaction begins as a program
+abbrev of-wrong-kind : GateEntry
+of-wrong-kind = record { author = 0; deed = BeganProgram 0 (reader.stamp 1) }
+
+pub wrong-kind : ¬ IsAccount reader.script (record reader.account { gates = (of-wrong-kind ∷ []) ∷ [] })
+wrong-kind is = let own = (is.gatekeepers.begins 0 [] of-wrong-kind [] refl).own in cc
+
+-- a part is left out of a message
+abbrev without-part : GateEntry
+without-part = record { author = 0; deed = Sent 0 (record { shard = 0; number = 1; message = record reader.sent { parts = [] } } ∷ []) }
+
+pub part-left-out : ¬ IsAccount reader.script (record reader.account { gates = (reader.g1 ∷ without-part ∷ []) ∷ [] })
+part-left-out is =
+    let sends = is.channels 0 (reader.g1 ∷ []) without-part [] refl in
+    let its = only (judged_by 0 reader.judged.deed) sends.judged sends.is_judged in
+    let messages = sends.messages_are ∙ ap (λ (j : Judgement). messages_of 1 (reader.g1 ∷ []) (record { author = 0; request = 0; stamp = j.stamp }) j.ops j.verdict) (sym its) in
+    let parts = ap (map (λ (a : Addressed). length a.message.parts)) messages in
+    cc
+
+-- the same message arrives again
+abbrev arrives-again : Account
+arrives-again = record reader.account { shards = (reader.s1 ∷ reader.s1 ∷ []) ∷ [] }
+
+pub arrived-twice : ¬ IsAccount reader.script arrives-again
+arrived-twice is = let new = (is.shards.deeds 0 (reader.s1 ∷ []) reader.s1 [] refl).new in cc
+
+-- a shard collects below a bound, though nothing was processed
+abbrev collects : ShardEntry
+collects = record { author = 0; deed = Collected (Some (reader.clock 1)) }
+
+pub other-bound : ¬ IsAccount reader.script (record reader.account { shards = (collects ∷ []) ∷ [] })
+other-bound is = let bound : Some (reader.clock 1) ≡ None = is.shards.deeds 0 [] collects [] refl in cc
+
+-- a transaction has its reply, and was not sent
+pub replied-unsent : ¬ IsAccount reader.script (record reader.account { gates = (reader.g1 ∷ []) ∷ [] })
+replied-unsent is = let ended = is.sessions.replies 0 (reader.b1 ∷ []) reader.b2 (reader.b3 ∷ reader.b4 ∷ []) refl in cc
+
+-- a gatekeeper hears a clock that counts events which were not made
+abbrev hears-more : GateEntry
+hears-more = record { author = 0; deed = Heard (reader.clock 5) }
+
+pub unknown-clock : ¬ IsAccount reader.script (record reader.account { gates = (hears-more ∷ []) ∷ [] })
+unknown-clock is = let counts : 5 ≤ 0 = (is.clocks.known 0 (reader.clock 5) (has_head (reader.clock 5) [])).counts 0 in absurd (omega (arith, counts))
