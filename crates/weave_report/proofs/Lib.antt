@@ -17,4 +17,5 @@ pub mod ReportClean
 pub mod ReportComesBack
 pub mod FirstRefused
 pub mod ReadAnswersLaws
+pub mod FirstWords
 pub mod VerdictForms

@@ -12,6 +12,7 @@ pub mod ReadingStates
 pub mod ReadingReplies
 pub mod Reading
 pub mod FirstRefusal
+pub mod JudgedWords
 pub mod TextOf
 pub mod TextLaws
 pub mod ReadAnswers

@@ -297,3 +297,24 @@ fn tells_what_is_not_done_and_each_step(rt: HostRuntime) {
         b"report 1\ntx t unbegun\nprog p unbegun\ntx t 1000000:7:9,8,7,6,5,4,3,2 begun\nprog p 1000000:7:9,8,7,6,5,4,3,2 running\norder\ndid 1 ok\ndid 2 twice\ndid 3 early\ndid 4 busy\ndid 5 idle\ndid 6 old\ndid 7 unknown\ndid 8 repeat\ndid 9 empty\ndid 10 waits v\ndid 11 again 15 7\nend\n",
     );
 }
+
+// A commit of three `get`s, and requests that the script doesn't have, whose names are empty.
+#[test]
+fn tells_several_gets_and_unknown_requests(rt: HostRuntime) {
+    let alloc = rt.alloc();
+    let mut gots = Items::new(alloc);
+    for op in 1..4 {
+        gots.push(Got { op, state: None }).expect(&rt, "memory");
+    }
+    let commit = reply(0, 0, [1, 0, 0, 0, 0, 0, 0, 0], committed(1, gots));
+    let replies = list(&rt, alloc, [commit, unbegun(9)]);
+    let script = script(alloc, 1, list(&rt, alloc, [change(&rt, alloc, "t")]));
+    let report = report(alloc, replies, list(&rt, alloc, [0, 9, 0]));
+    assert_printed(
+        &rt,
+        alloc,
+        &script,
+        &report,
+        b"report 1\ntx t 0:0:1 committed 1\ngot 1 absent\ngot 2 absent\ngot 3 absent\ntx  unbegun\norder t  t\nend\n",
+    );
+}

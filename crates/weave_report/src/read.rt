@@ -4,11 +4,11 @@ ghost use Rattle.program_defs.specs.declared.script.Script.{Script};
 ghost use Rattle.report_rules.specs.declared.report.Report.{Report};
 ghost use Rattle.weave_report.specs.FirstRefusal.{IsFirstRefusal};
 ghost use Rattle.weave_report.specs.ReadAnswers.{Answers, GivesAt, IfRefused, IfRefusedAs, IsReadAs};
-ghost use Rattle.weave_report.specs.Reading.{after_any_line, after_lines, report_in, start, whole_report};
+ghost use Rattle.weave_report.specs.Reading.{after_line, after_lines, report_in, start, whole_report};
 ghost use Rattle.report_rules.specs.ReportOf.{IsReportOf};
 ghost use Rattle.weave_report.specs.ReportText.{report_text};
 ghost use Rattle.weave_report.specs.TextOf.{IsReportTextOf, IsTypedReport, HasDistinctNames};
-ghost use Rattle.weave_text.specs.Cutting.{lines_of};
+ghost use Rattle.weave_text.specs.Cutting.{lines_of, words_of};
 
 mod fields;
 mod lines;
@@ -89,26 +89,25 @@ fn after_lines(
     let mut number = first_line;
     let mut left = bytes;
     while let Some((line, rest)) = weave_text::first_line(left) {
-        reading = after_any_line(alloc, script, reading, number, line)?;
+        if !is_skipped(line) {
+            reading = after_kept_line(alloc, script, reading, number, line)?;
+        }
         number += 1;
         left = rest;
     }
     whole_report(number, reading)
 }
 
-// What is read behind one more line of this number, which may be one that is passed over.
-fn after_any_line(
+// What is read behind one more line of this number, which isn't one that is passed over.
+fn after_kept_line(
     alloc: Global,
     script: &Named,
     reading: Reading,
     number: u32,
     line: &[u8],
 ) -> Result<Reading, ReportFault>
-    ensures { GivesAt number result (after_any_line script.now reading line.now) }
+    ensures { GivesAt number result (after_line script.now reading (words_of line.now)) }
 {
-    if is_skipped(line) {
-        return Ok(reading);
-    }
     match after_line(alloc, script, reading, line) {
         Ok(next) => Ok(next),
         Err(LineFault::Memory) => Err(ReportFault::Memory),

@@ -692,3 +692,54 @@ fn lines_are_counted_from_the_first_number(rt: HostRuntime) {
         assert_eq!(rt; fault, Some(ReportFault::Refused { line, cause }));
     }
 }
+
+fn empty_script(alloc: Global) -> Script
+    ensures { HasDistinctNames result }
+{
+    Script {
+        gates: 1,
+        shards: 1,
+        requests: Items::new(alloc),
+        phases: Items::new(alloc),
+        steps: None,
+    }
+}
+
+// Three `get`s, and another operation between them.
+fn three_gets(rt: &impl Abort, alloc: Global) -> Items<Op>
+    ensures { length result ≡ 4 }
+{
+    let v = name(rt, b"v");
+    let mut ops = Items::new(alloc);
+    ops.push(Op::Get { v }).expect(rt, "memory");
+    ops.push(Op::Create { v }).expect(rt, "memory");
+    ops.push(Op::Get { v }).expect(rt, "memory");
+    ops.push(Op::Get { v }).expect(rt, "memory");
+    ops
+}
+
+// One request, a transaction of three `get`s.
+fn script_of_gets(rt: &impl Abort, alloc: Global) -> Script
+    ensures { HasDistinctNames result }
+{
+    let t = request(rt, b"t", Work::Change(three_gets(rt, alloc)));
+    let requests = Vec::from_array(alloc, [t]).expect(rt, "memory");
+    Script {
+        gates: 1,
+        shards: 1,
+        requests: Items::from_vec(requests),
+        phases: Items::new(alloc),
+        steps: None,
+    }
+}
+
+#[test]
+fn reports_of_small_scripts_are_read_and_printed_again(rt: HostRuntime) {
+    let alloc = rt.alloc();
+    let empty = empty_script(alloc);
+    assert_read(&rt, alloc, &empty, b"report 1\norder\nend\n");
+    let script = script_of_gets(&rt, alloc);
+    let text =
+        b"report 1\ntx t 0:0:1 committed 1\ngot 1 absent\ngot 3 record a=b\ngot 4 record e>v\norder t\nend\n";
+    assert_read(&rt, alloc, &script, text);
+}

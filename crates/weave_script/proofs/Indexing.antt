@@ -1,5 +1,5 @@
 -- The index of requests, as it grows.
-use Rattle.std.proofs.Common.{◌≡◌, ℕ, ◌+◌, suc, Bool, true, false, cond, ◌||◌, List, [], ◌∷◌, ◌++◌, length, Option, Some, None, refl, sym, ap, ◌∙◌, subst, arith}
+use Rattle.std.proofs.Common.{◌≡◌, ℕ, ◌+◌, suc, Bool, true, false, cond, ◌||◌, List, [], ◌∷◌, ◌++◌, length, Option, Some, None, refl, sym, ap, ◌∙◌, subst, arith, add-one}
 use Rattle.std.specs.Prelude.{is_some, count_by}
 use Rattle.std.specs.List.{flat_map}
 use Rattle.std.proofs.lemmas.Grind.{flat_map-append}
@@ -7,7 +7,7 @@ use Rattle.std.proofs.lemmas.List.{append-nil}
 use Rattle.std.proofs.lemmas.List.Folds.{list_any-append}
 use Rattle.std.proofs.lemmas.List.Sums.{fold-append, sum_by-append}
 use Rattle.weave_data.specs.Names.{same_name, one_name}
-use Rattle.weave_data.specs.Pairs.{at_key, has, put}
+use Rattle.weave_data.specs.Pairs.{at_key, has}
 use Rattle.weave_data.specs.declared.name.Name.{Name}
 use Rattle.graph_ops.specs.Mentions.{is_among, with_name}
 use Rattle.graph_ops.specs.declared.op.Op.{Op}
@@ -20,7 +20,11 @@ use Rattle.weave_script.specs.Limits.{with_names, vertices_of, vertices_of_work,
 use Rattle.weave_script.specs.RequestLines.{request_of}
 use Rattle.weave_script.specs.StepLines.{place_of}
 use Rattle.weave_script.specs.declared.reading.Opening.{Opening}
-use Rattle.weave_script.proofs.Keys.{same_both_ways, at_key-put, length-put, position_from-push_yes, position_from-push_no, position_from-last}
+use Rattle.weave_script.proofs.Keys.{same_both_ways, position_from-push_yes, position_from-push_no, position_from-last}
+
+-- the second table is the first with this value at a name
+abbrev pub Writes : {X : Type 0} → Name → X → List (List ℕ × X) → List (List ℕ × X) → Type 0
+Writes name v pairs after = (other : Name) → at_key other after ≡ cond (same_name name other) (Some v) (at_key other pairs)
 
 -- ---- sets of names
 
@@ -35,17 +39,20 @@ module _ {X : Type 0} where
   has_put false v found true e = e
   has_put false v found false e = e
 
+  pub one_longer : (name : Name) (found : Option X) (pairs after : List (List ℕ × X)) → found ≡ at_key name pairs → length after ≡ length pairs + cond (is_some found) 0 1 → has name pairs ≡ false → length after ≡ length pairs + 1
+  one_longer name found pairs after is len new = len ∙ ap (λ b. length pairs + cond b 0 1) (ap is_some is ∙ new)
+
   -- a new name was put
-  pub set_put : (pairs : List (List ℕ × X)) (names : List Name) (name : Name) (v : X) → IsSetOf pairs names → has name pairs ≡ false → IsSetOf (put name v pairs) (with_name name names)
-  set_put pairs names name v set new =
+  pub set_put : (pairs after : List (List ℕ × X)) (names : List Name) (name : Name) (v : X) → Writes name v pairs after → length after ≡ length pairs + 1 → IsSetOf pairs names → has name pairs ≡ false → IsSetOf after (with_name name names)
+  set_put pairs after names name v writes more set new =
       let fresh : is_among names name ≡ false = sym (set.among name) ∙ new in
-      subst (IsSetOf (put name v pairs)) (ap (λ b. cond b names (names ++ name ∷ [])) (sym fresh)) (record {
+      subst (IsSetOf after) (ap (λ b. cond b names (names ++ name ∷ [])) (sym fresh)) (record {
         among = λ other.
-            ap is_some (at_key-put name other v pairs)
+            ap is_some (writes other ∙ ap (λ b. cond b (Some v) (at_key other pairs)) (same_both_ways name other))
             ∙ has_put (same_name other name) v (at_key other pairs) (is_among names other) (set.among other)
             ∙ ap (λ b. is_among names other || (b || false)) (same_both_ways other name)
             ∙ sym (list_any-append (λ n. same_name n other) names (name ∷ []));
-        count = length-put name v pairs (present (at_key name pairs) new) ∙ ap suc set.count ∙ sym (length_one_more names);
+        count = more ∙ add-one (length pairs) ∙ ap suc set.count ∙ sym (length_one_more names);
       })
     where
       length_one_more : (xs : List Name) → length (xs ++ name ∷ []) ≡ suc (length xs)
@@ -59,9 +66,9 @@ module _ {X : Type 0} where
 -- ---- places
 
 -- a new name was put with the place behind all
-pub places_put : (pairs : List (List ℕ × ℕ)) (requests : List Request) (name : Name) (place : ℕ) (request : Request)
-    → IsPlaces pairs requests → IsNew name place requests → request.name ≡ name → IsPlaces (put name place pairs) (requests ++ request ∷ [])
-places_put pairs requests name place request places new named other = at_key-put name other place pairs ∙ go (same_name other name) refl
+pub places_put : (pairs after : List (List ℕ × ℕ)) (requests : List Request) (name : Name) (place : ℕ) (request : Request)
+    → Writes name place pairs after → IsPlaces pairs requests → IsNew name place requests → request.name ≡ name → IsPlaces after (requests ++ request ∷ [])
+places_put pairs after requests name place request writes places new named other = writes other ∙ ap (λ b. cond b (Some place) (at_key other pairs)) (same_both_ways name other) ∙ go (same_name other name) refl
   where
     go : (b : Bool) → same_name other name ≡ b → cond b (Some place) (at_key other pairs) ≡ place_of other (requests ++ request ∷ [])
     go true h =

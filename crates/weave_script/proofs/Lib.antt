@@ -1,6 +1,7 @@
 mod Examples
 pub mod Clean
 pub mod Due
+pub mod FewWords
 pub mod FieldLaws
 pub mod FirstFault
 pub mod Forms

@@ -29,8 +29,8 @@ IsNew name place requests = (place_of name requests ≡ None) × (place ≡ leng
 
 -- the index is that of these requests
 pub record IsIndexOf (index : Index) (requests : List Request) : Type 0 where
-  pub places : IsPlaces index.places requests
-  pub vertices : IsSetOf index.vertices (vertices_of requests)
+  pub places : IsPlaces index.places.entries requests
+  pub vertices : IsSetOf index.vertices.entries (vertices_of requests)
   pub programs : index.programs ≡ programs_of requests
   pub gets : index.gets ≡ gets_of requests
 

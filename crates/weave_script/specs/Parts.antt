@@ -1,7 +1,7 @@
 -- What the reader answers of a part of a text. No public contract cites this.
 use Rattle.std.specs.Prelude.{◌≡◌, Bool, true, false, ◌&&◌, Result, Ok, Err}
-use Rattle.weave_text.specs.Cutting.{lines_of, words_of, is_skipped}
-use Rattle.weave_text.specs.Lines.{Bytes}
+use Rattle.weave_text.specs.Cutting.{lines_of}
+use Rattle.weave_text.specs.Lines.{Line}
 use Rattle.weave_script.specs.declared.fault.LineFault.{LineFault}
 use Rattle.weave_script.specs.declared.fault.LineFault.TheVariants as line_fault
 use Rattle.weave_script.specs.declared.fault.ScriptFault.{ScriptFault}
@@ -9,7 +9,7 @@ use Rattle.weave_script.specs.declared.fault.ScriptFault.TheVariants.{Refused, M
 use Rattle.weave_script.specs.declared.head.Head.{Head}
 use Rattle.weave_script.specs.declared.part.Part.{Part}
 use Rattle.weave_script.specs.declared.part.Taken.{Taken}
-use Rattle.weave_script.specs.declared.part.Taken.TheVariants.{Line, Nothing}
+use Rattle.weave_script.specs.declared.part.Taken.TheVariants as taken
 use Rattle.weave_script.specs.declared.reading.Reading.{Reading}
 use Rattle.weave_script.specs.Indexed.{IsReady}
 use Rattle.weave_script.specs.ReadText.{Fault, is_open, is_report}
@@ -22,19 +22,15 @@ GivesPart (Ok part) read = read ≡ Ok (record { reading = part.reader.reading; 
 GivesPart (Err (Refused line cause)) read = read ≡ Err (record { line = line; cause = cause })
 GivesPart (Err Memory) read = Unit {0}
 
--- the line is the first one of a report that may stand there
-abbrev pub ends_before : Bool → Reading → Bytes → Bool
-ends_before report reading line = report && is_open reading.place && is_report (words_of line)
+-- the line of these words is the first one of a report that may stand there
+abbrev pub ends_before : Bool → Reading → Line → Bool
+ends_before report reading line = report && is_open reading.place && is_report line
 
--- what a line is taken as, unless memory runs out
-abbrev pub Takes : Bool → Reading → Bytes → Result Taken LineFault → Type 0
-Takes report reading line (Ok (Line reader)) = IsReady reader × TakesLine (is_skipped line) reader.reading
-  where
-    TakesLine : Bool → Reading → Type 0
-    TakesLine true next = next ≡ reading
-    TakesLine false next = (ends_before report reading line ≡ false) × (after_line reading (words_of line) ≡ Ok next)
-Takes report reading line (Ok (Nothing reader)) = IsReady reader × (reader.reading ≡ reading) × (is_skipped line ≡ false) × (ends_before report reading line ≡ true)
-Takes report reading line (Err (line_fault.Refused cause)) = (is_skipped line ≡ false) × (ends_before report reading line ≡ false) × (after_line reading (words_of line) ≡ Err cause)
+-- what a line of these words is taken as, where it isn't skipped, unless memory runs out
+abbrev pub Takes : Bool → Reading → Line → Result Taken LineFault → Type 0
+Takes report reading line (Ok (taken.Line reader)) = IsReady reader × (ends_before report reading line ≡ false) × (after_line reading line ≡ Ok reader.reading)
+Takes report reading line (Ok (taken.Nothing reader)) = IsReady reader × (reader.reading ≡ reading) × (ends_before report reading line ≡ true)
+Takes report reading line (Err (line_fault.Refused cause)) = (ends_before report reading line ≡ false) × (after_line reading line ≡ Err cause)
 Takes report reading line (Err line_fault.Memory) = Unit {0}
 
 -- the script before a report, or the fault of the text, unless memory runs out

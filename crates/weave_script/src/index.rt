@@ -13,13 +13,14 @@ ghost use Rattle.weave_script.specs.RequestLines.{request_of};
 use graph_ops::Op;
 use program_defs::Program;
 use std::alloc::AllocError;
-use weave_data::{Name, NameMap};
+use std::collections::HashMap;
+use weave_data::Name;
 
 /// The places of the requests, the names of vertices, and how many programs and `get` there are.
 #[derive(Drop)]
 pub(crate) struct Index {
-    pub(crate) places: NameMap<u32>,
-    pub(crate) vertices: NameMap<()>,
+    pub(crate) places: HashMap<Name, u32>,
+    pub(crate) vertices: HashMap<Name, ()>,
     pub(crate) programs: usize,
     pub(crate) gets: usize,
 }
@@ -29,7 +30,7 @@ impl Index {
     pub(crate) fn add_transaction(&mut self, name: Name, place: u32) -> Result<(), AllocError>
         ensures { OnOk result ((requests : List Request) (opening : Opening) → IsIndexOf self.old requests → IsNew name place requests → opening.name ≡ name → IsIndexOf self.new (requests ++ request_of opening (Change []) ∷ [])) }
     {
-        self.places.put(name, place)?;
+        self.places.insert(name, place)?;
         Ok(())
     }
 
@@ -43,7 +44,7 @@ impl Index {
         requires { self.old.programs < 2 ^ 32 }
         ensures { OnOk result ((requests : List Request) (opening : Opening) → IsIndexOf self.old requests → IsNew name place requests → opening.name ≡ name → IsIndexOf self.new (requests ++ request_of opening (Look program.now) ∷ [])) }
     {
-        self.places.put(name, place)?;
+        self.places.insert(name, place)?;
         add_vertices_of_program(&mut self.vertices, program)?;
         self.programs += 1;
         Ok(())
@@ -63,8 +64,8 @@ impl Index {
 }
 
 /// Adds the names that stand in an operation as vertices.
-fn add_vertices_of_op(vertices: &mut NameMap<()>, op: &Op) -> Result<(), AllocError>
-    ensures { OnOk result ((names : List Name) → IsSetOf vertices.old names → IsSetOf vertices.new (with_names names (vertices_of_op op.now))) }
+fn add_vertices_of_op(vertices: &mut HashMap<Name, ()>, op: &Op) -> Result<(), AllocError>
+    ensures { OnOk result ((names : List Name) → IsSetOf vertices.old.entries names → IsSetOf vertices.new.entries (with_names names (vertices_of_op op.now))) }
 {
     add_vertex(vertices, op.vertex())?;
     if let Op::Link { target, .. } = *op {
@@ -74,8 +75,11 @@ fn add_vertices_of_op(vertices: &mut NameMap<()>, op: &Op) -> Result<(), AllocEr
 }
 
 /// Adds the names that stand in a program as vertices.
-fn add_vertices_of_program(vertices: &mut NameMap<()>, program: &Program) -> Result<(), AllocError>
-    ensures { OnOk result ((names : List Name) → IsSetOf vertices.old names → IsSetOf vertices.new (with_names names (vertices_of_program program.now))) }
+fn add_vertices_of_program(
+    vertices: &mut HashMap<Name, ()>,
+    program: &Program,
+) -> Result<(), AllocError>
+    ensures { OnOk result ((names : List Name) → IsSetOf vertices.old.entries names → IsSetOf vertices.new.entries (with_names names (vertices_of_program program.now))) }
 {
     match *program {
         Program::Show { v } => add_vertex(vertices, v),
@@ -86,18 +90,18 @@ fn add_vertices_of_program(vertices: &mut NameMap<()>, program: &Program) -> Res
     }
 }
 
-fn add_two(vertices: &mut NameMap<()>, from: Name, to: Name) -> Result<(), AllocError>
-    ensures { OnOk result ((names : List Name) → IsSetOf vertices.old names → IsSetOf vertices.new (with_name to (with_name from names))) }
+fn add_two(vertices: &mut HashMap<Name, ()>, from: Name, to: Name) -> Result<(), AllocError>
+    ensures { OnOk result ((names : List Name) → IsSetOf vertices.old.entries names → IsSetOf vertices.new.entries (with_name to (with_name from names))) }
 {
     add_vertex(vertices, from)?;
     add_vertex(vertices, to)
 }
 
-fn add_vertex(vertices: &mut NameMap<()>, name: Name) -> Result<(), AllocError>
-    ensures { OnOk result ((names : List Name) → IsSetOf vertices.old names → IsSetOf vertices.new (with_name name names)) }
+fn add_vertex(vertices: &mut HashMap<Name, ()>, name: Name) -> Result<(), AllocError>
+    ensures { OnOk result ((names : List Name) → IsSetOf vertices.old.entries names → IsSetOf vertices.new.entries (with_name name names)) }
 {
-    if !vertices.has(name) {
-        vertices.put(name, ())?;
+    if !vertices.contains_key(&name) {
+        vertices.insert(name, ())?;
     }
     Ok(())
 }

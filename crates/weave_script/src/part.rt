@@ -11,7 +11,10 @@ use crate::limits::MOST_BYTES;
 use crate::reader::{Reader, after_line, start};
 use crate::reading::Place;
 use std::alloc::Global;
-use weave_text::{first_line, is, is_skipped, words};
+use weave_text::{first_line, first_words, is, is_skipped};
+
+/// No line of the grammar has as many words, so those behind them aren't looked at.
+const MOST_WORDS: usize = 12;
 
 /// How far a text has been read: the script so far, the number of the next line, and what is left.
 #[derive(Drop)]
@@ -46,11 +49,13 @@ fn read_on(alloc: Global, report: bool, bytes: &[u8]) -> Result<Part<'_>, Script
     let mut line = 1;
     let mut left = bytes;
     while let Some((first, rest)) = first_line(left) {
-        match take(alloc, report, reader, first) {
-            Ok(Taken::Line(next)) => reader = next,
-            Ok(Taken::Nothing(reader)) => return Ok(Part { reader, line, left }),
-            Err(LineFault::Refused(cause)) => return Err(ScriptFault::Refused { line, cause }),
-            Err(LineFault::Memory) => return Err(ScriptFault::Memory),
+        if !is_skipped(first) {
+            match take(alloc, report, reader, first) {
+                Ok(Taken::Line(next)) => reader = next,
+                Ok(Taken::Nothing(reader)) => return Ok(Part { reader, line, left }),
+                Err(LineFault::Refused(cause)) => return Err(ScriptFault::Refused { line, cause }),
+                Err(LineFault::Memory) => return Err(ScriptFault::Memory),
+            }
         }
         line += 1;
         left = rest;
@@ -61,7 +66,7 @@ fn read_on(alloc: Global, report: bool, bytes: &[u8]) -> Result<Part<'_>, Script
 /// What a line was taken as.
 #[derive(Drop)]
 pub(crate) enum Taken {
-    /// It is one of the script, or is skipped.
+    /// It is one of the script.
     Line(Reader),
     /// It is the first one of a report.
     Nothing(Reader),
@@ -69,16 +74,25 @@ pub(crate) enum Taken {
 
 fn take(alloc: Global, report: bool, reader: Reader, line: &[u8]) -> Result<Taken, LineFault>
     requires { IsReady reader }
-    ensures { Takes report reader.reading line.now result }
+    ensures { Takes report reader.reading (words_of line.now) result }
 {
-    if is_skipped(line) {
-        return Ok(Taken::Line(reader));
-    }
-    let words = words(alloc, line)?;
-    if report && is_open(&reader.reading.place) && is_report(&words) {
+    let words = first_words(alloc, MOST_WORDS, line)?;
+    take_words(alloc, report, reader, &words)
+}
+
+fn take_words(
+    alloc: Global,
+    report: bool,
+    reader: Reader,
+    words: &[&[u8]],
+) -> Result<Taken, LineFault>
+    requires { IsReady reader }
+    ensures { Takes report reader.reading (map (λ word. word.now) words.now) result }
+{
+    if report && is_open(&reader.reading.place) && is_report(words) {
         return Ok(Taken::Nothing(reader));
     }
-    match after_line(alloc, reader, &words) {
+    match after_line(alloc, reader, words) {
         Ok(reader) => Ok(Taken::Line(reader)),
         Err(fault) => Err(fault),
     }

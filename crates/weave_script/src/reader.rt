@@ -17,8 +17,9 @@ use crate::steps::{Sizes, step_of};
 use graph_ops::Op;
 use program_defs::{Request, Step, Work};
 use std::alloc::Global;
+use std::collections::HashMap;
 use std::mem::replace;
-use weave_data::{Items, NameMap};
+use weave_data::Items;
 use weave_text::is;
 
 /// How far a script has been read, and what finds its names and counts them.
@@ -42,8 +43,8 @@ pub(crate) fn start(alloc: Global) -> Reader
             place: Place::Start,
         },
         index: Index {
-            places: NameMap::new(alloc),
-            vertices: NameMap::new(alloc),
+            places: HashMap::new(alloc),
+            vertices: HashMap::new(alloc),
             programs: 0,
             gets: 0,
         },
@@ -152,7 +153,7 @@ fn after_tx(alloc: Global, mut reader: Reader, words: &[&[u8]]) -> Result<Reader
         Ok(opening) => opening,
         Err(cause) => return Err(LineFault::Refused(cause)),
     };
-    if reader.index.places.has(opening.name) {
+    if reader.index.places.contains_key(&opening.name) {
         return Err(LineFault::Refused(Cause::Taken));
     }
     let place = reader.reading.requests.as_slice().len() as u32;
@@ -173,7 +174,7 @@ fn after_prog(mut reader: Reader, words: &[&[u8]]) -> Result<Reader, LineFault>
         Ok(prog) => prog,
         Err(cause) => return Err(LineFault::Refused(cause)),
     };
-    if reader.index.places.has(opening.name) {
+    if reader.index.places.contains_key(&opening.name) {
         return Err(LineFault::Refused(Cause::Taken));
     }
     let place = reader.reading.requests.as_slice().len() as u32;

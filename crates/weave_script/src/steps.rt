@@ -6,7 +6,8 @@ ghost use Rattle.weave_script.specs.StepLines.{named_request, gate_of, shard_of,
 use crate::fault::Cause;
 use crate::fields::{name_of, number_in};
 use program_defs::Step;
-use weave_data::NameMap;
+use std::collections::HashMap;
+use weave_data::Name;
 use weave_text::is;
 
 /// The numbers of gatekeepers and of shards of a script.
@@ -17,8 +18,12 @@ pub(crate) struct Sizes {
 }
 
 /// The step of these words, where the requests have these places.
-pub(crate) fn step_of(sizes: Sizes, places: &NameMap<u32>, words: &[&[u8]]) -> Result<Step, Cause>
-    ensures { result ≡ step_of sizes.gates sizes.shards (λ name. at_key name places.now) (map (λ word. word.now) words.now) }
+pub(crate) fn step_of(
+    sizes: Sizes,
+    places: &HashMap<Name, u32>,
+    words: &[&[u8]],
+) -> Result<Step, Cause>
+    ensures { result ≡ step_of sizes.gates sizes.shards (λ name. at_key name places.now.entries) (map (λ word. word.now) words.now) }
 {
     match words {
         [word, field] => step_of_one(sizes, places, word, field),
@@ -30,11 +35,11 @@ pub(crate) fn step_of(sizes: Sizes, places: &NameMap<u32>, words: &[&[u8]]) -> R
 
 fn step_of_one(
     sizes: Sizes,
-    places: &NameMap<u32>,
+    places: &HashMap<Name, u32>,
     word: &[u8],
     field: &[u8],
 ) -> Result<Step, Cause>
-    ensures { result ≡ step_of_one sizes.gates sizes.shards (λ name. at_key name places.now) word.now field.now }
+    ensures { result ≡ step_of_one sizes.gates sizes.shards (λ name. at_key name places.now.entries) word.now field.now }
 {
     if is(word, b"begin") {
         Ok(Step::Begin {
@@ -116,11 +121,11 @@ fn step_of_three(
     })
 }
 
-fn named_request(places: &NameMap<u32>, word: &[u8]) -> Result<u32, Cause>
-    ensures { result ≡ named_request (λ name. at_key name places.now) word.now }
+fn named_request(places: &HashMap<Name, u32>, word: &[u8]) -> Result<u32, Cause>
+    ensures { result ≡ named_request (λ name. at_key name places.now.entries) word.now }
 {
     let name = name_of(word)?;
-    places.get(name).copied().ok_or(Cause::Request)
+    places.get(&name).copied().ok_or(Cause::Request)
 }
 
 fn gate_of(sizes: Sizes, word: &[u8]) -> Result<u32, Cause>

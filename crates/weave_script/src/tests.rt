@@ -1,6 +1,7 @@
 use crate::{MOST_BYTES, ScriptFault, print_script, read_script};
 use program_defs::{Script, Step, Work};
 use std::alloc::{AllocError, Global};
+use std::process::Abort;
 use std::test::Fail;
 use weave_text::Text;
 
@@ -79,6 +80,16 @@ fn lines_and_words(rt: HostRuntime) {
         ("weaver 1 1 1\nprog P 64 0 foo a\n", 2, "line"),
         ("weaver 1 1 1\nprog P 64 0 reach a b wher k x\n", 2, "line"),
         ("weaver 1 1 1\nprog p 0 0 show a where k x\n", 2, "line"),
+        (
+            "weaver 1 1 1\nprog p 0 0 path a b 1 where k x y\n",
+            2,
+            "line",
+        ),
+        (
+            "weaver 1 1 1\nprog p 0 0 path a b 1 where k x  \n",
+            2,
+            "line",
+        ),
         ("weaver 1 1 1\nprog p 0 1 path A b 1001\n", 2, "gatekeeper"),
         (
             "weaver 1 1 1\nprog p 0 0 path a b 1001 where K x\n",
@@ -360,4 +371,39 @@ fn the_longest_input(rt: HostRuntime) -> Result<(), Fail> {
     text.extend_from_slice(b" 0\n")?;
     assert!(rt; told(alloc, &text) == (2, b"session".as_slice()));
     Ok(())
+}
+
+fn assert_printed_back(rt: &impl Abort, alloc: Global, text: &[u8]) {
+    let script = read_script(alloc, text).expect(rt, "a script");
+    let printed = print_script(alloc, &script).expect(rt, "memory");
+    assert_eq!(rt; printed.as_slice(), text);
+}
+
+// Each program and each operation alone, with vertices that no other line names.
+#[test]
+fn each_request_alone(rt: HostRuntime) {
+    for text in [
+        "weaver 1 1 1\nprog p 0 0 show v\n",
+        "weaver 1 1 1\nprog p 0 0 reach a b\n",
+        "weaver 1 1 1\nprog p 0 0 reach a a where k x\n",
+        "weaver 1 1 1\nprog p 0 0 around a 7\n",
+        "weaver 1 1 1\nprog p 0 0 around a 7 where k x\n",
+        "weaver 1 1 1\nprog p 0 0 path a a 7\n",
+        "weaver 1 1 1\nprog p 0 0 path a b 7 where k x\n",
+        "weaver 1 1 1\ntx t 0 0\nend\n",
+        "weaver 1 1 1\ntx t 0 0\ncreate v\nend\n",
+        "weaver 1 1 1\ntx t 0 0\ndelete v\nend\n",
+        "weaver 1 1 1\ntx t 0 0\nset v k x\nend\n",
+        "weaver 1 1 1\ntx t 0 0\nunset v k\nend\n",
+        "weaver 1 1 1\ntx t 0 0\nlink v e w\nend\n",
+        "weaver 1 1 1\ntx t 0 0\nlink v e v\nend\n",
+        "weaver 1 1 1\ntx t 0 0\nunlink v e\nend\n",
+        "weaver 1 1 1\ntx t 0 0\ntag v e k x\nend\n",
+        "weaver 1 1 1\ntx t 0 0\nuntag v e k\nend\n",
+        "weaver 1 1 1\ntx t 0 0\nget v\nend\n",
+        "weaver 1 1 1\nphase\nphase\n",
+        "weaver 1 1 1\nphase\nsteps\n",
+    ] {
+        assert_printed_back(&rt, rt.alloc(), text.as_bytes());
+    }
 }

@@ -1,5 +1,5 @@
 //! Lines of texts, and words of lines.
-ghost use Rattle.std.specs.Prelude.{◌≡◌, ◌==◌, ◌<◌, ◌∷◌, [], length, map, position, IfOk, IfSome, MatchOption};
+ghost use Rattle.std.specs.Prelude.{◌≡◌, ◌==◌, ◌<◌, ◌∷◌, [], length, map, position, take, IfOk, IfSome, MatchOption};
 ghost use Rattle.std.specs.Str.{bytes_eq};
 ghost use Rattle.weave_text.specs.Cutting.{lines_of, pieces_of, words_of, is_skipped};
 
@@ -34,6 +34,13 @@ pub fn words(alloc: Global, line: &[u8]) -> Result<Vec<&[u8]>, AllocError>
     ensures { IfOk result (λ words. map (λ word. word.now) words.items ≡ words_of line.now) }
 {
     pieces(alloc, b' ', line)
+}
+
+/// The first words of a line, at most this many. The line isn't looked at behind them.
+pub fn first_words(alloc: Global, most: usize, line: &[u8]) -> Result<Vec<&[u8]>, AllocError>
+    ensures { IfOk result (λ words. map (λ word. word.now) words.items ≡ take most (words_of line.now)) }
+{
+    line.split(|byte| *byte == b' ').take(most).collect(alloc)
 }
 
 /// The pieces of a text: what stands before, between and after the bytes that are this one.

@@ -10,7 +10,7 @@ mod numbers;
 mod tests;
 mod text;
 
-pub use cutting::{first_line, is, is_skipped, pieces, words};
+pub use cutting::{first_line, first_words, is, is_skipped, pieces, words};
 pub use laws::{
     clean_lines_come_back, cut_texts_are_joined, joined_pieces_come_back, lines_are_few,
     lines_follow_one_another, numbers_come_back, words_are_clean, words_lack_other_bytes,

@@ -1,4 +1,6 @@
-use crate::{Numeral, Text, first_line, is, is_skipped, number, number_up_to, pieces, words};
+use crate::{
+    Numeral, Text, first_line, first_words, is, is_skipped, number, number_up_to, pieces, words,
+};
 use std::test::Fail;
 
 /// The number of a text's lines.
@@ -41,6 +43,8 @@ fn words_are_cut(rt: HostRuntime) -> Result<(), Fail> {
     assert_eq!(rt; words(alloc, b"set ann city oslo")?.len(), 4);
     assert_eq!(rt; words(alloc, b" a  b")?.len(), 4);
     assert_eq!(rt; words(alloc, b"")?.len(), 1);
+    assert_eq!(rt; first_words(alloc, 3, b"set ann city oslo")?.len(), 3);
+    assert_eq!(rt; first_words(alloc, 3, b" a")?.len(), 2);
     assert_eq!(rt; pieces(alloc, b':', b"0:1:3,4")?.len(), 3);
     assert!(rt; is(b"set", b"set"));
     Ok(())

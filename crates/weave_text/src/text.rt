@@ -2,6 +2,7 @@
 ghost use Rattle.std.specs.Prelude.{◌≡◌, [], ◌++◌, OnOk, OnErr, codes};
 ghost use Rattle.std.specs.Fmt.{decimal};
 
+use itoa::Buffer;
 use std::alloc::{AllocError, Global};
 use std::marker::Model;
 
@@ -50,9 +51,7 @@ impl Text {
         ensures ok { OnOk result (self.new ≡ self.old ++ decimal number) }
         ensures err { OnErr result (self.new ≡ self.old) }
     {
-        let alloc = *self.bytes.allocator();
-        let digits = number.to_string(alloc)?;
-        self.push(digits.as_bytes())
+        self.push(Buffer::new().format(number).as_bytes())
     }
 
     /// Writes a space and a word.
@@ -74,9 +73,7 @@ impl Text {
         ensures ok { OnOk result (self.new ≡ self.old ++ codes " " ++ decimal number) }
         ensures err { OnErr result (self.new ≡ self.old) }
     {
-        let alloc = *self.bytes.allocator();
-        let digits = number.to_string(alloc)?;
-        self.word(digits.as_bytes())
+        self.word(Buffer::new().format(number).as_bytes())
     }
 
     /// Writes a line feed.

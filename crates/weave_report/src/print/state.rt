@@ -41,7 +41,7 @@ fn print_properties(
     ensures text { OnOk result (text.new ≡ text.old ++ marked_texts mark.now (map property_text properties.now)) }
     ensures typed { OnOk result (IsTypedMap IsName properties.now) }
 {
-    for (key, value) in properties.iter() {
+    for (key, value) in properties.as_slice() {
         print_property(text, mark, key, value)?;
     }
     Ok(())
@@ -62,7 +62,7 @@ fn print_edges(text: &mut Text, edges: &NameMap<Edge>) -> Result<(), AllocError>
     ensures text { OnOk result (text.new ≡ text.old ++ spaced_words (map edge_text edges.now)) }
     ensures typed { OnOk result (IsTypedMap IsTypedEdge edges.now) }
 {
-    for (name, edge) in edges.iter() {
+    for (name, edge) in edges.as_slice() {
         print_edge(text, name, edge)?;
     }
     Ok(())

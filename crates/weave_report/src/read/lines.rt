@@ -1,5 +1,6 @@
 //! Lines at their places.
-ghost use Rattle.std.specs.Prelude.{◌≡◌, [], ◌∷◌, map, Ok};
+ghost use Rattle.std.specs.Prelude.{◌≡◌, [], ◌∷◌, map, Ok, IfOk};
+ghost use Rattle.weave_report.specs.JudgedWords.{IsJudgedBy, begins_list, has_list};
 ghost use Rattle.weave_report.specs.ReadAnswers.{Gives};
 ghost use Rattle.weave_report.specs.Reading.{after_answers, after_first, after_got, after_line, after_pairs, after_replies, behind_commit, behind_reply, did_in, next_get, order_in, pair_in, reading, with_answer, with_order, with_pair, with_reply};
 ghost use Rattle.weave_report.specs.ReadingReplies.{named_from};
@@ -13,9 +14,12 @@ use crate::read::reply::{got_in, program_in, transaction_in};
 use crate::read::state::{is_step_form, step_answer_in};
 use graph_ops::{Got, Name};
 use report_rules::{Pair, Reply, ReplyState, Report, StepAnswer};
-use std::alloc::Global;
+use std::alloc::{AllocError, Global};
 use weave_data::Items;
-use weave_text::{is, words};
+use weave_text::{first_words, is, words};
+
+/// A line that goes on with a list may have more words than these; no other line of a report has as many.
+const MANY_WORDS: usize = 9;
 
 /// What is read behind one more line.
 pub(crate) fn after_line(
@@ -26,14 +30,52 @@ pub(crate) fn after_line(
 ) -> Result<Reading, LineFault>
     ensures { Gives result (after_line script.now reading (words_of line.now)) }
 {
-    let words = words(alloc, line)?;
+    let words = judged_words(alloc, line)?;
+    after_words(alloc, script, reading, &words)
+}
+
+// The words by which a line is judged: those behind the first ones only where the line may go on with a list.
+fn judged_words(alloc: Global, line: &[u8]) -> Result<Vec<&[u8]>, AllocError>
+    ensures { IfOk result (λ words. IsJudgedBy (words_of line.now) (map (λ word. word.now) words.items)) }
+{
+    let first = first_words(alloc, MANY_WORDS, line)?;
+    if !has_list(&first) {
+        return Ok(first);
+    }
+    words(alloc, line)
+}
+
+// Whether these words are many, and begin a line that goes on with a list.
+fn has_list(words: &[&[u8]]) -> bool
+    ensures { result ≡ has_list (map (λ word. word.now) words.now) }
+{
+    words.len() == MANY_WORDS && begins_list(words)
+}
+
+fn begins_list(words: &[&[u8]]) -> bool
+    ensures { result ≡ begins_list (map (λ word. word.now) words.now) }
+{
+    match words.split_first() {
+        Some((word, _)) => is(word, b"order") || is(word, b"got") || is(word, b"prog"),
+        None => false,
+    }
+}
+
+fn after_words(
+    alloc: Global,
+    script: &Named,
+    reading: Reading,
+    words: &[&[u8]],
+) -> Result<Reading, LineFault>
+    ensures { Gives result (after_line script.now reading (map (λ word. word.now) words.now)) }
+{
     let Reading { report, place } = reading;
     match place {
-        Place::Start => after_first(report, &words),
-        Place::Replies => after_replies(alloc, script, report, &words),
-        Place::Gots { commit, answers } => after_got(alloc, report, commit, answers, &words),
-        Place::Pairs => after_pairs(alloc, script, report, &words),
-        Place::Answers => after_answers(report, &words),
+        Place::Start => after_first(report, words),
+        Place::Replies => after_replies(alloc, script, report, words),
+        Place::Gots { commit, answers } => after_got(alloc, report, commit, answers, words),
+        Place::Pairs => after_pairs(alloc, script, report, words),
+        Place::Answers => after_answers(report, words),
         Place::Ended => Err(LineFault::Refused(ReportCause::Line)),
     }
 }

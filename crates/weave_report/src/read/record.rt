@@ -64,10 +64,7 @@ fn with_last<T: Drop>(pairs: &mut NameMap<T>, key: Name, value: T) -> Result<(),
 fn goes_last<T>(pairs: &NameMap<T>, key: Name) -> bool
     ensures { result ≡ goes_last key pairs.now }
 {
-    if pairs.pairs.len() == 0 {
-        return true;
-    }
-    match pairs.pairs.last_key_value() {
+    match pairs.as_slice().last() {
         Some((last, _)) => *last < key,
         None => true,
     }

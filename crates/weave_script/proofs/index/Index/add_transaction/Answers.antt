@@ -1,5 +1,5 @@
 use Rattle.std.proofs.Common.{sym, ◌∙◌, subst}
-use Rattle.weave_script.specs.Indexed.{IsSetOf, IsPlaces}
+use Rattle.weave_script.specs.Indexed.{IsSetOf}
 use Rattle.program_defs.specs.declared.script.Work.TheVariants.{Change}
 use Rattle.std.proofs.Common.{[], ◌∷◌, ◌++◌}
 use Rattle.weave_script.specs.RequestLines.{request_of}
@@ -8,8 +8,8 @@ use Rattle.weave_script.proofs.index.Index.add_transaction.Goals as goal
 
 pub returns : goal.returns
 returns c = λ requests opening index new named. record {
-  places = subst (λ pairs. IsPlaces pairs (requests ++ request_of opening (Change []) ∷ [])) (sym c.in_ok-put.ensures.ok) (places_put _ requests c.args.name c.args.place _ index.places new named);
-  vertices = subst (IsSetOf c.args.self.now.vertices) (sym (transaction_vertices requests opening)) index.vertices;
+  places = places_put _ _ requests c.args.name c.args.place _ c.in_ok-insert.ensures.updates.0 index.places new named;
+  vertices = subst (IsSetOf c.args.self.now.vertices.entries) (sym (transaction_vertices requests opening)) index.vertices;
   programs = index.programs ∙ sym (transaction_counts requests opening).0;
   gets = index.gets ∙ sym (transaction_counts requests opening).1;
 }
