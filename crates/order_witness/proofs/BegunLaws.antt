@@ -1,20 +1,28 @@
 -- The closure of the order of stamps and the pairs, over the begun requests, is precedence.
-use Rattle.std.proofs.Common.{◌≡◌, ℕ, Bool, true, false, ◌||◌, ◌&&◌, IsTrue, List, [], ◌∷◌, Contains, eqb, Option, Some, None, inl, inr, refl, sym, ap, ◌∙◌, subst, arith}
+use Rattle.std.proofs.Common.{◌≡◌, ℕ, Bool, true, false, ◌||◌, ◌&&◌, IsTrue, List, [], ◌∷◌, Contains, eqb, Option, Some, None, ◌⊎◌, inl, inr, refl, sym, ap, ◌∙◌, subst, arith}
 use Rattle.std.specs.Prelude.{slice_get, is_some}
 use Rattle.std.specs.List.{filter_map, cons_option}
 use Rattle.std.specs.Option.{option_and_then}
 use Rattle.std.proofs.lemmas.Bool.{and_parts, and_from, or_cases, or_left, or_right, eqb-true, eq-eqb}
 use Rattle.vector_stamp.specs.declared.clock.Stamp.{Stamp}
-use Rattle.vector_stamp.specs.Order.{stamp_before, same_stamp}
-use Rattle.vector_stamp.specs.Precedence.{Given, precedes}
-use Rattle.vector_stamp.proofs.Orders.{same_stamp-is}
-use Rattle.vector_stamp.proofs.Closure.{precedes-trans, precedes_stamps, precedes_pairs, precedes_read, contained_read, contained_head, contained_tail}
+use Rattle.vector_stamp.specs.Order.{stamp_before}
+use Rattle.vector_stamp.specs.Precedence.{Given, IsClosed, precedes}
+use Rattle.proof_base.proofs.Members.{has_read, has_head, has_tail}
 use Rattle.report_rules.specs.declared.report.Report.{Report}
 use Rattle.report_rules.specs.declared.report.Reply.{Reply}
 use Rattle.report_rules.specs.declared.report.Pair.{Pair}
 use Rattle.report_rules.specs.Lookups.{is_some_and, are_both, stamp_at, given_by, given_pairs}
 use Rattle.order_witness.specs.Closure.{Test, IsTransitive, HasAllOf, IsClosureOf}
 use Rattle.order_witness.specs.Begun.{request_precedes, StampsDiffer, is_before_reply, stamp_in, stamps_lead, joins, pairs_lead}
+
+-- precedence has the order of stamps and the pairs, and is transitive
+abbrev pub AreClosed : Type 0
+AreClosed = (pairs : List Given) → IsClosed pairs (precedes pairs)
+
+-- one more pair joins its ends and what leads to them
+abbrev pub OneMoreJoins : Type 0
+OneMoreJoins = (pair : Given) (pairs : List Given) (a b : Stamp) → IsTrue (precedes (pair ∷ pairs) a b)
+    → IsTrue (precedes pairs a b) ⊎ (((a ≡ pair.0) ⊎ IsTrue (precedes pairs a pair.0)) × ((pair.1 ≡ b) ⊎ IsTrue (precedes pairs pair.1 b)))
 
 -- two stamps that are there, with a test that holds of them
 pub record AreThere (test : Stamp → Stamp → Bool) (first second : Option Stamp) : Type 0 where
@@ -65,11 +73,11 @@ module _ (report : Report) where
 
   first_given : (rest : List Given) (a b : Option Stamp) (x y : Stamp) → a ≡ Some x → b ≡ Some y → Contains (cons_option (given_by a b) rest) (x, y)
   first_given rest a b x y is_a is_b =
-      subst (λ s. Contains (cons_option (given_by s b) rest) (x, y)) (sym is_a) (subst (λ s. Contains (cons_option (given_by (Some x) s) rest) (x, y)) (sym is_b) (contained_head (x, y) rest))
+      subst (λ s. Contains (cons_option (given_by s b) rest) (x, y)) (sym is_a) (subst (λ s. Contains (cons_option (given_by (Some x) s) rest) (x, y)) (sym is_b) (has_head (x, y) rest))
 
   rest_given : (rest : List Given) (o : Option Given) (p : Given) → Contains rest p → Contains (cons_option o rest) p
   rest_given rest None p h = h
-  rest_given rest (Some q) p h = contained_tail q rest p h
+  rest_given rest (Some q) p h = has_tail q rest p h
 
   -- what a pair joins has stamps that are given
   pub joined_given : (pairs : List Pair) (a b : ℕ) → IsTrue (pairs_lead report.replies pairs a b) → AreThere (λ x y. true) (stamp_at report a) (stamp_at report b) × ((x y : Stamp) → stamp_at report a ≡ Some x → stamp_at report b ≡ Some y → Contains (given_of pairs) (x, y))
@@ -122,7 +130,7 @@ module _ (report : Report) where
   read_given pair pairs x y None b is_a is_b later h = with_more pair pairs x y (later h)
   read_given pair pairs x y (Some s) None is_a is_b later h = with_more pair pairs x y (later h)
   read_given pair pairs x y (Some s) (Some t) is_a is_b later h =
-      elim (contained_read (s, t) (given_of pairs) (x, y) h) [
+      elim (has_read (s, t) (given_of pairs) (x, y) h) [
         | inl here ↦ by_this pair pairs x y (is_a ∙ ap (λ (g : Given). Some g.0) here) (is_b ∙ ap (λ (g : Given). Some g.1) here)
         | inr rest ↦ with_more pair pairs x y (later rest)
       ]
@@ -134,31 +142,31 @@ module _ (report : Report) where
       read_given pair pairs x y (stamp_at report pair.earlier) (stamp_at report pair.later) refl refl (given_joined pairs x y) h
 
   -- precedence is transitive
-  pub trans : IsTransitive (request_precedes report)
-  trans a b c g h =
+  pub trans : AreClosed → IsTransitive (request_precedes report)
+  trans all_closed a b c g h =
       let ab = both_there (precedes (given_pairs report)) (stamp_at report a) (stamp_at report b) g in
       let bc = both_there (precedes (given_pairs report)) (stamp_at report b) (stamp_at report c) h in
       let same : bc.x ≡ ab.y = one_stamp bc.x ab.y (sym bc.first_is ∙ ab.second_is) in
       there_both (precedes (given_pairs report)) (stamp_at report a) (stamp_at report c) ab.x bc.y ab.first_is bc.second_is
-      (precedes-trans (given_pairs report) ab.x ab.y bc.y ab.passes (subst (λ s. IsTrue (precedes (given_pairs report) s bc.y)) same bc.passes))
+      ((all_closed (given_pairs report)).transitive ab.x ab.y bc.y ab.passes (subst (λ s. IsTrue (precedes (given_pairs report) s bc.y)) same bc.passes))
 
-  module _ (given closed : Test) (base : (a b : ℕ) → given a b ≡ (stamps_lead report.replies report.replies a b || pairs_lead report.replies report.pairs a b)) (closure : IsClosureOf given closed) where
+  module _ (all_closed : AreClosed) (given closed : Test) (base : (a b : ℕ) → given a b ≡ (stamps_lead report.replies report.replies a b || pairs_lead report.replies report.pairs a b)) (closure : IsClosureOf given closed) where
     has_base : HasAllOf (request_precedes report) given
     has_base a b h =
         elim (or_cases (stamps_lead report.replies report.replies a b) _ (sym (base a b) ∙ h)) [
           | inl stamps ↦
               let there = both_there stamp_before (stamp_at report a) (stamp_at report b) (sym (stamps_as a b) ∙ stamps) in
-              there_both (precedes (given_pairs report)) _ _ there.x there.y there.first_is there.second_is (precedes_stamps (given_pairs report) there.x there.y there.passes)
+              there_both (precedes (given_pairs report)) _ _ there.x there.y there.first_is there.second_is ((all_closed (given_pairs report)).has_stamps there.x there.y there.passes)
           | inr pairs ↦
               let found = joined_given report.pairs a b pairs in
               let there = found.0 in
-              there_both (precedes (given_pairs report)) _ _ there.x there.y there.first_is there.second_is (precedes_pairs (given_pairs report) there.x there.y (found.1 there.x there.y there.first_is there.second_is))
+              there_both (precedes (given_pairs report)) _ _ there.x there.y there.first_is there.second_is ((all_closed (given_pairs report)).has_pairs there.x there.y (found.1 there.x there.y there.first_is there.second_is))
         ]
 
     pub sound : HasAllOf (request_precedes report) closed
-    sound a b h = closure.least (request_precedes report) trans has_base a b h
+    sound a b h = closure.least (request_precedes report) (trans all_closed) has_base a b h
 
-    module _ (differ : StampsDiffer report) where
+    module _ (one_more : OneMoreJoins) (differ : StampsDiffer report) where
       -- the stamps of a step by these pairs, and what leads there
       abbrev AllLead : List Given → Type 0
       AllLead ps = (a b : ℕ) (x y : Stamp) → stamp_at report a ≡ Some x → stamp_at report b ≡ Some y → IsTrue (precedes ps x y) → IsTrue (closed a b)
@@ -168,28 +176,28 @@ module _ (report : Report) where
           closure.has_given a b (base a b ∙ or_left _ _ (stamps_as a b ∙ there_both stamp_before _ _ x y is_a is_b h))
 
       -- to a stamp, or it itself
-      to_end : (ps : List Given) → AllLead ps → (a e : ℕ) (x s : Stamp) → stamp_at report a ≡ Some x → stamp_at report e ≡ Some s → IsTrue (same_stamp x s || precedes ps x s) → (b : ℕ) → IsTrue (closed e b) → IsTrue (closed a b)
+      to_end : (ps : List Given) → AllLead ps → (a e : ℕ) (x s : Stamp) → stamp_at report a ≡ Some x → stamp_at report e ≡ Some s → (x ≡ s) ⊎ IsTrue (precedes ps x s) → (b : ℕ) → IsTrue (closed e b) → IsTrue (closed a b)
       to_end ps known a e x s is_a is_e h b on =
-          elim (or_cases (same_stamp x s) _ h) [
-            | inl same ↦ subst (λ r. IsTrue (closed r b)) (differ e a s is_e (is_a ∙ ap Some (same_stamp-is x s same))) on
+          elim h [
+            | inl same ↦ subst (λ r. IsTrue (closed r b)) (differ e a s is_e (is_a ∙ ap Some same)) on
             | inr before ↦ closure.transitive a e b (known a e x s is_a is_e before) on
           ]
 
-      from_end : (ps : List Given) → AllLead ps → (l b : ℕ) (t y : Stamp) → stamp_at report l ≡ Some t → stamp_at report b ≡ Some y → IsTrue (same_stamp t y || precedes ps t y) → (a : ℕ) → IsTrue (closed a l) → IsTrue (closed a b)
+      from_end : (ps : List Given) → AllLead ps → (l b : ℕ) (t y : Stamp) → stamp_at report l ≡ Some t → stamp_at report b ≡ Some y → (t ≡ y) ⊎ IsTrue (precedes ps t y) → (a : ℕ) → IsTrue (closed a l) → IsTrue (closed a b)
       from_end ps known l b t y is_l is_b h a on =
-          elim (or_cases (same_stamp t y) _ h) [
-            | inl same ↦ subst (λ r. IsTrue (closed a r)) (differ l b y (is_l ∙ ap Some (same_stamp-is t y same)) is_b) on
+          elim h [
+            | inl same ↦ subst (λ r. IsTrue (closed a r)) (differ l b y (is_l ∙ ap Some same) is_b) on
             | inr after ↦ closure.transitive a l b on (known l b t y is_l is_b after)
           ]
 
       all_lead : (ps : List Given) → ((x y : Stamp) → Contains ps (x, y) → AreJoined report.pairs x y) → AllLead ps
       all_lead [] joined a b x y is_a is_b h = by_stamps a b x y is_a is_b h
       all_lead (p ∷ ps) joined a b x y is_a is_b h =
-          let known = all_lead ps (λ s t there. joined s t (contained_tail p ps (s, t) there)) in
-          elim (precedes_read p ps x y h) [
+          let known = all_lead ps (λ s t there. joined s t (has_tail p ps (s, t) there)) in
+          elim (one_more p ps x y h) [
             | inl before ↦ known a b x y is_a is_b before
             | inr via ↦
-                let ends = joined p.0 p.1 (contained_head p ps) in
+                let ends = joined p.0 p.1 (has_head p ps) in
                 let step : IsTrue (closed ends.earlier ends.later) = closure.has_given ends.earlier ends.later (base ends.earlier ends.later ∙ or_right (stamps_lead report.replies report.replies ends.earlier ends.later) _ ends.joined) in
                 to_end ps known a ends.earlier x p.0 is_a ends.earlier_is via.0 b (from_end ps known ends.later b p.1 y ends.later_is is_b via.1 ends.earlier step)
           ]

@@ -11,8 +11,15 @@ pub mod SameRecords
 pub mod Replays
 pub mod Trials
 pub mod MarkSteps
-pub mod Onlies
+pub mod Numbered
+pub mod Marking
 pub mod RefusalTests
 pub mod Replying
 pub mod Choosing
 pub mod Printing
+pub mod Placing
+pub mod InTurn
+pub mod RisingSteps
+pub mod InPlace
+pub mod Seeing
+pub mod TurnSteps

@@ -1,5 +1,5 @@
 -- Marks, reply after reply and commit after commit.
-use Rattle.std.proofs.Common.{◌≡◌, ℕ, zero, suc, ◌+◌, ◌-◌, ◌<◌, ◌≤◌, Bool, false, List, get_or, Option, Some, None, inl, inr, refl, sym, ap, ◌∙◌, subst, arith}
+use Rattle.std.proofs.Common.{◌≡◌, ℕ, zero, suc, ◌+◌, ◌-◌, ◌<◌, ◌≤◌, Bool, true, false, List, get_or, Option, Some, None, eqb, ◌⊎◌, inl, inr, refl, sym, ap, ◌∙◌, subst, arith}
 use Rattle.std.specs.Prelude.{slice_get, MatchBool}
 use Rattle.std.specs.Option.{option_and_then}
 use Rattle.std.proofs.lemmas.Bool.{cases_eq, cases_lt, eq-eqb, ne_eqb}
@@ -14,10 +14,10 @@ use Rattle.report_rules.specs.Lookups.{request_at}
 use Rattle.report_rules.specs.Replay.{graph_of_commits, graph_after_commit, the_only, requests_numbered}
 use Rattle.order_witness.specs.Refusals.{IsRefusedOn, IsRefusedSo, Marks, IsMarkedOn, AreMarkedOn, refused_after, AreMarkedUpTo}
 
-one_number : (a b : ℕ) → Some a ≡ Some b → a ≡ b
+pub one_number : (a b : ℕ) → Some a ≡ Some b → a ≡ b
 one_number a b e = cc
 
-nothing : (n : ℕ) → None ≡ Some n → ⊥
+pub nothing : (n : ℕ) → None ≡ Some n → ⊥
 nothing n e = cc
 
 module _ (script : Script) (graph : PlainGraph) (after r : ℕ) (old new : Bool) where
@@ -38,6 +38,37 @@ module _ (script : Script) (graph : PlainGraph) (after r : ℕ) (old new : Bool)
   kept_mark (Conflict v newer) h e = h
   kept_mark (Refused op reason at) h e = subst (λ b. MatchBool b (Marks new (IsRefusedOn (Some graph) (request_at script r) op reason)) (new ≡ old)) (ne_eqb at after (λ same. e (ap Some same))) h
   kept_mark (Finished answer) h e = h
+
+-- a mark that is set twice is as if it were set once
+pub marked_twice : (script : Script) (graph : PlainGraph) (after r : ℕ) (old middle new : Bool) (state : ReplyState) → IsMarkedOn script graph after r state old middle → IsMarkedOn script graph after r state middle new → IsMarkedOn script graph after r state old new
+marked_twice script graph after r old middle new Unbegun g h = h ∙ g
+marked_twice script graph after r old middle new Begun g h = h ∙ g
+marked_twice script graph after r old middle new (Committed number answers) g h = h ∙ g
+marked_twice script graph after r old middle new (Conflict v newer) g h = h ∙ g
+marked_twice script graph after r old middle new (Refused op reason at) g h = both (eqb at after) g h
+  where
+    both : (b : Bool) → MatchBool b (Marks middle (IsRefusedOn (Some graph) (request_at script r) op reason)) (middle ≡ old) → MatchBool b (Marks new (IsRefusedOn (Some graph) (request_at script r) op reason)) (new ≡ middle) → MatchBool b (Marks new (IsRefusedOn (Some graph) (request_at script r) op reason)) (new ≡ old)
+    both true g h = h
+    both false g h = h ∙ g
+marked_twice script graph after r old middle new (Finished answer) g h = h ∙ g
+
+-- a mark that stays is right for a reply that isn't refused after so many commits
+pub mark_kept : (script : Script) (graph : PlainGraph) (after r : ℕ) (old new : Bool) (state : ReplyState) → (refused_after state ≡ Some after → ⊥) → new ≡ old → IsMarkedOn script graph after r state old new
+mark_kept script graph after r old new Unbegun other h = h
+mark_kept script graph after r old new Begun other h = h
+mark_kept script graph after r old new (Committed number answers) other h = h
+mark_kept script graph after r old new (Conflict v newer) other h = h
+mark_kept script graph after r old new (Refused op reason at) other h = subst (λ b. MatchBool b (Marks new (IsRefusedOn (Some graph) (request_at script r) op reason)) (new ≡ old)) (sym (ne_eqb at after (λ same. other (ap Some same)))) h
+mark_kept script graph after r old new (Finished answer) other h = h
+
+-- a reply is refused after so many commits, or isn't
+pub refused_or_not : (after : ℕ) (state : ReplyState) → (refused_after state ≡ Some after) ⊎ (refused_after state ≡ Some after → ⊥)
+refused_or_not after Unbegun = inr (nothing after)
+refused_or_not after Begun = inr (nothing after)
+refused_or_not after (Committed number answers) = inr (nothing after)
+refused_or_not after (Conflict v newer) = inr (nothing after)
+refused_or_not after (Refused op reason at) = elim (cases_eq at after) [ inl same ↦ inl (ap Some same) | inr other ↦ inr (λ e. other (one_number at after e)) ]
+refused_or_not after (Finished answer) = inr (nothing after)
 
 -- without a graph nothing is refused so
 none_refused : (script : Script) (r : ℕ) (state : ReplyState) (at : ℕ) → refused_after state ≡ Some at → IsRefusedSo script None r state → ⊥

@@ -18,8 +18,8 @@ use Rattle.report_rules.specs.Lookups.{is_in, AreBoth, stamp_at, given_pairs, Re
 use Rattle.order_witness.specs.Closure.{Test, IsTransitive}
 use Rattle.order_witness.specs.Begun.{NonePrecedesItself, request_precedes}
 use Rattle.order_witness.specs.Choices.{IsBest, begun_in, is_free, home_in, home_at}
-use Rattle.order_witness.proofs.BegunLaws.{both_there, trans}
-use Rattle.order_witness.proofs.Testing.{way, tested}
+use Rattle.order_witness.proofs.BegunLaws.{AreClosed, both_there, trans}
+use Rattle.order_witness.proofs.Testing.{IsDecided, way, tested}
 use Rattle.order_witness.proofs.Replying.{is_numbered, apart_so, reply_of}
 
 -- Lists of numbers
@@ -95,12 +95,12 @@ module _ (script : Script) (report : Report) (holds : AllHold (replies_clause sc
   pub all_begun : AllByRecursion (IsBegun report) (begun_in report.replies)
   all_begun = begun_each report report.replies (λ i reply s at is. (s, ap (stamp_at report) (is_numbered script report holds i reply at) ∙ ap (option_and_then (λ (r : Reply). r.stamp)) at ∙ is))
 
-  module _ (acyclic : (r : ℕ) → ¬ RequestPrecedes report r r) (precedence : Test) (same : (a b : ℕ) → precedence a b ≡ request_precedes report a b) where
+  module _ (decided : IsDecided) (all_closed : AreClosed) (acyclic : (r : ℕ) → ¬ RequestPrecedes report r r) (precedence : Test) (same : (a b : ℕ) → precedence a b ≡ request_precedes report a b) where
     transitive : IsTransitive precedence
-    transitive a b c g h = same a c ∙ trans report a b c (sym (same a b) ∙ g) (sym (same b c) ∙ h)
+    transitive a b c g h = same a c ∙ trans report all_closed a b c (sym (same a b) ∙ g) (sym (same b c) ∙ h)
 
     never_itself : (r : ℕ) → precedence r r ≡ false
-    never_itself r = false_from_ne_true _ (λ h. acyclic r (way script report precedence same r r h))
+    never_itself r = false_from_ne_true _ (λ h. acyclic r (way decided script report precedence same r r h))
 
     -- Of requests that are there one is free
 
@@ -132,14 +132,14 @@ module _ (script : Script) (report : Report) (holds : AllHold (replies_clause sc
     -- The best one is the next
 
     free_fact : (xs : List ℕ) (r : ℕ) → IsTrue (is_free precedence xs r) → IsFree report xs r
-    free_fact xs r h = all_from (λ other. ¬ RequestPrecedes report other r) xs (λ other there before. both_ways _ (not-true _ h) (any_in (λ o. precedence o r) xs other there (tested script report precedence same other r before)))
+    free_fact xs r h = all_from (λ other. ¬ RequestPrecedes report other r) xs (λ other there before. both_ways _ (not-true _ h) (any_in (λ o. precedence o r) xs other there (tested decided script report precedence same other r before)))
 
     free_test : (xs : List ℕ) (r : ℕ) → IsFree report xs r → IsTrue (is_free precedence xs r)
     free_test xs r h = not_from_false _ (none_before xs h)
       where
         none_before : (ys : List ℕ) → AllByRecursion (λ other. ¬ RequestPrecedes report other r) ys → list_any (λ other. precedence other r) ys ≡ false
         none_before [] g = refl
-        none_before (y ∷ ys) g = or_from _ _ (false_from_ne_true _ (λ before. g.0 (way script report precedence same y r before))) (none_before ys g.1)
+        none_before (y ∷ ys) g = or_from _ _ (false_from_ne_true _ (λ before. g.0 (way decided script report precedence same y r before))) (none_before ys g.1)
 
     by_stamps : (a b : ℕ) (s t : Stamp) → stamp_at report a ≡ Some s → stamp_at report b ≡ Some t → IsTrue (stamp_before s t) → RequestPrecedes report a b
     by_stamps a b s t at_a at_b before =
@@ -191,17 +191,17 @@ module _ (script : Script) (report : Report) (holds : AllHold (replies_clause sc
 
 -- The test that none precedes itself
 
-module _ (script : Script) (report : Report) (holds : AllHold (replies_clause script report)) (precedence : Test) (same : (a b : ℕ) → precedence a b ≡ request_precedes report a b) where
+module _ (script : Script) (report : Report) (holds : AllHold (replies_clause script report)) (decided : IsDecided) (precedence : Test) (same : (a b : ℕ) → precedence a b ≡ request_precedes report a b) where
   begun_within : (r : ℕ) → RequestPrecedes report r r → r < length report.replies
   begun_within r h =
-      let there = both_there (precedes (given_pairs report)) (stamp_at report r) (stamp_at report r) (sym (same r r) ∙ tested script report precedence same r r h) in
+      let there = both_there (precedes (given_pairs report)) (stamp_at report r) (stamp_at report r) (sym (same r r) ∙ tested decided script report precedence same r r h) in
       let reply = reply_of script report holds r there.x there.first_is in
       slice_get_within report.replies r reply.0 reply.1
 
   pub none_told : (b : Bool) (count : ℕ) → count ≡ length report.replies → MatchBool b ((r : ℕ) → r < count → precedence r r ≡ false) ((r : ℕ) × IsTrue (precedence r r))
       → IsTrue b ↔ (AllHold (replies_clause script report) × NonePrecedesItself report)
   none_told true count is h = (
-    λ _. (holds, λ r before. both_ways _ (h r (omega (arith, is, begun_within r before))) (tested script report precedence same r r before)),
+    λ _. (holds, λ r before. both_ways _ (h r (omega (arith, is, begun_within r before))) (tested decided script report precedence same r r before)),
     λ _. refl,
   )
-  none_told false count is h = (λ e. cc, λ both. absurd (both.1 h.0 (way script report precedence same h.0 h.0 h.1)))
+  none_told false count is h = (λ e. cc, λ both. absurd (both.1 h.0 (way decided script report precedence same h.0 h.0 h.1)))

@@ -1,12 +1,11 @@
 -- What the code tests, and what the clauses say.
 use Rattle.std.proofs.Common.{◌≡◌, ℕ, zero, suc, Bool, not, ◌||◌, ◌&&◌, IsTrue, List, [], ◌∷◌, Option, Some, None, refl, sym, ◌∙◌, subst}
-use Rattle.std.specs.Prelude.{slice_get, is_some, nat_lt}
+use Rattle.std.specs.Prelude.{slice_get, is_some, nat_lt, ◌↔◌}
 use Rattle.std.specs.List.{list_all, AllByRecursion}
 use Rattle.std.proofs.lemmas.Bool.{and_parts, and_from, both_ways, not-true, not_from_false, false_from_ne_true}
 use Rattle.vector_stamp.specs.declared.clock.Stamp.{Stamp}
-use Rattle.vector_stamp.specs.Order.{unordered}
+use Rattle.vector_stamp.specs.Order.{stamp_before, unordered}
 use Rattle.vector_stamp.specs.Precedence.{Given, Precedes, precedes}
-use Rattle.vector_stamp.proofs.Closure.{passes_test, test_precedes}
 use Rattle.weave_data.specs.declared.name.Name.{Name}
 use Rattle.program_defs.specs.declared.script.Script.{Script}
 use Rattle.program_defs.specs.declared.script.Request.{Request}
@@ -19,22 +18,27 @@ use Rattle.report_rules.specs.declared.report.ReplyState.{ReplyState}
 use Rattle.report_rules.specs.declared.report.ReplyState.TheVariants.{Unbegun, Begun, Committed, Conflict, Refused, Finished}
 use Rattle.program_defs.specs.Works.{is_change}
 use Rattle.report_rules.specs.Lookups.{is_some_and, are_both, AreBoth, request_at, reply_at, stamp_at, same_session, names_vertex, work_names, number_of, is_committed, given_pairs, RequestPrecedes}
-use Rattle.report_rules.specs.RightReport.{IsListedInOrder, IsConflictInPlace, IsPairInPlace, MayBeLaterAt, is_committed_and_names}
+use Rattle.report_rules.specs.RightReport.{IsListedInOrder, IsConflictInPlace, conflicts_clause, IsPairInPlace, MayBeLaterAt, is_committed_and_names}
+use Rattle.proof_base.specs.Facts.{AllHold, facts_of_each}
 use Rattle.order_witness.specs.Closure.{Test}
-use Rattle.order_witness.specs.Begun.{request_precedes, is_listed_in_order, is_conflict_in_place}
+use Rattle.order_witness.specs.Begun.{request_precedes, is_request_before, is_listed_in_order, is_conflict_in_place}
 use Rattle.order_witness.specs.Judgement.{has_no_program, has_few_operations, has_short_transactions}
 
 -- Precedence
 
-way_of : (pairs : List Given) (a b : Option Stamp) → IsTrue (are_both (precedes pairs) a b) → AreBoth (Precedes pairs) a b
-way_of pairs None b h = cc
-way_of pairs (Some x) None h = cc
-way_of pairs (Some x) (Some y) h = test_precedes pairs x y h
+-- precedence is decided by its test
+abbrev pub IsDecided : Type 0
+IsDecided = (pairs : List Given) (a b : Stamp) → Precedes pairs a b ↔ IsTrue (precedes pairs a b)
 
-test_of : (pairs : List Given) (a b : Option Stamp) → AreBoth (Precedes pairs) a b → IsTrue (are_both (precedes pairs) a b)
-test_of pairs None b h = absurd h
-test_of pairs (Some x) None h = absurd h
-test_of pairs (Some x) (Some y) h = passes_test pairs x y h
+way_of : IsDecided → (pairs : List Given) (a b : Option Stamp) → IsTrue (are_both (precedes pairs) a b) → AreBoth (Precedes pairs) a b
+way_of decided pairs None b h = cc
+way_of decided pairs (Some x) None h = cc
+way_of decided pairs (Some x) (Some y) h = (decided pairs x y).1 h
+
+test_of : IsDecided → (pairs : List Given) (a b : Option Stamp) → AreBoth (Precedes pairs) a b → IsTrue (are_both (precedes pairs) a b)
+test_of decided pairs None b h = absurd h
+test_of decided pairs (Some x) None h = absurd h
+test_of decided pairs (Some x) (Some y) h = (decided pairs x y).0 h
 
 -- Lists
 
@@ -56,12 +60,12 @@ module _ {A : Type 0} (test : A → Bool) where
       one_value y x e = cc
   passes_at (y ∷ xs) (suc n) x h at = passes_at xs n x (and_parts (test y) (list_all test xs) h).1 at
 
-module _ (script : Script) (report : Report) (precedence : Test) (same : (a b : ℕ) → precedence a b ≡ request_precedes report a b) where
+module _ (decided : IsDecided) (script : Script) (report : Report) (precedence : Test) (same : (a b : ℕ) → precedence a b ≡ request_precedes report a b) where
   pub way : (a b : ℕ) → IsTrue (precedence a b) → RequestPrecedes report a b
-  way a b h = way_of (given_pairs report) (stamp_at report a) (stamp_at report b) (sym (same a b) ∙ h)
+  way a b h = way_of decided (given_pairs report) (stamp_at report a) (stamp_at report b) (sym (same a b) ∙ h)
 
   pub tested : (a b : ℕ) → RequestPrecedes report a b → IsTrue (precedence a b)
-  tested a b h = same a b ∙ test_of (given_pairs report) (stamp_at report a) (stamp_at report b) h
+  tested a b h = same a b ∙ test_of decided (given_pairs report) (stamp_at report a) (stamp_at report b) h
 
   no_way : (a b : ℕ) → IsTrue (not (precedence a b)) → ¬ RequestPrecedes report a b
   no_way a b h leads = both_ways _ (not-true _ h) (tested a b leads)
@@ -105,6 +109,35 @@ module _ (script : Script) (report : Report) (precedence : Test) (same : (a b : 
   conflict_test r (Conflict v newer) h = and_from _ _ h.0 (tested r newer h.1)
   conflict_test r (Refused op reason at) h = refl
   conflict_test r (Finished answer) h = refl
+
+-- Conflicts in place by the stamps alone
+
+-- a larger precedence keeps each conflict in place
+conflict_more : (script : Script) (report : Report) (less more : Test) → ((a b : ℕ) → IsTrue (less a b) → IsTrue (more a b)) → (r : ℕ) (state : ReplyState) → IsTrue (is_conflict_in_place script report less r state) → IsTrue (is_conflict_in_place script report more r state)
+conflict_more script report less more has r Unbegun h = refl
+conflict_more script report less more has r Begun h = refl
+conflict_more script report less more has r (Committed number answers) h = refl
+conflict_more script report less more has r (Conflict v newer) h =
+    let parts = and_parts (is_committed_and_names script report v newer && not (same_session script r newer) && names_vertex script r v) (less r newer) h in
+    and_from _ _ parts.0 (has r newer parts.1)
+conflict_more script report less more has r (Refused op reason at) h = refl
+conflict_more script report less more has r (Finished answer) h = refl
+
+stamps_precede : ((pairs : List Given) (a b : Stamp) → IsTrue (stamp_before a b) → IsTrue (precedes pairs a b)) → (pairs : List Given) (a b : Option Stamp) → IsTrue (are_both stamp_before a b) → IsTrue (are_both (precedes pairs) a b)
+stamps_precede has pairs None b h = cc
+stamps_precede has pairs (Some x) None h = cc
+stamps_precede has pairs (Some x) (Some y) h = has pairs x y h
+
+module _ (has : (pairs : List Given) (a b : Stamp) → IsTrue (stamp_before a b) → IsTrue (precedes pairs a b)) (decided : IsDecided) (script : Script) (report : Report) where
+  all_facts : (replies : List Reply) → IsTrue (list_all (λ (reply : Reply). is_conflict_in_place script report (is_request_before report) reply.request reply.state) replies) → AllHold (facts_of_each (λ (reply : Reply). IsConflictInPlace script report reply.request reply.state) replies)
+  all_facts [] h = tt
+  all_facts (reply ∷ replies) h =
+      let parts = and_parts (is_conflict_in_place script report (is_request_before report) reply.request reply.state) (list_all (λ (other : Reply). is_conflict_in_place script report (is_request_before report) other.request other.state) replies) h in
+      let more = conflict_more script report (is_request_before report) (request_precedes report) (λ a b. stamps_precede has (given_pairs report) (stamp_at report a) (stamp_at report b)) reply.request reply.state parts.0 in
+      (conflict_fact decided script report (request_precedes report) (λ a b. refl) reply.request reply.state more, all_facts replies parts.1)
+
+  pub conflicts_hold : IsTrue (list_all (λ (reply : Reply). is_conflict_in_place script report (is_request_before report) reply.request reply.state) report.replies) → AllHold (conflicts_clause script report)
+  conflicts_hold h = all_facts report.replies h
 
 -- each request of a script without programs is a transaction
 pub is_changes : (script : Script) → IsTrue (has_no_program script) → (r : ℕ) (request : Request) → request_at script r ≡ Some request → IsTrue (is_change request.work)

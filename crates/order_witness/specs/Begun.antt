@@ -54,6 +54,10 @@ pairs_lead replies pairs a b = list_any (joins replies a b) pairs
 abbrev pub numbers_in : List Reply → List ℕ
 numbers_in replies = filter_map (λ (reply : Reply). number_of reply.state) replies
 
+-- one request's stamp is before the other's, both begun
+abbrev pub is_request_before : Report → ℕ → ℕ → Bool
+is_request_before report a b = are_both stamp_before (stamp_at report a) (stamp_at report b)
+
 -- by this precedence, a listed request precedes neither itself nor one listed before it, and the listed requests of its session before it are earlier ones
 abbrev pub is_listed_in_order : Script → (ℕ → ℕ → Bool) → List ℕ → ℕ → Bool
 is_listed_in_order script precedence before r =

@@ -6,3 +6,8 @@ pub mod Answers
 pub mod Replayed
 pub mod Refusals
 pub mod Choices
+pub mod Places
+pub mod ByNumber
+pub mod Rising
+pub mod Seen
+pub mod Turns

@@ -120,7 +120,8 @@ fn answers(rt: &impl Abort, alloc: Global, reads: &[(u32, Read)]) -> Items<Got> 
     answers
 }
 
-fn reply_state(rt: &impl Abort, alloc: Global, told: Told) -> ReplyState {
+/// What a reply tells.
+pub fn reply_state(rt: &impl Abort, alloc: Global, told: Told) -> ReplyState {
     match told {
         Told::Unbegun => ReplyState::Unbegun,
         Told::Begun => ReplyState::Begun,

@@ -4,7 +4,6 @@ ghost use Rattle.report_rules.specs.declared.report.Clause.{Clause};
 ghost use Rattle.report_rules.specs.RightReport.{BreaksFirst, IsRightReport};
 ghost use Rattle.order_witness.specs.Judgement as judgement;
 
-use crate::precedence::precedence_of;
 use crate::{conflicts, listing, numbers, order, pairs, refusals, replay, replies};
 use program_defs::{Script, Work};
 use report_rules::laws::{right_report_breaks_nowhere, wrong_report_breaks_first_once};
@@ -63,14 +62,13 @@ fn first_clause(alloc: Global, script: &Script, report: &Report) -> Result<Judge
     requires short { IsTrue (judgement.has_short_transactions script.now) }
     ensures { IfOk result (judgement.IsJudgement script.now report.now) }
 {
-    if let Some(place) = replies::first_fault(script, report) {
+    if let Some(place) = replies::first_fault(alloc, script, report)? {
         return Ok(no(Clause::I, place));
     }
-    if let Some(place) = listing::first_fault(report) {
+    if let Some(place) = listing::first_fault(alloc, report)? {
         return Ok(no(Clause::Ii, place));
     }
-    let precedence = precedence_of(alloc, report)?;
-    if let Some(place) = order::first_fault(script, report, &precedence) {
+    if let Some(place) = order::first_fault(alloc, script, report)? {
         return Ok(no(Clause::Iii, place));
     }
     if let Some(place) = replay::first_fault(alloc, script, report)? {
@@ -79,13 +77,13 @@ fn first_clause(alloc: Global, script: &Script, report: &Report) -> Result<Judge
     if let Some(place) = pairs::first_fault(script, report) {
         return Ok(no(Clause::V, place));
     }
-    if let Some(place) = conflicts::first_fault(script, report, &precedence) {
+    if let Some(place) = conflicts::first_fault(alloc, script, report)? {
         return Ok(no(Clause::Vi, place));
     }
     if let Some(place) = refusals::first_fault(alloc, script, report)? {
         return Ok(no(Clause::Vii, place));
     }
-    if let Some(place) = numbers::first_fault(report) {
+    if let Some(place) = numbers::first_fault(alloc, report)? {
         return Ok(no(Clause::Viii, place));
     }
     Ok(Judged::Yes)

@@ -1,33 +1,43 @@
 //! The clause on listing: the order lists each committed transaction and each finished program once, and nothing else.
-ghost use Rattle.std.specs.Prelude.{◌≡◌, ◌&&◌, not, IsTrue};
+ghost use Rattle.std.specs.Prelude.{◌≡◌, ℕ, ◌<◌, ◌/◌, ◌==◌, ◌&&◌, ◌||◌, not, false, None, length, IsTrue, IfOk};
+ghost use Rattle.std.specs.List.{list_all};
+ghost use Rattle.report_rules.specs.declared.report.Reply.{Reply};
 ghost use Rattle.proof_base.specs.Facts.{facts_in_turn};
 ghost use Rattle.report_rules.specs.RightReport as right;
 ghost use Rattle.report_rules.specs.Lookups as told;
+ghost use Rattle.order_witness.specs.Bits.{has_bit};
 ghost use Rattle.order_witness.specs.Judgement.{IsFirstFault};
+ghost use Rattle.order_witness.specs.Seen.{AreSeen};
 
+use crate::bits::Row;
 use crate::words::{is_committed_or_finished, may_be_listed};
 use report_rules::Report;
+use std::alloc::{AllocError, Global};
 
 /// The first place in the order that repeats an earlier one or may not be listed, from 1; else one more than its length
 /// where a request is missing.
-pub fn first_fault(report: &Report) -> Option<u64>
-    ensures { IsFirstFault (right.listing_clause report.now) result }
+pub fn first_fault(alloc: Global, report: &Report) -> Result<Option<u64>, AllocError>
+    ensures { IfOk result (IsFirstFault (right.listing_clause report.now)) }
 {
     let order = report.order.as_slice();
-    if let Some(place) = first_out_of_place(report, order) {
-        return Some(place);
+    let mut seen = Row::empty(alloc, report.replies.as_slice().len())?;
+    if let Some(place) = first_out_of_place(report, order, &mut seen) {
+        return Ok(Some(place));
     }
-    if !all_are_listed(report) {
-        return Some(order.len() as u64 + 1);
+    if !all_are_seen(report, &seen) {
+        return Ok(Some(order.len() as u64 + 1));
     }
-    None
+    Ok(None)
 }
 
-fn first_out_of_place(report: &Report, order: &[u32]) -> Option<u64>
-    ensures { IsFirstFault (facts_in_turn (λ before r. IsTrue (not (told.is_in r before) && told.may_be_listed report.now r)) order.now) result }
+fn first_out_of_place(report: &Report, order: &[u32], seen: &mut Row) -> Option<u64>
+    requires none { (n : ℕ) → has_bit seen.old n ≡ false }
+    requires room { length report.now.replies / 64 < length seen.old }
+    ensures fault { IsFirstFault (facts_in_turn (λ before r. IsTrue (not (told.is_in r before) && told.may_be_listed report.now r)) order.now) result }
+    ensures seen { result ≡ None → AreSeen order.now seen.new }
 {
     for (place, request) in order.iter().enumerate() {
-        let holds = is_in_place(report, &order[..place], *request);
+        let holds = see(report, seen, *request);
         if !holds {
             return Some(place as u64 + 1);
         }
@@ -35,22 +45,29 @@ fn first_out_of_place(report: &Report, order: &[u32]) -> Option<u64>
     None
 }
 
-fn is_in_place(report: &Report, before: &[u32], request: u32) -> bool
-    ensures { result ≡ (not (told.is_in request before.now) && told.may_be_listed report.now request) }
+// Whether the request was not seen, and may be listed. If so, it is seen from then on.
+fn see(report: &Report, seen: &mut Row, request: u32) -> bool
+    requires { length report.now.replies / 64 < length seen.old }
+    ensures size { length seen.new ≡ length seen.old }
+    ensures holds { result ≡ (not (has_bit seen.old request) && told.may_be_listed report.now request) }
+    ensures after { IsTrue result → (n : ℕ) → has_bit seen.new n ≡ (has_bit seen.old n || n == request) }
 {
-    !is_in(request, before) && may_be_listed(report, request)
+    let holds = is_in_place(report, seen, request);
+    if holds {
+        seen.put(request as usize);
+    }
+    holds
 }
 
-fn all_are_listed(report: &Report) -> bool
-    ensures { result ≡ right.all_are_listed report.now }
+fn is_in_place(report: &Report, seen: &Row, request: u32) -> bool
+    ensures { result ≡ (not (has_bit seen.now request) && told.may_be_listed report.now request) }
 {
-    report.replies.as_slice().iter().all(|reply| {
-        !is_committed_or_finished(&reply.state) || is_in(reply.request, report.order.as_slice())
-    })
+    !seen.has(request as usize) && may_be_listed(report, request)
 }
 
-fn is_in(request: u32, requests: &[u32]) -> bool
-    ensures { result ≡ told.is_in request requests.now }
+fn all_are_seen(report: &Report, seen: &Row) -> bool
+    ensures { result ≡ list_all (λ (reply : Reply). not (told.is_committed_or_finished reply.state) || has_bit seen.now reply.request) report.now.replies }
 {
-    requests.iter().any(|other| request == *other)
+    report.replies.as_slice().iter().all(|reply| !is_committed_or_finished(&reply.state)
+        || seen.has(reply.request as usize))
 }

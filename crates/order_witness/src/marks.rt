@@ -1,15 +1,18 @@
 //! For each reply, whether it is refused as it says after as many commits as it says. The commits are replayed once.
-ghost use Rattle.std.specs.Prelude.{◌≡◌, ◌+◌, ◌≤◌, IsTrue, IfOk, OnOk, Some, false, length, replicate, slice_index_or};
+ghost use Rattle.std.specs.Prelude.{◌≡◌, ◌≢◌, ℕ, ◌<◌, ◌≤◌, [], ◌∷◌, ◌++◌, IsTrue, IfOk, OnOk, Some, false, length, replicate, slice_get, slice_index_or};
 ghost use Rattle.std.specs.Option.{option_and_then};
 ghost use Rattle.graph_ops.specs.Graphs.{plain_of};
 ghost use Rattle.program_defs.specs.Works.{is_change};
 ghost use Rattle.report_rules.specs.Replay.{IsWorkRefused, graph_after_commit, graph_if_work_passed, the_only};
 ghost use Rattle.report_rules.specs.Lookups as told;
 ghost use Rattle.order_witness.specs.Judgement.{has_few_operations, has_no_program, has_short_transactions};
+ghost use Rattle.report_rules.specs.declared.report.Reply.{Reply};
+ghost use Rattle.order_witness.specs.ByNumber.{list_at, HasRefused, place_if_refused};
 ghost use Rattle.order_witness.specs.Refusals.{AreMarked, AreMarkedOn, IsMarkedOn, IsRefusedOn, IsThere, Marks, numbered_in};
 
+use crate::by_number::ByNumber;
 use crate::trial::{passes, stops};
-use crate::words::{commits, number_of, request_at};
+use crate::words::{commits, number_of, request_at, request_in};
 use graph_ops::{Graph, Reason};
 use program_defs::{Script, Work};
 use report_rules::{Reply, ReplyState, Report};
@@ -22,17 +25,72 @@ pub fn marks_of(alloc: Global, script: &Script, report: &Report) -> Result<Vec<b
     ensures { IfOk result (λ marks. AreMarked script.now report.now marks.items) }
 {
     let replies = report.replies.as_slice();
+    let committed = commits_by_number(alloc, replies)?;
+    let refused = refusals_by_number(alloc, replies)?;
     let mut marks = no_marks(alloc, replies.len())?;
     let mut graph = Graph::new(alloc);
-    mark(alloc, &mut graph, script, replies, 0, &mut marks)?;
+    let first = refused.list_of(0);
+    mark(alloc, &mut graph, script, replies, 0, first, &mut marks)?;
     for done in 0..commits(report) as u64 {
-        let there = commit(alloc, &mut graph, script, replies, done + 1)?;
+        let requests = committed.list_of(done + 1);
+        let there = commit(alloc, &mut graph, script, requests)?;
         if !there {
             return Ok(marks);
         }
-        mark(alloc, &mut graph, script, replies, done + 1, &mut marks)?;
+        let places = refused.list_of(done + 1);
+        mark(
+            alloc,
+            &mut graph,
+            script,
+            replies,
+            done + 1,
+            places,
+            &mut marks,
+        )?;
     }
     Ok(marks)
+}
+
+// The requests with each commit number, as far as there are replies.
+fn commits_by_number(alloc: Global, replies: &[Reply]) -> Result<ByNumber, AllocError>
+    ensures { IfOk result (λ table. (n : ℕ) → n ≤ length replies.now → list_at table n ≡ numbered_in n replies.now) }
+{
+    let mut table = ByNumber::new(alloc, replies.len() + 1)?;
+    for reply in replies {
+        put_commit(&mut table, reply)?;
+    }
+    Ok(table)
+}
+
+fn put_commit(table: &mut ByNumber, reply: &Reply) -> Result<(), AllocError>
+    ensures size { length table.new ≡ length table.old }
+    ensures after { OnOk result ((n : ℕ) → n < length table.old → list_at table.new n ≡ list_at table.old n ++ numbered_in n (reply.now ∷ [])) }
+{
+    if let Some(number) = number_of(&reply.state) {
+        table.put(number, reply.request as usize)?;
+    }
+    Ok(())
+}
+
+// The places of the replies that are refused after each number of commits, as far as there are replies.
+fn refusals_by_number(alloc: Global, replies: &[Reply]) -> Result<ByNumber, AllocError>
+    ensures { IfOk result (λ table. (n : ℕ) → n ≤ length replies.now → HasRefused n replies.now (list_at table n)) }
+{
+    let mut table = ByNumber::new(alloc, replies.len() + 1)?;
+    for (place, reply) in replies.iter().enumerate() {
+        put_refusal(&mut table, place, reply)?;
+    }
+    Ok(table)
+}
+
+fn put_refusal(table: &mut ByNumber, place: usize, reply: &Reply) -> Result<(), AllocError>
+    ensures size { length table.new ≡ length table.old }
+    ensures after { OnOk result ((n : ℕ) → n < length table.old → list_at table.new n ≡ list_at table.old n ++ place_if_refused n place reply.now.state) }
+{
+    if let ReplyState::Refused { at, .. } = &reply.state {
+        table.put(*at, place)?;
+    }
+    Ok(())
 }
 
 fn no_marks(alloc: Global, count: usize) -> Result<Vec<bool>, AllocError>
@@ -41,13 +99,37 @@ fn no_marks(alloc: Global, count: usize) -> Result<Vec<bool>, AllocError>
     vec![in alloc; false; count]
 }
 
-// Marks those of the replies that are refused after so many commits, by the graph that these leave.
+// Marks those of the replies that are refused after so many commits, by the graph that these leave. Their places are among these.
 fn mark(
     alloc: Global,
     graph: &mut Graph,
     script: &Script,
     replies: &[Reply],
     after: u64,
+    places: &[usize],
+    marks: &mut Vec<bool>,
+) -> Result<(), AllocError>
+    requires programs { IsTrue (has_no_program script.now) }
+    requires short { IsTrue (has_short_transactions script.now) }
+    requires size { length marks.old.items ≡ length replies.now }
+    requires places { HasRefused after replies.now places.now }
+    ensures size { length marks.new.items ≡ length marks.old.items }
+    ensures unchanged { graph.new ≡ graph.old }
+    ensures marked { OnOk result (AreMarkedOn script.now (plain_of graph.old) after replies.now marks.old.items marks.new.items) }
+{
+    for place in places {
+        mark_one(alloc, graph, script, replies, after, *place, marks)?;
+    }
+    Ok(())
+}
+
+fn mark_one(
+    alloc: Global,
+    graph: &mut Graph,
+    script: &Script,
+    replies: &[Reply],
+    after: u64,
+    place: usize,
     marks: &mut Vec<bool>,
 ) -> Result<(), AllocError>
     requires programs { IsTrue (has_no_program script.now) }
@@ -55,12 +137,15 @@ fn mark(
     requires size { length marks.old.items ≡ length replies.now }
     ensures size { length marks.new.items ≡ length marks.old.items }
     ensures unchanged { graph.new ≡ graph.old }
-    ensures marked { OnOk result (AreMarkedOn script.now (plain_of graph.old) after replies.now marks.old.items marks.new.items) }
+    ensures others { OnOk result ((k : ℕ) → k ≢ place → slice_index_or marks.new.items k false ≡ slice_index_or marks.old.items k false) }
+    ensures marked { OnOk result ((reply : Reply) → slice_get replies.now place ≡ Some reply
+        → IsMarkedOn script.now (plain_of graph.old) after reply.request reply.state (slice_index_or marks.old.items place false) (slice_index_or marks.new.items place false)) }
 {
-    for (place, reply) in replies.iter().enumerate() {
-        let old = marks[place];
-        marks[place] = mark_of(alloc, graph, script, reply, after, old)?;
+    if place >= replies.len() {
+        return Ok(());
     }
+    let old = marks[place];
+    marks[place] = mark_of(alloc, graph, script, &replies[place], after, old)?;
     Ok(())
 }
 
@@ -126,22 +211,21 @@ fn work_stops(
     }
 }
 
-// Replays the commit of this number; whether it is there once, and passes.
+// Replays the commit that has these requests; whether it is there once, and passes.
 fn commit(
     alloc: Global,
     graph: &mut Graph,
     script: &Script,
-    replies: &[Reply],
-    number: u64,
+    requests: &[usize],
 ) -> Result<bool, AllocError>
     requires programs { IsTrue (has_no_program script.now) }
     requires short { IsTrue (has_short_transactions script.now) }
-    ensures { IfOk result (IsThere (graph_after_commit (option_and_then (told.request_at script.now) (the_only (numbered_in number replies.now))) (Some (plain_of graph.old))) (plain_of graph.new)) }
+    ensures { IfOk result (IsThere (graph_after_commit (option_and_then (told.request_at script.now) (the_only requests.now)) (Some (plain_of graph.old))) (plain_of graph.new)) }
 {
-    let Some(only) = the_only(replies, number) else {
+    let Some(only) = the_only(requests) else {
         return Ok(false);
     };
-    match request_at(script, only) {
+    match request_in(script, only) {
         Some(request) => work_passes(alloc, graph, &request.work),
         None => Ok(false),
     }
@@ -158,18 +242,13 @@ fn work_passes(alloc: Global, graph: &mut Graph, work: &Work) -> Result<bool, Al
     }
 }
 
-// The request with this commit number, where there is just one.
-fn the_only(replies: &[Reply], number: u64) -> Option<u32>
-    ensures { result ≡ the_only (numbered_in number replies.now) }
+// The one of a list of one.
+fn the_only(requests: &[usize]) -> Option<usize>
+    ensures { result ≡ the_only requests.now }
 {
-    let mut only = None;
-    for reply in replies {
-        if number_of(&reply.state) == Some(number) {
-            if only.is_some() {
-                return None;
-            }
-            only = Some(reply.request);
-        }
+    if requests.len() == 1 {
+        Some(requests[0])
+    } else {
+        None
     }
-    only
 }

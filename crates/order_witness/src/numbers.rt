@@ -1,27 +1,33 @@
 //! The clause on numbers: the commit numbers are 1 up to their count, each once.
-ghost use Rattle.std.specs.Prelude.{◌≡◌, ◌==◌, IsTrue};
-ghost use Rattle.std.specs.List.{list_any};
+ghost use Rattle.std.specs.Prelude.{◌≡◌, ℕ, ◌<◌, ◌/◌, ◌==◌, ◌&&◌, ◌||◌, nat_lt, nat_le, not, false, length, IsTrue, IfOk};
 ghost use Rattle.report_rules.specs.declared.report.Reply.{Reply};
 ghost use Rattle.proof_base.specs.Facts.{facts_in_turn};
 ghost use Rattle.report_rules.specs.RightReport as right;
 ghost use Rattle.report_rules.specs.Lookups as told;
+ghost use Rattle.order_witness.specs.Bits.{has_bit};
 ghost use Rattle.order_witness.specs.Judgement.{IsFirstFault};
+ghost use Rattle.order_witness.specs.Seen.{is_number_new};
 
+use crate::bits::Row;
 use crate::words::{commits, number_of};
 use report_rules::{Reply, Report};
+use std::alloc::{AllocError, Global};
 
 /// The first reply line whose number is 0, repeats an earlier one or is above the count, from 1.
-pub fn first_fault(report: &Report) -> Option<u64>
-    ensures { IsFirstFault (right.numbers_clause report.now) result }
+pub fn first_fault(alloc: Global, report: &Report) -> Result<Option<u64>, AllocError>
+    ensures { IfOk result (IsFirstFault (right.numbers_clause report.now)) }
 {
-    first_out_of_place(report.replies.as_slice(), commits(report))
+    let mut seen = Row::empty(alloc, report.replies.as_slice().len())?;
+    Ok(first_out_of_place(report.replies.as_slice(), commits(report), &mut seen))
 }
 
-fn first_out_of_place(replies: &[Reply], count: usize) -> Option<u64>
+fn first_out_of_place(replies: &[Reply], count: usize, seen: &mut Row) -> Option<u64>
+    requires none { (n : ℕ) → has_bit seen.old n ≡ false }
+    requires room { count / 64 < length seen.old }
     ensures { IsFirstFault (facts_in_turn (λ before (reply : Reply). IsTrue (right.is_number_in_place count before (told.number_of reply.state))) replies.now) result }
 {
     for (place, reply) in replies.iter().enumerate() {
-        let holds = is_in_place(&replies[..place], reply, count);
+        let holds = see(seen, number_of(&reply.state), count);
         if !holds {
             return Some(place as u64 + 1);
         }
@@ -29,19 +35,34 @@ fn first_out_of_place(replies: &[Reply], count: usize) -> Option<u64>
     None
 }
 
-fn is_in_place(before: &[Reply], reply: &Reply, count: usize) -> bool
-    ensures { result ≡ right.is_number_in_place count before.now (told.number_of reply.now.state) }
+// Whether the number, if there is one, is in place. If it is, it is seen from then on.
+fn see(seen: &mut Row, number: Option<u64>, count: usize) -> bool
+    requires { count / 64 < length seen.old }
+    ensures size { length seen.new ≡ length seen.old }
+    ensures holds { result ≡ is_number_new count seen.old number }
+    ensures after { IsTrue result → (n : ℕ) → has_bit seen.new n ≡ (has_bit seen.old n || told.is_some_and (λ m. n == m) number) }
 {
-    match number_of(&reply.state) {
-        Some(number) => 0 < number && number <= count as u64 && !has_number(before, number),
+    match number {
+        Some(number) => see_number(seen, number, count),
         None => true,
     }
 }
 
-fn has_number(replies: &[Reply], number: u64) -> bool
-    ensures { result ≡ list_any (λ (earlier : Reply). told.is_some_and (λ n. n == number) (told.number_of earlier.state)) replies.now }
+fn see_number(seen: &mut Row, number: u64, count: usize) -> bool
+    requires { count / 64 < length seen.old }
+    ensures size { length seen.new ≡ length seen.old }
+    ensures holds { result ≡ (nat_lt 0 number && nat_le number count && not (has_bit seen.old number)) }
+    ensures after { IsTrue result → (n : ℕ) → has_bit seen.new n ≡ (has_bit seen.old n || n == number) }
 {
-    replies
-        .iter()
-        .any(|earlier| number_of(&earlier.state) == Some(number))
+    let holds = is_in_place(seen, number, count);
+    if holds {
+        seen.put(number as usize);
+    }
+    holds
+}
+
+fn is_in_place(seen: &Row, number: u64, count: usize) -> bool
+    ensures { result ≡ (nat_lt 0 number && nat_le number count && not (has_bit seen.now number)) }
+{
+    0 < number && number <= count as u64 && !seen.has(number as usize)
 }

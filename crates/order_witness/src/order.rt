@@ -1,23 +1,47 @@
 //! The clause on order: no listed request precedes itself or one listed before it, and those of a session stand in its
 //! order.
-ghost use Rattle.std.specs.Prelude.{◌≡◌, ◌||◌, ℕ, not, nat_lt};
+ghost use Rattle.std.specs.Prelude.{◌≡◌, ◌||◌, ℕ, not, nat_lt, IfOk};
 ghost use Rattle.std.specs.List.{list_all};
+ghost use Rattle.proof_base.specs.Facts.{AllHold};
 ghost use Rattle.report_rules.specs.RightReport as right;
 ghost use Rattle.report_rules.specs.Lookups as told;
 ghost use Rattle.order_witness.specs.Bits.{leads};
 ghost use Rattle.order_witness.specs.Begun.{request_precedes, is_listed_in_order};
 ghost use Rattle.order_witness.specs.Judgement.{IsFirstFault};
 
+use crate::places::is_in_turn;
+use crate::precedence::precedence_of;
 use crate::relation::Relation;
 use crate::words::same_session;
 use program_defs::Script;
 use report_rules::Report;
+use std::alloc::{AllocError, Global};
+use vector_stamp::laws::{precedence_is_decided, stamps_are_ordered};
 
-/// The first place in the order that breaks the clause with itself or an earlier place, from 1.
-pub fn first_fault(script: &Script, report: &Report, precedence: &Relation) -> Option<u64>
+/// The first place in the order that breaks the clause with itself or an earlier place, from 1, where the clause on replies holds.
+///
+/// One walk over the order and the pairs finds that there is none. Precedence is found only if the walk does not.
+pub fn first_fault(
+    alloc: Global,
+    script: &Script,
+    report: &Report,
+) -> Result<Option<u64>, AllocError>
+    requires { AllHold (right.replies_clause script.now report.now) }
+    ensures { IfOk result (IsFirstFault (right.order_clause script.now report.now)) }
+{
+    stamps_are_ordered();
+    if is_in_turn(alloc, report)? {
+        return Ok(None);
+    }
+    let precedence = precedence_of(alloc, report)?;
+    Ok(first_out_of_place(script, report, &precedence))
+}
+
+fn first_out_of_place(script: &Script, report: &Report, precedence: &Relation) -> Option<u64>
     requires { (a b : ℕ) → leads precedence.now a b ≡ request_precedes report.now a b }
     ensures { IsFirstFault (right.order_clause script.now report.now) result }
 {
+    precedence_is_decided();
     let order = report.order.as_slice();
     for (place, request) in order.iter().enumerate() {
         let holds = is_listed_in_order(script, precedence, &order[..place], *request);

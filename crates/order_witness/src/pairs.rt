@@ -5,7 +5,6 @@ ghost use Rattle.report_rules.specs.RightReport as right;
 ghost use Rattle.report_rules.specs.Lookups as told;
 ghost use Rattle.order_witness.specs.Judgement.{IsFirstFault, has_no_program};
 
-use crate::stamps::unordered;
 use crate::words::{is_committed, names_vertex, stamp_at};
 use program_defs::Script;
 use report_rules::{Pair, Report};
@@ -39,7 +38,7 @@ fn are_unordered(report: &Report, a: u32, b: u32) -> bool
     ensures { result ≡ told.are_both stamps.unordered (told.stamp_at report.now a) (told.stamp_at report.now b) }
 {
     match (stamp_at(report, a), stamp_at(report, b)) {
-        (Some(a), Some(b)) => unordered(&a, &b),
+        (Some(a), Some(b)) => a.is_unordered(&b),
         _ => false,
     }
 }

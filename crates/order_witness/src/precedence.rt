@@ -4,16 +4,18 @@ ghost use Rattle.order_witness.specs.Bits.{leads};
 ghost use Rattle.order_witness.specs.Begun.{request_precedes, StampsDiffer, is_before_in, is_before_reply, stamp_in, stamps_lead, pairs_lead};
 
 use crate::relation::Relation;
-use crate::stamps::stamp_before;
 use report_rules::{Pair, Reply, Report};
 use std::alloc::{AllocError, Global};
 use vector_stamp::Stamp;
+use vector_stamp::laws::{one_pair_joins_its_ends, precedence_is_decided};
 
 /// The relation between the requests of a report, by number: which precedes which. No two begun ones may have one stamp.
 pub fn precedence_of(alloc: Global, report: &Report) -> Result<Relation, AllocError>
     requires { StampsDiffer report.now }
     ensures { IfOk result (λ relation. (a b : ℕ) → leads relation a b ≡ request_precedes report.now a b) }
 {
+    precedence_is_decided();
+    one_pair_joins_its_ends();
     let replies = report.replies.as_slice();
     let mut relation = Relation::empty(alloc, replies.len())?;
     put_stamps(&mut relation, replies);
@@ -53,7 +55,7 @@ fn is_before(stamp: &Stamp, reply: &Reply) -> bool
     ensures { result ≡ is_before_reply stamp.now reply.now }
 {
     match &reply.stamp {
-        Some(later) => stamp_before(stamp, later),
+        Some(later) => stamp.is_before(later),
         None => false,
     }
 }

@@ -16,12 +16,14 @@ use crate::words::{may_be_listed, stamp_at};
 use program_defs::Script;
 use report_rules::{Reply, Report};
 use std::alloc::{AllocError, Global};
+use vector_stamp::laws::precedence_is_decided;
 
 /// Whether the report has a printed order: the clause on replies holds, and no request precedes itself.
 pub fn has_order(alloc: Global, script: &Script, report: &Report) -> Result<bool, AllocError>
     ensures { IfOk result (λ has. IsTrue has ↔ (AllHold (replies_clause script.now report.now) × NonePrecedesItself report.now)) }
 {
-    if let Some(_) = replies::first_fault(script, report) {
+    precedence_is_decided();
+    if let Some(_) = replies::first_fault(alloc, script, report)? {
         return Ok(false);
     }
     let precedence = precedence_of(alloc, report)?;
@@ -47,6 +49,7 @@ pub fn order_of(alloc: Global, script: &Script, report: &Report) -> Result<Vec<u
     requires acyclic { NonePrecedesItself report.now }
     ensures { IfOk result (λ order. IsPrintedOrder report.now order.items) }
 {
+    precedence_is_decided();
     let precedence = precedence_of(alloc, report)?;
     let mut remaining = begun_requests(alloc, report.replies.as_slice())?;
     let mut order = Vec::new(alloc);

@@ -1,20 +1,25 @@
 //! The clause on refusals: each is refused so after as many commits as it says, and these stand well among the commits
 //! of its session.
-ghost use Rattle.std.specs.Prelude.{◌≡◌, ◌||◌, not, false, IsTrue, IfOk, slice_index_or};
+ghost use Rattle.std.specs.Prelude.{◌≡◌, ◌||◌, ℕ, not, false, Some, IsTrue, IfOk, slice_index_or};
 ghost use Rattle.std.specs.List.{list_all};
 ghost use Rattle.report_rules.specs.declared.report.Reply.{Reply};
+ghost use Rattle.proof_base.specs.Facts.{AllHold};
+ghost use Rattle.order_witness.specs.Turns.{AreAllKept, AreNumbersKept};
 ghost use Rattle.report_rules.specs.RightReport as right;
 ghost use Rattle.report_rules.specs.Lookups as told;
 ghost use Rattle.order_witness.specs.Judgement.{IsFirstFault, has_no_program, has_short_transactions};
-ghost use Rattle.order_witness.specs.Refusals.{AreMarked, is_refusal_in_place};
+ghost use Rattle.order_witness.specs.Refusals.{AreMarked, is_refusal_in_place, refused_after};
 
 use crate::marks::marks_of;
+use crate::turns::do_numbers_take_turns;
 use crate::words::{commits, number_of, same_session};
 use program_defs::Script;
 use report_rules::{Reply, ReplyState, Report};
 use std::alloc::{AllocError, Global};
 
-/// The first reply line that breaks the clause, from 1, for a script without programs.
+/// The first reply line that breaks the clause, from 1, for a script without programs, where the clause on replies holds.
+///
+/// One walk finds that commit numbers and refusals are in turn in each session. Each refusal is compared with all replies only if it does not.
 pub fn first_fault(
     alloc: Global,
     script: &Script,
@@ -22,19 +27,30 @@ pub fn first_fault(
 ) -> Result<Option<u64>, AllocError>
     requires programs { IsTrue (has_no_program script.now) }
     requires short { IsTrue (has_short_transactions script.now) }
+    requires replies { AllHold (right.replies_clause script.now report.now) }
     ensures { IfOk result (IsFirstFault (right.refusals_clause script.now report.now)) }
 {
     let marks = marks_of(alloc, script, report)?;
-    Ok(first_out_of_place(script, report, marks.as_slice()))
+    let replies = report.replies.as_slice();
+    let in_turn = do_numbers_take_turns(alloc, script, replies)?;
+    let found = marks.as_slice();
+    Ok(first_out_of_place(script, report, found, in_turn))
 }
 
-fn first_out_of_place(script: &Script, report: &Report, marks: &[bool]) -> Option<u64>
-    requires { AreMarked script.now report.now marks.now }
+fn first_out_of_place(
+    script: &Script,
+    report: &Report,
+    marks: &[bool],
+    in_turn: bool,
+) -> Option<u64>
+    requires marked { AreMarked script.now report.now marks.now }
+    requires kept { IsTrue in_turn → AreAllKept script.now report.now.replies }
     ensures { IsFirstFault (right.refusals_clause script.now report.now) result }
 {
+    let count = commits(report);
     for (place, reply) in report.replies.as_slice().iter().enumerate() {
         let mark = mark_at(marks, place);
-        let holds = is_in_place(script, report, reply, mark);
+        let holds = is_in_place(script, report, reply, mark, in_turn, count);
         if !holds {
             return Some(place as u64 + 1);
         }
@@ -51,21 +67,49 @@ fn mark_at(marks: &[bool], place: usize) -> bool
     }
 }
 
-fn is_in_place(script: &Script, report: &Report, reply: &Reply, mark: bool) -> bool
+fn is_in_place(
+    script: &Script,
+    report: &Report,
+    reply: &Reply,
+    mark: bool,
+    in_turn: bool,
+    count: usize,
+) -> bool
+    requires kept { IsTrue in_turn → (at : ℕ) → refused_after reply.now.state ≡ Some at → AreNumbersKept script.now report.now.replies reply.now.request at }
+    requires count { count ≡ told.commits report.now }
     ensures { result ≡ is_refusal_in_place script.now report.now reply.now.request reply.now.state mark }
 {
     match &reply.state {
         ReplyState::Refused { at, .. } => {
-            stands_among_commits(script, report, reply.request, *at) && mark
+            stands_among_commits(script, report, reply.request, *at, in_turn, count) && mark
         }
         _ => true,
     }
 }
 
-fn stands_among_commits(script: &Script, report: &Report, r: u32, at: u64) -> bool
+fn stands_among_commits(
+    script: &Script,
+    report: &Report,
+    r: u32,
+    at: u64,
+    in_turn: bool,
+    count: usize,
+) -> bool
+    requires kept { IsTrue in_turn → AreNumbersKept script.now report.now.replies r at }
+    requires count { count ≡ told.commits report.now }
     ensures { result ≡ right.stands_among_commits script.now report.now r at }
 {
-    at <= commits(report) as u64 && keeps_numbers(script, report.replies.as_slice(), r, at)
+    at <= count as u64 && are_numbers_kept(script, report.replies.as_slice(), r, at, in_turn)
+}
+
+fn are_numbers_kept(script: &Script, replies: &[Reply], r: u32, at: u64, in_turn: bool) -> bool
+    requires { IsTrue in_turn → AreNumbersKept script.now replies.now r at }
+    ensures { result ≡ list_all (λ (other : Reply). not (told.same_session script.now other.request r) || right.keeps_number at r other) replies.now }
+{
+    if in_turn {
+        return true;
+    }
+    keeps_numbers(script, replies, r, at)
 }
 
 fn keeps_numbers(script: &Script, replies: &[Reply], r: u32, at: u64) -> bool

@@ -1,31 +1,93 @@
 //! The clause on replies: reply i is of request i, with a stamp of its gatekeeper, apart from the others' and after
 //! those of its session.
-ghost use Rattle.std.specs.Prelude.{◌≡◌, ◌==◌, ◌&&◌, nat_lt, IsTrue, length};
+ghost use Rattle.std.specs.Prelude.{◌≡◌, ◌==◌, ◌&&◌, nat_lt, IsTrue, IfOk, length};
 ghost use Rattle.std.specs.List.{list_all};
 ghost use Rattle.report_rules.specs.declared.report.Reply.{Reply};
-ghost use Rattle.proof_base.specs.Facts.{facts_in_turn};
+ghost use Rattle.proof_base.specs.Facts.{AllHold, facts_in_turn};
 ghost use Rattle.report_rules.specs.RightReport as right;
 ghost use Rattle.report_rules.specs.Lookups.{is_none_or, request_at};
 ghost use Rattle.order_witness.specs.Judgement.{IsFirstFault};
+ghost use Rattle.order_witness.specs.Rising.{AreAtPlaces, is_at_place};
 
-use crate::stamps::{are_apart, stamp_before};
+use crate::rising::{are_begun_in_turn, are_stamps_apart, do_sessions_take_turns};
 use crate::words::{request_at, same_session};
 use program_defs::Script;
 use report_rules::{Reply, Report};
+use std::alloc::{AllocError, Global};
 use vector_stamp::Stamp;
 
 /// The first reply line that breaks the clause, from 1; one more than the last where lines are missing.
-pub fn first_fault(script: &Script, report: &Report) -> Option<u64>
-    ensures { IsFirstFault (right.replies_clause script.now report.now) result }
+///
+/// A sort by stamps, and one by sessions, find that there is none. Each two replies are compared only if they do not.
+pub fn first_fault(
+    alloc: Global,
+    script: &Script,
+    report: &Report,
+) -> Result<Option<u64>, AllocError>
+    ensures { IfOk result (IsFirstFault (right.replies_clause script.now report.now)) }
 {
     let replies = report.replies.as_slice();
-    if let Some(place) = first_out_of_place(script, replies) {
-        return Some(place);
+    if let Some(place) = fault_in_place(alloc, script, replies)? {
+        return Ok(Some(place));
     }
     if replies.len() < script.requests.as_slice().len() {
-        return Some(replies.len() as u64 + 1);
+        return Ok(Some(replies.len() as u64 + 1));
     }
-    None
+    Ok(None)
+}
+
+fn fault_in_place(
+    alloc: Global,
+    script: &Script,
+    replies: &[Reply],
+) -> Result<Option<u64>, AllocError>
+    ensures { IfOk result (IsFirstFault (facts_in_turn (λ before (reply : Reply). IsTrue (right.is_reply_in_place script.now before reply)) replies.now)) }
+{
+    let surely = are_surely_in_place(alloc, script, replies)?;
+    if surely {
+        return Ok(None);
+    }
+    Ok(first_out_of_place(script, replies))
+}
+
+// Whether each reply is in place. It is never wrong where it says so.
+fn are_surely_in_place(
+    alloc: Global,
+    script: &Script,
+    replies: &[Reply],
+) -> Result<bool, AllocError>
+    ensures { IfOk result (λ holds. IsTrue holds → AllHold (facts_in_turn (λ before (reply : Reply). IsTrue (right.is_reply_in_place script.now before reply)) replies.now)) }
+{
+    let at_places = are_at_places(script, replies);
+    if !at_places {
+        return Ok(false);
+    }
+    let apart = are_stamps_apart(alloc, replies)?;
+    if !apart {
+        return Ok(false);
+    }
+    let turns = do_sessions_take_turns(alloc, script, replies)?;
+    Ok(turns)
+}
+
+fn are_at_places(script: &Script, replies: &[Reply]) -> bool
+    ensures { IsTrue result → AreAtPlaces script.now replies.now (length replies.now) }
+{
+    for (place, reply) in replies.iter().enumerate() {
+        let holds = is_at_place(script, place, reply);
+        if !holds {
+            return false;
+        }
+    }
+    true
+}
+
+fn is_at_place(script: &Script, place: usize, reply: &Reply) -> bool
+    ensures { result ≡ is_at_place script.now place reply.now }
+{
+    reply.request as usize == place
+        && (reply.request as usize) < script.requests.as_slice().len()
+        && is_at_home(script, reply)
 }
 
 fn first_out_of_place(script: &Script, replies: &[Reply]) -> Option<u64>
@@ -85,17 +147,7 @@ fn are_apart_where_begun(a: &Option<Stamp>, b: &Option<Stamp>) -> bool
     ensures { result ≡ right.are_apart_where_begun a.now b.now }
 {
     match (a, b) {
-        (Some(a), Some(b)) => are_apart(a, b),
+        (Some(a), Some(b)) => a.is_apart(b),
         _ => true,
-    }
-}
-
-fn are_begun_in_turn(earlier: &Option<Stamp>, later: &Option<Stamp>) -> bool
-    ensures { result ≡ right.are_begun_in_turn earlier.now later.now }
-{
-    match (earlier, later) {
-        (Some(earlier), Some(later)) => stamp_before(earlier, later),
-        (None, Some(_)) => false,
-        (_, None) => true,
     }
 }

@@ -6,7 +6,7 @@ use program_defs::{Request, Script, Work};
 use report_rules::{Reply, ReplyState, Report};
 use std::alloc::Global;
 use std::process::Abort;
-use vector_stamp::{Relation, Stamp};
+use vector_stamp::Stamp;
 use weave_data::Name;
 
 /// The first clause that breaks, and its first place.
@@ -90,10 +90,6 @@ fn stamp_of(report: &Report, r: u32) -> Option<Stamp> {
     reply_of(report, r)?.stamp
 }
 
-fn before(a: &Stamp, b: &Stamp) -> bool {
-    a.clock.compare(&b.clock) == Relation::Before
-}
-
 fn one_session(script: &Script, a: u32, b: u32) -> bool {
     match (request_of(script, a), request_of(script, b)) {
         (Some(a), Some(b)) => a.session == b.session,
@@ -145,7 +141,7 @@ fn leads(report: &Report, a: u32, b: u32) -> bool {
     let (Some(x), Some(y)) = (stamp_of(report, a), stamp_of(report, b)) else {
         return false;
     };
-    before(&x, &y)
+    x.is_before(&y)
         || report.pairs.as_slice().iter().any(|pair| {
             stamp_of(report, pair.earlier) == Some(x) && stamp_of(report, pair.later) == Some(y)
         })
@@ -197,7 +193,7 @@ fn stand_well(script: &Script, earlier: &Reply, reply: &Reply) -> bool {
     let in_turn = match (&earlier.stamp, &reply.stamp) {
         (_, None) => true,
         (None, Some(_)) => false,
-        (Some(x), Some(y)) => before(x, y),
+        (Some(x), Some(y)) => x.is_before(y),
     };
     begun && (in_turn || !one_session(script, earlier.request, reply.request))
 }
@@ -210,7 +206,7 @@ fn are_told_apart(x: &Stamp, y: &Stamp) -> bool {
     ) else {
         return false;
     };
-    (x.clock.epoch < y.clock.epoch || (x.clock.epoch == y.clock.epoch && *a < *b)) && before(x, y)
+    (x.clock.epoch < y.clock.epoch || (x.clock.epoch == y.clock.epoch && *a < *b)) && x.is_before(y)
 }
 
 fn is_listing_right(report: &Report, place: usize) -> bool {
@@ -301,7 +297,7 @@ fn is_pair_right(script: &Script, report: &Report, place: usize) -> bool {
         return true;
     };
     let unordered = match (stamp_of(report, pair.earlier), stamp_of(report, pair.later)) {
-        (Some(x), Some(y)) => !before(&x, &y) && !before(&y, &x),
+        (Some(x), Some(y)) => !x.is_before(&y) && !y.is_before(&x),
         _ => false,
     };
     unordered

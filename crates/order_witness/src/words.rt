@@ -17,7 +17,14 @@ use weave_data::Name;
 pub fn request_at(script: &Script, r: u32) -> Option<&Request>
     ensures { option_copied result ≡ told.request_at script.now r }
 {
-    script.requests.as_slice().get(r as usize)
+    request_in(script, r as usize)
+}
+
+/// The request at a place in the script, from 0.
+pub fn request_in(script: &Script, place: usize) -> Option<&Request>
+    ensures { option_copied result ≡ told.request_at script.now place }
+{
+    script.requests.as_slice().get(place)
 }
 
 /// Reply r of the report.

@@ -1,22 +1,11 @@
-use Rattle.std.proofs.Common.{◌+◌, List, sym, ◌∙◌, subst}
-use Rattle.std.proofs.lemmas.Bool.{both_ways}
-use Rattle.report_rules.specs.declared.report.Reply.{Reply}
-use Rattle.proof_base.specs.Facts.{BreaksFirstAt, facts_of_each}
-use Rattle.report_rules.specs.RightReport.{IsConflictInPlace}
-use Rattle.order_witness.specs.Bits.{leads}
-use Rattle.order_witness.proofs.Loops.{each_step, each_breaks}
-use Rattle.order_witness.proofs.Testing.{conflict_fact, conflict_test}
+use Rattle.std.proofs.Common.{sym, ◌∙◌}
+use Rattle.order_witness.proofs.Replying.{differ}
+use Rattle.order_witness.proofs.Testing.{conflicts_hold}
 use Rattle.order_witness.proofs.conflicts.first_fault.Goals as goal
 
-pub returns-then-not-holds : goal.returns-then-not-holds
-returns-then-not-holds c =
-    subst (λ (replies : List Reply). BreaksFirstAt (facts_of_each (λ (reply : Reply). IsConflictInPlace c.args.script.now c.args.report.now reply.request reply.state) replies) (c.loop-place.place + 1)) c.as_slice-reply-items.ensures
-    (each_breaks (λ (reply : Reply). IsConflictInPlace c.args.script.now c.args.report.now reply.request reply.state) c.as_slice-reply-items.result.now c.loop-place.place c.reply-item.result
-    c.loop-place-test.true c.loop-place.invariant c.reply-item.is
-    (λ fact. both_ways _ (sym c.is_in_place-holds.ensures ∙ c.if-not-holds.true) (conflict_test c.args.script.now c.args.report.now (leads c.args.precedence.now) c.requires c.reply-item.result.request c.reply-item.result.state fact)))
+pub precedence_of-requires : goal.precedence_of-requires
+precedence_of-requires c = differ c.args.script.now c.args.report.now c.requires
 
-pub loop-place-preserved : goal.loop-place-preserved
-loop-place-preserved c =
-    each_step (λ (reply : Reply). IsConflictInPlace c.args.script.now c.args.report.now reply.request reply.state) c.as_slice-reply-items.result.now c.loop-place.place c.reply-item.result
-    c.loop-place-test.true c.loop-place.invariant c.reply-item.is
-    (conflict_fact c.args.script.now c.args.report.now (leads c.args.precedence.now) c.requires c.reply-item.result.request c.reply-item.result.state (sym c.is_in_place-holds.ensures ∙ c.if-not-holds.false))
+pub returns-then-hold_by_stamps : goal.returns-then-hold_by_stamps
+returns-then-hold_by_stamps c =
+    conflicts_hold (λ pairs. (c.precedence_is_decided.ensures.closed pairs).has_stamps) c.precedence_is_decided.ensures.tested c.args.script.now c.args.report.now (sym c.hold_by_stamps.ensures ∙ c.if-hold_by_stamps.true)

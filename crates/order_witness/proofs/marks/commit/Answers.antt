@@ -10,12 +10,12 @@ use Rattle.order_witness.proofs.Testing.{is_changes, is_short}
 use Rattle.order_witness.proofs.marks.commit.Goals as goal
 
 pub work_passes-requires-clause-change : goal.work_passes-requires-clause-change
-work_passes-requires-clause-change c = is_changes c.args.script.now c.requires.programs c.in-Some.only c.in-Some-request_at.request.now (sym c.in-Some-request_at.ensures)
+work_passes-requires-clause-change c = is_changes c.args.script.now c.requires.programs c.in-Some.only c.in-Some-request_in.request.now (sym c.in-Some-request_in.ensures)
 
 pub work_passes-requires-clause-short : goal.work_passes-requires-clause-short
-work_passes-requires-clause-short c = is_short c.args.script.now c.requires.short c.in-Some.only c.in-Some-request_at.request.now (sym c.in-Some-request_at.ensures)
+work_passes-requires-clause-short c = is_short c.args.script.now c.requires.short c.in-Some.only c.in-Some-request_in.request.now (sym c.in-Some-request_in.ensures)
 
-pub returns-in-Some-request_at : goal.returns-in-Some-request_at
-returns-in-Some-request_at c =
+pub returns-in-Some-request_in : goal.returns-in-Some-request_in
+returns-in-Some-request_in c =
     subst (λ (o : Option Request). IfOk c.work_passes.result (IsThere (graph_after_commit o (Some (plain_of c.args.graph.now))) (plain_of c.work_passes.new.graph)))
-    (c.in-Some-request_at.ensures ∙ ap (option_and_then (request_at c.args.script.now)) c.in-Some.ensures) c.work_passes.ensures
+    (c.in-Some-request_in.ensures ∙ ap (option_and_then (request_at c.args.script.now)) c.in-Some.ensures) c.work_passes.ensures

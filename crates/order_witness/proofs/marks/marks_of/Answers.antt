@@ -1,4 +1,4 @@
-use Rattle.std.proofs.Common.{◌≡◌, ◌+◌, ◌≤◌, ℕ, List, Bool, Option, Some, None, false, true, get_or, length, inl, inr, sym, ap, ◌∙◌, subst, arith}
+use Rattle.std.proofs.Common.{◌≡◌, ◌+◌, ◌<◌, ◌≤◌, ℕ, List, Bool, Option, Some, None, false, true, get_or, length, inl, inr, sym, ap, ◌∙◌, subst, arith}
 use Rattle.std.specs.Prelude.{replicate}
 use Rattle.std.specs.Option.{option_and_then}
 use Rattle.std.proofs.lemmas.Bool.{cases_lt}
@@ -8,9 +8,11 @@ use Rattle.graph_ops.specs.PlainGraph.{PlainGraph}
 use Rattle.program_defs.specs.declared.script.Script.{Script}
 use Rattle.report_rules.specs.declared.report.Report.{Report}
 use Rattle.report_rules.specs.declared.report.Reply.{Reply}
-use Rattle.report_rules.specs.Lookups.{request_at}
+use Rattle.report_rules.specs.Lookups.{commits, request_at}
 use Rattle.report_rules.specs.Replay.{graph_after_commit, graph_of_commits, the_only}
 use Rattle.order_witness.specs.Refusals.{AreMarkedOn, IsThere, numbered_in}
+use Rattle.order_witness.specs.ByNumber.{HasRefused}
+use Rattle.order_witness.proofs.Numbered.{numbers_within}
 use Rattle.order_witness.proofs.MarkSteps.{at_start, one_more, at_end, next_commit}
 use Rattle.order_witness.proofs.marks.marks_of.Goals as goal
 
@@ -23,17 +25,31 @@ unmarked count place =
     ]
 
 -- the graph after the next commit, over the slice of replies
-next_graph : (script : Script) (report : Report) (replies : List Reply) (done : ℕ) (graph : PlainGraph) → replies ≡ report.replies → graph_of_commits script report done ≡ Some graph
-    → graph_of_commits script report (done + 1) ≡ graph_after_commit (option_and_then (request_at script) (the_only (numbered_in (done + 1) replies))) (Some graph)
-next_graph script report replies done graph is there =
+next_graph : (script : Script) (report : Report) (replies : List Reply) (done : ℕ) (graph : PlainGraph) (requests : List ℕ) → replies ≡ report.replies → graph_of_commits script report done ≡ Some graph → requests ≡ numbered_in (done + 1) replies
+    → graph_of_commits script report (done + 1) ≡ graph_after_commit (option_and_then (request_at script) (the_only requests)) (Some graph)
+next_graph script report replies done graph requests is there those =
     next_commit script report done ∙ ap (graph_after_commit (option_and_then (request_at script) (the_only (numbered_in (done + 1) report.replies)))) there
     ∙ ap (λ (rs : List Reply). graph_after_commit (option_and_then (request_at script) (the_only (numbered_in (done + 1) rs))) (Some graph)) (sym is)
+    ∙ ap (λ (rs : List ℕ). graph_after_commit (option_and_then (request_at script) (the_only rs)) (Some graph)) (sym those)
+
+-- there are no more commits than replies
+within : (report : Report) (replies : List Reply) (done count : ℕ) → replies ≡ report.replies → count ≡ commits report → done < count → done + 1 ≤ length replies
+within report replies done count is count_is lt = omega (arith, ap (length {A = Reply}) is, count_is, lt, numbers_within report.replies)
 
 there_so : (o : Option PlainGraph) (now : PlainGraph) (b : Bool) → b ≡ true → IsThere o now b → o ≡ Some now
 there_so o now b is h = subst (IsThere o now) is h
 
 not_there : (o : Option PlainGraph) (now : PlainGraph) (b : Bool) → b ≡ false → IsThere o now b → o ≡ None
 not_there o now b is h = subst (IsThere o now) is h
+
+pub mark-requires-clause-places : goal.mark-requires-clause-places
+mark-requires-clause-places c =
+    subst (HasRefused 0 c.as_slice-replies.result.now) (sym c.list_of-first.ensures) (c.in_ok-refused.ensures 0 (omega arith))
+
+pub mark-requires-in-loop-done-clause-places : goal.mark-requires-in-loop-done-clause-places
+mark-requires-in-loop-done-clause-places c =
+    let done : ℕ = c.loop-done.done in
+    subst (HasRefused (done + 1) c.as_slice-replies.result.now) (sym c.list_of-places.ensures) (c.in_ok-refused.ensures (done + 1) (within c.args.report.now c.as_slice-replies.result.now done c.commits-done-end.result c.as_slice-replies.ensures c.commits-done-end.ensures c.loop-done-test.true))
 
 pub loop-done-init : goal.loop-done-init
 loop-done-init c = record {
@@ -50,7 +66,8 @@ pub loop-done-preserved : goal.loop-done-preserved
 loop-done-preserved c =
     let done : ℕ = c.loop-done.done in
     let there : graph_of_commits c.args.script.now c.args.report.now (done + 1) ≡ Some (plain_of c.commit.new.graph) =
-    next_graph c.args.script.now c.args.report.now c.as_slice-replies.result.now done (plain_of c.loop-done.graph) c.as_slice-replies.ensures c.loop-done.invariant.graph
+    next_graph c.args.script.now c.args.report.now c.as_slice-replies.result.now done (plain_of c.loop-done.graph) c.list_of-requests.result.now c.as_slice-replies.ensures c.loop-done.invariant.graph
+    (c.list_of-requests.ensures ∙ c.in_ok-committed.ensures (done + 1) (within c.args.report.now c.as_slice-replies.result.now done c.commits-done-end.result c.as_slice-replies.ensures c.commits-done-end.ensures c.loop-done-test.true))
     ∙ there_so _ (plain_of c.commit.new.graph) c.in_ok-there.there c.if-not-there.false c.in_ok-there.ensures in
     record {
       size = c.in_ok-mark-2.ensures.size ∙ c.loop-done.invariant.size;
@@ -63,7 +80,8 @@ loop-done-preserved c =
 pub returns-then-not-there : goal.returns-then-not-there
 returns-then-not-there c =
     at_end c.args.script.now c.args.report.now c.loop-done.done _ c.loop-done.marks.items c.loop-done.invariant.so_far
-    (next_graph c.args.script.now c.args.report.now c.as_slice-replies.result.now c.loop-done.done (plain_of c.loop-done.graph) c.as_slice-replies.ensures c.loop-done.invariant.graph
+    (next_graph c.args.script.now c.args.report.now c.as_slice-replies.result.now c.loop-done.done (plain_of c.loop-done.graph) c.list_of-requests.result.now c.as_slice-replies.ensures c.loop-done.invariant.graph
+    (c.list_of-requests.ensures ∙ c.in_ok-committed.ensures (c.loop-done.done + 1) (within c.args.report.now c.as_slice-replies.result.now c.loop-done.done c.commits-done-end.result c.as_slice-replies.ensures c.commits-done-end.ensures c.loop-done-test.true))
     ∙ not_there _ (plain_of c.commit.new.graph) c.in_ok-there.there c.if-not-there.true c.in_ok-there.ensures)
 
 pub returns : goal.returns

@@ -1,22 +1,10 @@
-use Rattle.std.proofs.Common.{◌+◌, List, ℕ, get_or, sym, ◌∙◌, subst}
-use Rattle.std.proofs.lemmas.Bool.{both_ways}
-use Rattle.std.proofs.lemmas.List.{get_or_default}
-use Rattle.proof_base.specs.Facts.{BreaksFirstAt, facts_in_turn}
-use Rattle.report_rules.specs.RightReport.{IsListedInOrder}
-use Rattle.order_witness.specs.Bits.{leads}
-use Rattle.order_witness.proofs.Loops.{turn_step, turn_breaks}
-use Rattle.order_witness.proofs.Testing.{listed_fact, listed_test}
+use Rattle.order_witness.proofs.Replying.{differ}
+use Rattle.order_witness.proofs.InTurn.{order_holds}
 use Rattle.order_witness.proofs.order.first_fault.Goals as goal
 
-pub returns-then-not-holds : goal.returns-then-not-holds
-returns-then-not-holds c =
-    subst (λ (order : List ℕ). BreaksFirstAt (facts_in_turn (IsListedInOrder c.args.script.now c.args.report.now) order) (c.loop-place.place + 1)) c.as_slice-order.ensures
-    (turn_breaks (IsListedInOrder c.args.script.now c.args.report.now) c.as_slice-order.result.now c.loop-place.place (get_or c.as_slice-order.result.now c.loop-place.place 0)
-    c.loop-place-test.true c.loop-place.invariant (get_or_default c.as_slice-order.result.now c.loop-place.place 0 _ c.loop-place-test.true)
-    (λ fact. both_ways _ (sym c.is_listed_in_order-holds.ensures ∙ c.if-not-holds.true) (listed_test c.args.script.now c.args.report.now (leads c.args.precedence.now) c.requires _ _ fact)))
+pub precedence_of-requires : goal.precedence_of-requires
+precedence_of-requires c = differ c.args.script.now c.args.report.now c.requires
 
-pub loop-place-preserved : goal.loop-place-preserved
-loop-place-preserved c =
-    turn_step (IsListedInOrder c.args.script.now c.args.report.now) c.as_slice-order.result.now c.loop-place.place (get_or c.as_slice-order.result.now c.loop-place.place 0)
-    c.loop-place-test.true c.loop-place.invariant (get_or_default c.as_slice-order.result.now c.loop-place.place 0 _ c.loop-place-test.true)
-    (listed_fact c.args.script.now c.args.report.now (leads c.args.precedence.now) c.requires _ _ (sym c.is_listed_in_order-holds.ensures ∙ c.if-not-holds.false))
+pub returns-then-branch : goal.returns-then-branch
+returns-then-branch c =
+    order_holds (record { irreflexive = c.stamps_are_ordered.ensures.irreflexive; transitive = c.stamps_are_ordered.ensures.transitive }) c.args.script.now c.args.report.now c.requires (c.in_ok-is_in_turn.ensures c.if-branch.true)

@@ -38,7 +38,7 @@ pub loop-request-preserved : goal.loop-request-preserved
 loop-request-preserved c =
     let best = over c.args.report.now (leads c.in_ok-precedence.precedence) c.as_slice-in-loop-request.result.now c.loop-request.remaining.items (Some c.in-Some.request) c.as_slice-in-loop-request.ensures.value c.in-Some.ensures in
     let left : c.in_ok-remaining-2.remaining.items ≡ without_request c.in-Some.request c.loop-request.remaining.items = c.in_ok-remaining-2.ensures ∙ ap (without_request c.in-Some.request) c.as_slice-in-Some.ensures.value in
-    let next = is_next c.args.script.now c.args.report.now c.requires.replies c.requires.acyclic (leads c.in_ok-precedence.precedence) c.in_ok-precedence.ensures c.loop-request.remaining.items c.in-Some.request c.loop-request.invariant.begun best in
+    let next = is_next c.args.script.now c.args.report.now c.requires.replies c.precedence_is_decided.ensures.tested c.precedence_is_decided.ensures.closed c.requires.acyclic (leads c.in_ok-precedence.precedence) c.in_ok-precedence.ensures c.loop-request.remaining.items c.in-Some.request c.loop-request.invariant.begun best in
     record {
       taken = c.loop-request.invariant.taken ++ c.in-Some.request ∷ [];
       in_turn = subst (AreTaken c.args.report.now (begun_requests c.args.report.now) (c.loop-request.invariant.taken ++ c.in-Some.request ∷ [])) (sym left) (taken_more c.args.report.now (begun_requests c.args.report.now) c.loop-request.invariant.taken c.loop-request.remaining.items c.in-Some.request c.loop-request.invariant.in_turn next);
@@ -49,7 +49,7 @@ loop-request-preserved c =
 pub returns : goal.returns
 returns c =
     let none : c.loop-request.remaining.items ≡ [] =
-    none_left c.args.script.now c.args.report.now c.requires.replies c.requires.acyclic (leads c.in_ok-precedence.precedence) c.in_ok-precedence.ensures c.loop-request.remaining.items
+    none_left c.args.script.now c.args.report.now c.requires.replies c.precedence_is_decided.ensures.tested c.precedence_is_decided.ensures.closed c.requires.acyclic (leads c.in_ok-precedence.precedence) c.in_ok-precedence.ensures c.loop-request.remaining.items
     (over c.args.report.now (leads c.in_ok-precedence.precedence) c.as_slice-in-loop-request.result.now c.loop-request.remaining.items None c.as_slice-in-loop-request.ensures.value c.in_default.ensures) in
     record {
       taken = c.loop-request.invariant.taken;

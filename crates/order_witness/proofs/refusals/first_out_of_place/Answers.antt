@@ -27,12 +27,16 @@ returns-then-not-holds c =
     c.loop-place-test.true c.loop-place.invariant c.reply-item.is
     (λ fact. both_ways _ (sym c.is_in_place-holds.ensures ∙ c.if-not-holds.true)
     (refusal_test c.args.script.now c.args.report.now c.reply-item.result.request c.mark_at-mark.result c.reply-item.result.state
-    (right_mark c.args.script.now c.args.report.now c.args.marks.now c.as_slice-reply-items.result.now c.loop-place.place c.reply-item.result c.mark_at-mark.result c.requires c.as_slice-reply-items.ensures c.loop-place-test.true c.reply-item.is c.mark_at-mark.ensures) fact)))
+    (right_mark c.args.script.now c.args.report.now c.args.marks.now c.as_slice-reply-items.result.now c.loop-place.place c.reply-item.result c.mark_at-mark.result c.requires.marked c.as_slice-reply-items.ensures c.loop-place-test.true c.reply-item.is c.mark_at-mark.ensures) fact)))
 
 pub loop-place-preserved : goal.loop-place-preserved
 loop-place-preserved c =
     each_step (λ (reply : Reply). IsRefusalInPlace c.args.script.now c.args.report.now reply.request reply.state) c.as_slice-reply-items.result.now c.loop-place.place c.reply-item.result
     c.loop-place-test.true c.loop-place.invariant c.reply-item.is
     (refusal_fact c.args.script.now c.args.report.now c.reply-item.result.request c.mark_at-mark.result c.reply-item.result.state
-    (right_mark c.args.script.now c.args.report.now c.args.marks.now c.as_slice-reply-items.result.now c.loop-place.place c.reply-item.result c.mark_at-mark.result c.requires c.as_slice-reply-items.ensures c.loop-place-test.true c.reply-item.is c.mark_at-mark.ensures)
+    (right_mark c.args.script.now c.args.report.now c.args.marks.now c.as_slice-reply-items.result.now c.loop-place.place c.reply-item.result c.mark_at-mark.result c.requires.marked c.as_slice-reply-items.ensures c.loop-place-test.true c.reply-item.is c.mark_at-mark.ensures)
     (sym c.is_in_place-holds.ensures ∙ c.if-not-holds.false))
+
+pub is_in_place-holds-requires-clause-kept : goal.is_in_place-holds-requires-clause-kept
+is_in_place-holds-requires-clause-kept c holds at is =
+    c.requires.kept holds c.loop-place.place at c.reply-item.result (ap (λ (rs : List Reply). slice_get rs c.loop-place.place) (sym c.as_slice-reply-items.ensures) ∙ slice_get_read c.as_slice-reply-items.result.now (length c.as_slice-reply-items.result.now) c.loop-place.place c.reply-item.result refl c.loop-place-test.true c.reply-item.is) is

@@ -1,7 +1,0 @@
-use Rattle.std.proofs.Common.{take}
-use Rattle.proof_base.specs.Facts.{AllHold, facts_in_turn}
-use Rattle.report_rules.specs.RightReport.{IsListedInOrder}
-use Rattle.order_witness.proofs.order.first_fault.Given as goal
-
-abbrev pub invariant-loop-place : goal.invariant-loop-place
-invariant-loop-place l = AllHold (facts_in_turn (IsListedInOrder l.script l.report) (take l.place l.order))
