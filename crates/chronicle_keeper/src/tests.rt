@@ -1,6 +1,10 @@
 use crate::{Noted, Owner, Tally, add, add_to_both, five_noted, tallied, total, with_note};
 use chronicle::Chronicle;
+use std::alloc::Global;
+use std::process::Abort;
+use std::sync::Wait;
 use std::test::Fail;
+use std::thread::Threads;
 
 /// Two authors, who seldom wait for each other.
 #[test]
@@ -17,10 +21,9 @@ fn each_entry_is_there_once(rt: HostRuntime) -> Result<(), Fail> {
     Ok(())
 }
 
-/// Four authors who wait for one another again and again: a `leave` that wakes nobody never ends here.
-#[test]
-fn who_waits_is_woken(rt: HostRuntime) -> Result<(), Fail> {
-    let tally = tallied(&rt, rt.alloc(), 4, 20_000)?;
+// Four authors with 20,000 entries each, who wait for one another again and again.
+fn four_authors<R: Threads + Wait + Sync + Abort>(rt: &R, alloc: Global) -> Result<(), Fail> {
+    let tally = tallied(rt, alloc, 4, 20_000)?;
     let mut next = [0u64; 4];
     for (author, value) in tally.entries() {
         let author = *author as usize;
@@ -29,6 +32,15 @@ fn who_waits_is_woken(rt: HostRuntime) -> Result<(), Fail> {
     }
     assert!(rt; next == [20_000; 4] && tally.entries().len() == 80_000);
     assert_eq!(rt; tally.total(), 799_960_000);
+    Ok(())
+}
+
+/// Ten times over: with a `leave` that wakes nobody, an author sleeps for good in most of them, and the test doesn't end.
+#[test]
+fn who_waits_is_woken(rt: HostRuntime) -> Result<(), Fail> {
+    for _ in 0..10 {
+        four_authors(&rt, rt.alloc())?;
+    }
     Ok(())
 }
 
