@@ -6,3 +6,7 @@ pub mod Entries
 pub mod Ranges
 pub mod FactsLaws
 pub mod Steps
+pub mod Images
+pub mod Numbers
+pub mod Counting
+pub mod Places
