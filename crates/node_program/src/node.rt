@@ -30,7 +30,8 @@ pub trait NodeProgram {
     /// The vertex to be read next, or `None` if the list of visits is done.
     fn next_vertex(&self) -> Option<Name>
         ensures next { result ≡ next self.now }
-        ensures visit { (reads : List (Name × State)) → has_read self.now reads → result ≡ next_visit reads (program self.now) };
+        ensures visit { (reads : List (Name × State)) → has_read self.now reads
+            → result ≡ next_visit reads (program self.now) };
 
     /// Takes the room for one read. Nothing else changes, whether it succeeds or is out of memory.
     fn ready(&mut self) -> Result<(), AllocError>

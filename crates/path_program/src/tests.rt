@@ -345,3 +345,72 @@ fn a_path_over_a_star(rt: HostRuntime) {
     };
     assert_eq!(rt; count, 2);
 }
+
+// No filter, or one that lets the edges pass that have the tag k = x.
+fn filter(rt: &impl Abort, filtered: bool) -> Option<Filter> {
+    if !filtered {
+        return None;
+    }
+    Some(Filter {
+        key: name(rt, b"k"),
+        value: name(rt, b"x"),
+    })
+}
+
+// A program of each form, from a to another vertex within a bound.
+fn programs(rt: &impl Abort, to: &[u8], bound: u32, filtered: bool) -> [Program; 4] {
+    let (from, to) = (name(rt, b"a"), name(rt, to));
+    [
+        Program::Show { v: to },
+        Program::Reach {
+            from,
+            to,
+            pass: filter(rt, filtered),
+        },
+        Program::Around {
+            from,
+            bound,
+            pass: filter(rt, filtered),
+        },
+        Program::Path {
+            from,
+            to,
+            bound,
+            pass: filter(rt, filtered),
+        },
+    ]
+}
+
+// What each of the programs answers, with a space after each.
+fn all_letters(rt: &impl Abort, alloc: Global, graph: &Graph, programs: &[Program]) -> Vec<u8> {
+    let mut text = Vec::new(alloc);
+    for program in programs {
+        let answer = letters(rt, alloc, graph, program);
+        text.extend_from_slice(answer.as_slice())
+            .expect(rt, "memory");
+        text.push(b' ').expect(rt, "memory");
+    }
+    text
+}
+
+// The edges a e2 b and b e1 d pass the filter.
+#[test]
+fn answers_of_each_program(rt: HostRuntime) {
+    let alloc = rt.alloc();
+    let mut graph = diamond(&rt, alloc);
+    for edge in [b"ae2", b"be1"] {
+        tag(&rt, alloc, &mut graph, edge, b"x");
+    }
+    let rows = [
+        (b"d", 1, false, b"+ + abc . ".as_slice()),
+        (b"y", 5, false, b"- - abcd . "),
+        (b"y", 5, true, b"- - abd . "),
+        (b"b", 1, true, b"+ + ab ab "),
+        (b"c", 5, true, b"+ - abd . "),
+        (b"d", 2, true, b"+ + abd abd "),
+    ];
+    for (to, bound, filtered, wanted) in rows {
+        let asked = programs(&rt, to, bound, filtered);
+        assert_eq!(rt; all_letters(&rt, alloc, &graph, &asked).as_slice(), wanted);
+    }
+}

@@ -22,7 +22,7 @@ use Rattle.program_defs.proofs.Closed.{end_present}
 use Rattle.program_defs.proofs.Cutting.{cut, cut-free}
 use Rattle.program_defs.proofs.Levels.{levels-are-distances}
 use Rattle.program_defs.proofs.Members.{itself, as_set-has, as_set-only}
-use Rattle.program_defs.proofs.NextVisit.{visits-of-reads}
+use Rattle.program_defs.proofs.NextVisit.{read-there, visits-of-reads}
 use Rattle.program_defs.proofs.Once.{new-after, visits-once}
 use Rattle.program_defs.proofs.Onward.{find-next, first-cut}
 use Rattle.program_defs.proofs.Searched.{visits-through}
@@ -85,7 +85,7 @@ walk-to graph pass from v n there k = (levels-are-distances graph pass from n v 
 
 pub reach-answer : (from to : Name) (pass : Option Filter) (state : SearchState) (reads : List (Name × State)) → HasSearched (Reach from to pass) state reads → IsPlainAnswer (graph_read reads) (Reach from to pass) (Reached (is_among state.present to))
 reach-answer from to pass state reads h = (
-  λ k. (let w = walk-to (graph_read reads) pass from to (length reads) (sym (h.found.present to) ∙ k) (up-to-only to (through_level (length reads) (graph_read reads) pass from) to (h.found.visited to k)) in (w.0, (and_parts (is_walk (graph_read reads) pass from to w.0) _ w.1).0)),
+  λ k. (let w = walk-to (graph_read reads) pass from to (length reads) (sym (h.found.present to) ∙ k) (up-to-only to (through_level (length reads) (graph_read reads) pass from) to (h.found.visited to (read-there reads to (sym (h.found.present to) ∙ k)))) in (w.0, (and_parts (is_walk (graph_read reads) pass from to w.0) _ w.1).0)),
   λ w. h.found.present to ∙ end_present (graph_read reads) pass from to w.0 w.1,
 )
 
@@ -94,7 +94,7 @@ pub around-answer : (from : Name) (bound : ℕ) (pass : Option Filter) (state : 
 around-answer from bound pass state reads h = (
   set-rising (as_set state.present) (as_set-set state.present),
   λ v. (
-    λ k. (let in_list = as_set-only state.present v k in walk-to (graph_read reads) pass from v bound (sym (h.found.present v) ∙ in_list) (h.found.visited v in_list)),
+    λ k. (let in_list = as_set-only state.present v k in walk-to (graph_read reads) pass from v bound (sym (h.found.present v) ∙ in_list) (h.found.visited v (read-there reads v (sym (h.found.present v) ∙ in_list)))),
     λ w. as_set-has state.present v (h.found.present v ∙ end_present (graph_read reads) pass from v w.0 (and_parts (is_walk (graph_read reads) pass from v w.0) _ w.1).0),
   ),
 )

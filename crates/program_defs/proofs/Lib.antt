@@ -28,3 +28,7 @@ pub mod Pathing
 pub mod HopOrder
 pub mod Noting
 pub mod ReadOrder
+pub mod Feeding
+pub mod GoingOn
+pub mod Ending
+pub mod WithinLimits

@@ -27,7 +27,7 @@ read-there (read ∷ reads) v h = here (same_name read.0 v) refl (read-there rea
     here false is rest g = or_right _ _ (rest g)
 
 -- how many pass a test
-abbrev count : (Name → Bool) → List Name → ℕ
+abbrev pub count : (Name → Bool) → List Name → ℕ
 count p xs = length (filter p xs)
 
 count-within : (p : Name → Bool) (xs : List Name) → count p xs ≤ length xs
@@ -50,7 +50,7 @@ count-wider p q wider (x ∷ xs) = kept (p x) (q x) (wider x) (count-wider p q w
     kept false false f le = le
 
 -- and more where it passes a further one of them
-count-more : (p q : Name → Bool) → ((v : Name) → IsTrue (p v) → IsTrue (q v)) → (xs : List Name) (v : Name) → IsTrue (is_among xs v) → p v ≡ false → IsTrue (q v) → count p xs < count q xs
+pub count-more : (p q : Name → Bool) → ((v : Name) → IsTrue (p v) → IsTrue (q v)) → (xs : List Name) (v : Name) → IsTrue (is_among xs v) → p v ≡ false → IsTrue (q v) → count p xs < count q xs
 count-more p q wider [] v among before after = cc
 count-more p q wider (x ∷ xs) v among before after =
     elim (or_cases (same_name x v) _ among) [

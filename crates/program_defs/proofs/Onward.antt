@@ -134,11 +134,11 @@ visits-onward g h (Path from to bound pass) n done rest is agree = cut-onward g 
 
 -- The states of a graph
 
-states-keys : (graph : PlainGraph) (vs : List Name) → keys_of (states_at graph vs) ≡ vs
+pub states-keys : (graph : PlainGraph) (vs : List Name) → keys_of (states_at graph vs) ≡ vs
 states-keys graph [] = refl
 states-keys graph (v ∷ vs) = ap (λ xs. v ∷ xs) (states-keys graph vs)
 
-states-agree : (graph : PlainGraph) (vs : List Name) → Agree graph (graph_read (states_at graph vs)) vs
+pub states-agree : (graph : PlainGraph) (vs : List Name) → Agree graph (graph_read (states_at graph vs)) vs
 states-agree graph [] v k = cc
 states-agree graph (x ∷ xs) v k = at (same_name x v) refl (states-agree graph xs v)
   where

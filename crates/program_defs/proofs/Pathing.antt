@@ -22,7 +22,7 @@ use Rattle.program_defs.specs.Walking.{WalkState, HasWalked, HasHops, HasMarked,
 use Rattle.program_defs.specs.Walks.{targets, is_walk, IsLeastWalk}
 use Rattle.program_defs.proofs.Answering.{same-search}
 use Rattle.program_defs.proofs.Closed.{end_present}
-use Rattle.program_defs.proofs.Leads.{trace-is-least}
+use Rattle.program_defs.proofs.Leads.{no-nearer, trace-is-least}
 use Rattle.program_defs.proofs.Members.{among-left, among-right, among-cases}
 use Rattle.program_defs.proofs.NextVisit.{read-there}
 use Rattle.program_defs.proofs.Rereading.{marked-kept, hops-more}
@@ -225,12 +225,15 @@ module _ (from to : Name) (bound : ℕ) (pass : Option Filter) (walk : WalkState
       some-aim : (a b : Aim) → Some a ≡ Some b → a ≡ b
       some-aim a b e = cc
 
+  pub bound-is : walk.search.aim.bound ≡ Some bound
+  bound-is = sym (ap (λ (a : Aim). a.bound) aim-is)
+
   pub target-is : walk.search.aim.target ≡ Some to
   target-is = sym (ap (λ (a : Aim). a.target) aim-is)
 
   -- the target was read and is there
   pub walk-answer : IsTrue (is_among walk.search.present to) → (found : List Name)
-      → ((graph : PlainGraph) (p : Option Filter) (d : ℕ) → IsRankedTo d graph p walk.search.aim.from (mark_in walk.marks) → IsTrue (is_among (levels_to d graph p walk.search.aim.from).level to) → found ≡ trace (parents (mark_in walk.marks)) d to)
+      → ((graph : PlainGraph) (p : Option Filter) (d : ℕ) → d ≤ bound → IsRankedTo d graph p walk.search.aim.from (mark_in walk.marks) → IsTrue (is_among (levels_to d graph p walk.search.aim.from).level to) → found ≡ trace (parents (mark_in walk.marks)) d to)
       → IsPlainAnswer (graph_read reads) (Path from to bound pass) (Walk (Some found))
   walk-answer k found is =
       let graph : PlainGraph = graph_read reads in
@@ -239,10 +242,10 @@ module _ (from to : Name) (bound : ℕ) (pass : Option Filter) (walk : WalkState
       let le = at.within in
       let ranked_all : IsRankedTo h.level graph pass from (mark_in walk.marks) = subst (λ (a : Aim). IsRankedTo h.level graph a.pass a.from (mark_in walk.marks)) (sym aim-is) h.marked.ranked in
       let ranked : IsRankedTo at.level graph pass from (mark_in walk.marks) = λ j less. ranked_all j (omega (arith, less, le)) in
-      let near = up-to-only to (through_level bound graph pass from) to (h.searched.found.visited to k) in
+      let near = up-to-only to (through_level bound graph pass from) to (h.searched.found.visited to (read-there reads to (sym (h.searched.found.present to) ∙ k))) in
       let least = trace-is-least graph pass from (parents (mark_in walk.marks)) (ranks (mark_in walk.marks)) at.level bound to ranked at.there (sym (h.searched.found.present to) ∙ k) near in
       let from-is : from ≡ walk.search.aim.from = ap (λ (a : Aim). a.from) aim-is in
-      let same = is graph pass at.level (subst (λ f. IsRankedTo at.level graph pass f (mark_in walk.marks)) from-is ranked) (subst (λ f. IsTrue (is_among (levels_to at.level graph pass f).level to)) from-is at.there) in
+      let same = is graph pass at.level (no-nearer graph pass from at.level to at.there bound near) (subst (λ f. IsRankedTo at.level graph pass f (mark_in walk.marks)) from-is ranked) (subst (λ f. IsTrue (is_among (levels_to at.level graph pass f).level to)) from-is at.there) in
       subst (λ xs. IsLeastWalk bound graph pass from to xs) (sym same) least
 
   -- or there is no walk

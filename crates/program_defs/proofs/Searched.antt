@@ -31,7 +31,7 @@ found-next search next program reads v state new was adds all =
     record {
       present = there;
       once = subst IsOnce (sym adds.present) (once-append search.present (if is_some state then v ∷ [] else []) was.once (once (is_some state)) (λ w k. apart w (is_some state) k));
-      visited = λ w k. all w (read-there ((v, state) ∷ reads) w (sym (there w) ∙ k));
+      visited = all;
     }
   where
     absent : is_among search.present v ≡ false

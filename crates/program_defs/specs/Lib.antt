@@ -7,3 +7,4 @@ pub mod Searching
 pub mod Ranks
 pub mod Walking
 pub mod Asking
+pub mod Limits

@@ -17,7 +17,7 @@ is_rising [] = true
 is_rising (v ∷ []) = true
 is_rising (v ∷ w ∷ rest) = is_lt (name_cmp v w) && is_rising (w ∷ rest)
 
--- the plain answer: to `show` the state; to `reach` whether there is a walk; to `around` the ends of walks within the bound, in byte order; to `path` the least walk within the bound, or none where there is none
+-- the plain answer: to `show` the state; to `reach` whether there is a walk; to `around` the ends of walks within the bound, in byte order; to `path` the least walk within the bound, or none if there is none
 abbrev pub IsPlainAnswer : PlainGraph → Program → Answer → Type 0
 IsPlainAnswer graph (Show v) (Shown state) = state ≡ graph v
 IsPlainAnswer graph (Reach from to pass) (Reached reached) = IsTrue reached ↔ ((walk : List Name) × IsTrue (is_walk graph pass from to walk))

@@ -38,7 +38,7 @@ next_of search = if search.over then None else first_of search.rest
 abbrev pub has_name : List Name → Name → Bool
 has_name names v = list_any (same_name v) names
 
--- the first of these names, where each is met for the first time and isn't known before
+-- these names, each where it is met first, without those that are known before
 abbrev pub new_names : (Name → Bool) → List Name → List Name
 new_names known [] = []
 new_names known (v ∷ rest) = (if known v then [] else v ∷ []) ++ new_names (λ w. same_name v w || known w) rest
@@ -48,7 +48,7 @@ abbrev pub IsOnce : List Name → Type 0
 IsOnce [] = ⊤
 IsOnce (v ∷ rest) = (is_among rest v ≡ false) × IsOnce rest
 
--- so many levels may follow level n, within the bound
+-- that many levels may follow level n, within the bound
 abbrev pub IsLeft : Option ℕ → ℕ → Option ℕ → Type 0
 IsLeft None n None = ⊤
 IsLeft (Some bound) n (Some left) = left + n ≡ bound
@@ -82,11 +82,11 @@ pub record IsGoing (search : SearchState) (reads : List (Name × State)) (n : �
 abbrev pub AllRead : List (Name × State) → Program → Type 0
 AllRead reads program = (v : Name) → IsTrue (is_among (visits_to (length reads) (graph_read reads) program) v) → IsTrue (is_among (keys_of reads) v)
 
--- the vertices that are there, each once; each was visited
+-- the vertices that are there, each once; each that was read was visited
 pub record HasFound (search : SearchState) (program : Program) (reads : List (Name × State)) : Type 0 where
   pub present : (v : Name) → is_among search.present v ≡ is_some (graph_read reads v)
   pub once : IsOnce search.present
-  pub visited : (v : Name) → IsTrue (is_among search.present v) → IsTrue (is_among (visits_to (length reads) (graph_read reads) program) v)
+  pub visited : (v : Name) → IsTrue (is_among (keys_of reads) v) → IsTrue (is_among (visits_to (length reads) (graph_read reads) program) v)
 
 -- the search is that of the program after these reads, the newest first
 pub record HasSearched (program : Program) (search : SearchState) (reads : List (Name × State)) : Type 0 where
@@ -120,7 +120,7 @@ pub record Adds (v : Name) (state : State) (old new : SearchState) : Type 0 wher
   pub reached : (w : Name) → has_name new.reached w ≡ is_among (targets old.aim.pass state) w || has_name old.reached w
   pub present : new.present ≡ old.present ++ (if is_some state then v ∷ [] else [])
 
--- the search after the last vertex of a level, if so many levels may follow: the names found are the next level
+-- the search after the last vertex of a level, if that many levels may follow: the names found are the next level
 abbrev pub onto_next_level : Option ℕ → SearchState → SearchState
 onto_next_level left search = record search { left = left; rest = as_set search.found; found = []; over = is_none (first_of (as_set search.found)) }
 

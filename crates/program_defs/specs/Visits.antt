@@ -1,5 +1,5 @@
 -- The list of visits of a program: level by level, in byte order within a level. Levels are sets; there is no frontier.
-use Rattle.std.specs.Prelude.{ℕ, zero, suc, not, IsTrue, ◌≡◌, List, [], ◌∷◌, ◌++◌, length, map, Option, None, Some, if◌then◌else◌}
+use Rattle.std.specs.Prelude.{ℕ, zero, suc, not, IsTrue, ◌≡◌, List, [], ◌∷◌, ◌++◌, length, map, take, ◌↔◌, Option, None, Some, if◌then◌else◌}
 use Rattle.std.specs.BTreeSet.{insert_key}
 use Rattle.std.specs.List.{filter, find}
 use Rattle.std.specs.Map.{keys_of}
@@ -36,7 +36,7 @@ pub record Levels : Type 0 where
 abbrev pub through : Levels → List Name
 through levels = levels.before ++ levels.level
 
--- level n + 1 is the set of the targets of level n's passing edges that stand in no earlier level
+-- level n + 1 is the set of the targets of level n's passing edges that are in no earlier level
 abbrev pub next_level : PlainGraph → Option Filter → Levels → Levels
 next_level graph pass levels = record { before = through levels; level = as_set (not_among (through levels) (targets_of_all graph pass levels.level)) }
 
@@ -49,13 +49,13 @@ levels_to (suc n) graph pass start = next_level graph pass (levels_to n graph pa
 abbrev pub through_level : ℕ → PlainGraph → Option Filter → Name → List Name
 through_level n graph pass start = through (levels_to n graph pass start)
 
--- the names up to the target, and with it; all of them where it isn't among them
+-- the names up to the target, and with it; all of them if it isn't among them
 abbrev pub up_to : Name → List Name → List Name
 up_to target [] = []
 up_to target (v ∷ rest) = if same_name target v then v ∷ [] else v ∷ up_to target rest
 
 -- The list of visits. `show` visits its vertex alone; the others go level by level. `reach` and `path` end with the target, `around` and `path` with the level of their bound.
--- `reach` has no bound and is gone through to level n: where a level is empty, so is each later one, and the list is whole.
+-- `reach` has no bound and is gone through to level n: if a level is empty, so is each later one, and the list is whole.
 abbrev pub visits_to : ℕ → PlainGraph → Program → List Name
 visits_to n graph (Show v) = v ∷ []
 visits_to n graph (Reach from to pass) = up_to to (through_level n graph pass from)
@@ -66,7 +66,7 @@ visits_to n graph (Path from to bound pass) = up_to to (through_level bound grap
 abbrev pub IsVisited : PlainGraph → Program → Name → Type 0
 IsVisited graph program v = (n : ℕ) × IsTrue (is_among (visits_to n graph program) v)
 
--- the list of visits, whole: it is gone through so far that each vertex visited stands in it
+-- the list of visits, whole: it is gone through so far that it has each vertex visited
 pub record IsListOfVisits (graph : PlainGraph) (program : Program) (visits : List Name) : Type 0 where
   pub last_level : ℕ
   pub in_turn : visits ≡ visits_to last_level graph program
@@ -89,3 +89,7 @@ states_at graph vertices = map (λ v. (v, graph v)) vertices
 abbrev pub first_of : List Name → Option Name
 first_of [] = None
 first_of (v ∷ rest) = Some v
+
+-- those read are the first that many of the list of visits over the states read, in whatever order
+abbrev pub AreFirstVisits : List (Name × State) → Program → Type 0
+AreFirstVisits reads program = (v : Name) → IsTrue (is_among (keys_of reads) v) ↔ IsTrue (is_among (take (length reads) (visits_to (length reads) (graph_read reads) program)) v)

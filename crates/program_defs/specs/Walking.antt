@@ -60,7 +60,7 @@ ranks marks v = rank_or (marks v)
 abbrev pub with_mark : Name → Mark → (Name → Option Mark) → Name → Option Mark
 with_mark v mark marks w = if same_name v w then Some mark else marks w
 
--- the marks after these hops in turn, where there were so many marks before: each new target is marked once
+-- the marks after these hops in turn, if there were that many marks before: each new target is marked once
 abbrev pub marked : (Name → Option Mark) → ℕ → List Hop → Name → Option Mark
 marked marks count [] v = marks v
 marked marks count (hop ∷ rest) v = if is_some (marks hop.target) then marked marks count rest v else marked (with_mark hop.target (record { parent = hop.parent; rank = count }) marks) (count + 1) rest v

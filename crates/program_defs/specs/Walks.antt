@@ -40,7 +40,7 @@ abbrev pub walk_length : List Name → ℕ
 walk_length [] = 0
 walk_length (v ∷ rest) = length rest
 
--- a walk of at most so many edges
+-- a walk of at most that many edges
 abbrev pub is_walk_within : ℕ → PlainGraph → Option Filter → Name → Name → List Name → Bool
 is_walk_within bound graph pass from to walk = is_walk graph pass from to walk && nat_le (walk_length walk) bound
 

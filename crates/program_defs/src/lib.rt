@@ -3,6 +3,9 @@
 
 mod aim;
 pub mod laws;
+#[cfg(test)]
+mod limit_tests;
+mod limits;
 mod path_search;
 mod plain;
 mod program;
@@ -11,11 +14,13 @@ mod search;
 mod targets;
 #[cfg(test)]
 mod tests;
+mod visits;
 
 pub use aim::Aim;
 pub use path_search::PathSearch;
-pub use plain::ask;
+pub use plain::{Asked, ask, ask_with_visits};
 pub use program::{Answer, Filter, Program};
 pub use script::{Request, Script, Step, Work};
 pub use search::Search;
 pub use targets::passes;
+pub use visits::Visits;

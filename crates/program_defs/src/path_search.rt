@@ -1,5 +1,5 @@
 //! The search for the least walk, level by level.
-ghost use Rattle.std.specs.Prelude.{ℕ, ◌≡◌, ◌≤◌, ◌+◌, ◌++◌, ◌∷◌, [], IsTrue, is_some, if◌then◌else◌, List, Option, Some, None, length, IfOk, OnOk, option_copied, nat_le, vec_len, vec_capacity};
+ghost use Rattle.std.specs.Prelude.{ℕ, ◌≡◌, ◌≤◌, ◌+◌, ◌++◌, ◌∷◌, [], IsTrue, is_some, if◌then◌else◌, List, Option, Some, None, length, IfOk, OnOk, option_copied, nat_le, reverse, vec_len, vec_capacity};
 ghost use Rattle.std.specs.HashMap.{spare};
 ghost use Rattle.weave_data.specs.declared.name.Name.{Name};
 ghost use Rattle.graph_ops.specs.Operations.{State};
@@ -68,7 +68,8 @@ impl PathSearch {
     /// The search before its first read.
     pub fn new(alloc: Global, aim: Aim) -> Result<PathSearch, AllocError>
         ensures aim { IfOk result (λ walk. walk.search.aim ≡ aim) }
-        ensures reads { IfOk result (λ walk. (program : Program) → aim_of program ≡ Some aim → HasWalked program walk []) }
+        ensures reads { IfOk result (λ walk. (program : Program) → aim_of program ≡ Some aim
+            → HasWalked program walk []) }
     {
         let marks = first_mark(alloc, aim.from)?;
         let search = Search::new(alloc, aim)?;
@@ -86,7 +87,7 @@ impl PathSearch {
         self.search.next()
     }
 
-    /// Takes the room for the read of a vertex of so many edges less one. Nothing else changes.
+    /// Takes room for that many names: a read needs one more than the vertex has edges. Nothing else changes.
     pub fn reserve(&mut self, names: usize) -> Result<(), AllocError>
         ensures room { OnOk result (names ≤ self.new.room) }
         ensures less { self.old.room ≤ self.new.room }
@@ -133,15 +134,19 @@ impl PathSearch {
     /// The plain answer over the states read: the least walk, if there is one within the bound. The one error is out of memory.
     pub fn walk(&self, alloc: Global) -> Result<Option<Items<Name>>, AllocError>
         ensures { IfOk result (λ walk. (from to : Name) (bound : ℕ) (pass : Option Filter) (reads : List (Name × State))
-            → HasWalked (Path from to bound pass) self.now reads → IsPlainAnswer (graph_read reads) (Path from to bound pass) (Walk walk)) }
+            → HasWalked (Path from to bound pass) self.now reads
+            → IsPlainAnswer (graph_read reads) (Path from to bound pass) (Walk walk)) }
     {
         let Some(to) = self.search.target() else {
+            return Ok(None);
+        };
+        let Some(bound) = self.search.bound() else {
             return Ok(None);
         };
         if !self.search.is_present(to) {
             return Ok(None);
         }
-        Ok(Some(self.walk_to(alloc, to)?))
+        Ok(Some(self.walk_to(alloc, to, bound)?))
     }
 
     fn parent_of(&self, v: Name) -> Name
@@ -153,23 +158,38 @@ impl PathSearch {
         }
     }
 
-    // The list over parents to a vertex of level d, from the start.
-    fn walk_to(&self, alloc: Global, to: Name) -> Result<Items<Name>, AllocError>
-        ensures { IfOk result (λ walk. (graph : PlainGraph) (pass : Option Filter) (d : ℕ) → IsRankedTo d graph pass self.now.search.aim.from (mark_in self.now.marks)
-            → IsTrue (is_among (levels_to d graph pass self.now.search.aim.from).level to) → walk ≡ trace (parents (mark_in self.now.marks)) d to) }
+    // The list over parents to a vertex of a level within the bound, from the start.
+    fn walk_to(&self, alloc: Global, to: Name, bound: u32) -> Result<Items<Name>, AllocError>
+        ensures { IfOk result (λ walk. (graph : PlainGraph) (pass : Option Filter) (d : ℕ) → d ≤ bound
+            → IsRankedTo d graph pass self.now.search.aim.from (mark_in self.now.marks)
+            → IsTrue (is_among (levels_to d graph pass self.now.search.aim.from).level to)
+            → walk ≡ trace (parents (mark_in self.now.marks)) d to) }
+    {
+        let mut walk = Vec::new(alloc);
+        self.lead_back(&mut walk, to, bound)?;
+        walk.reverse();
+        Ok(Items::from_vec(walk))
+    }
+
+    // Adds the vertex and then each parent, back to the start, over at most that many edges.
+    fn lead_back(&self, walk: &mut Vec<Name>, to: Name, bound: u32) -> Result<(), AllocError>
+        requires { walk.old.items ≡ [] }
+        ensures { OnOk result ((graph : PlainGraph) (pass : Option Filter) (d : ℕ) → d ≤ bound
+            → IsRankedTo d graph pass self.now.search.aim.from (mark_in self.now.marks)
+            → IsTrue (is_among (levels_to d graph pass self.now.search.aim.from).level to)
+            → reverse walk.new.items ≡ trace (parents (mark_in self.now.marks)) d to) }
     {
         let start = self.search.start();
-        let mut walk = Vec::new(alloc);
         let mut v = to;
-        for _count in 0..u64::MAX {
-            walk.push(v)?;
+        walk.push(v)?;
+        for _count in 0..bound {
             if v == start {
-                walk.reverse();
-                return Ok(Items::from_vec(walk));
+                return Ok(());
             }
             v = self.parent_of(v);
+            walk.push(v)?;
         }
-        Err(AllocError)
+        Ok(())
     }
 }
 
@@ -228,7 +248,8 @@ fn mark_targets(marks: &mut HashMap<Name, Mark>, hops: &mut Vec<Hop>)
 // Marks the new targets of the hops in turn.
 fn mark_in_turn(marks: &mut HashMap<Name, Mark>, hops: &[Hop])
     requires { length hops.now ≤ spare marks.old }
-    ensures { (v : Name) → mark_in marks.new.entries v ≡ marked (mark_in marks.old.entries) (length marks.old.entries) hops.now v }
+    ensures { (v : Name)
+        → mark_in marks.new.entries v ≡ marked (mark_in marks.old.entries) (length marks.old.entries) hops.now v }
 {
     for hop in hops {
         mark_target(marks, hop);
@@ -238,9 +259,12 @@ fn mark_in_turn(marks: &mut HashMap<Name, Mark>, hops: &[Hop])
 // Marks the target of a hop if it is new.
 fn mark_target(marks: &mut HashMap<Name, Mark>, hop: &Hop)
     requires { 1 ≤ spare marks.old }
-    ensures marks { (v : Name) → mark_in marks.new.entries v ≡ (if is_some (mark_in marks.old.entries hop.now.target) then mark_in marks.old.entries v
-        else with_mark hop.now.target (record { parent = hop.now.parent; rank = length marks.old.entries }) (mark_in marks.old.entries) v) }
-    ensures count { length marks.new.entries ≡ length marks.old.entries + (if is_some (mark_in marks.old.entries hop.now.target) then 0 else 1) }
+    ensures marks { (v : Name) → mark_in marks.new.entries v
+        ≡ (if is_some (mark_in marks.old.entries hop.now.target) then mark_in marks.old.entries v
+        else with_mark hop.now.target (record { parent = hop.now.parent; rank = length marks.old.entries })
+        (mark_in marks.old.entries) v) }
+    ensures count { length marks.new.entries
+        ≡ length marks.old.entries + (if is_some (mark_in marks.old.entries hop.now.target) then 0 else 1) }
     ensures spare { spare marks.old ≤ spare marks.new + 1 }
 {
     if marks.contains_key(&hop.target) {

@@ -1,25 +1,50 @@
 //! The plain answer of a program, found by searches of the graph.
-ghost use Rattle.std.specs.Prelude.{◌≡◌, Some, IfOk};
+ghost use Rattle.std.specs.Prelude.{◌≡◌, ◌↔◌, [], IsTrue, Some, IfOk};
+ghost use Rattle.weave_data.specs.declared.name.Name.{Name};
 ghost use Rattle.graph_ops.specs.Graphs.{plain_of};
 ghost use Rattle.program_defs.specs.declared.program.Program.{Program};
-ghost use Rattle.program_defs.specs.Asking.{HasAllRead, HasAllWalked};
+ghost use Rattle.program_defs.specs.Asking.{HasReadVisits, HasWalkedVisits};
 ghost use Rattle.program_defs.specs.PlainAnswer.{IsPlainAnswer};
-ghost use Rattle.program_defs.specs.Searching.{aim_of};
+ghost use Rattle.program_defs.specs.Searching.{aim_of, has_name};
+ghost use Rattle.program_defs.specs.Visits.{IsVisited};
 
 use crate::aim::Aim;
 use crate::path_search::PathSearch;
 use crate::program::{Answer, Program};
 use crate::search::Search;
+use crate::visits::Visits;
 use graph_ops::{Graph, Record};
 use std::alloc::{AllocError, Global};
 use weave_data::{Copied, Name};
+
+/// What a program answers on a graph, and which vertices it visits there.
+#[derive(Drop)]
+pub struct Asked {
+    pub answer: Answer,
+    pub visits: Visits,
+}
 
 /// The plain answer of a program on a graph. The one error is out of memory.
 pub fn ask(alloc: Global, graph: &Graph, program: &Program) -> Result<Answer, AllocError>
     ensures { IfOk result (IsPlainAnswer (plain_of graph.now) program.now) }
 {
+    let Asked { answer, .. } = ask_with_visits(alloc, graph, program)?;
+    Ok(answer)
+}
+
+/// The plain answer of a program on a graph and the vertices that it visits there, by one search. The one error is out of memory.
+pub fn ask_with_visits(alloc: Global, graph: &Graph, program: &Program) -> Result<Asked, AllocError>
+    ensures answer { IfOk result (λ asked. IsPlainAnswer (plain_of graph.now) program.now asked.answer) }
+    ensures visits { IfOk result (λ asked. (v : Name)
+        → IsTrue (has_name asked.visits v) ↔ IsVisited (plain_of graph.now) program.now v) }
+{
+    let mut visits = Visits::new(alloc);
     match *program {
-        Program::Show { v } => Ok(Answer::Shown(state_of(alloc, graph, v)?)),
+        Program::Show { v } => {
+            visits.put(v)?;
+            let answer = Answer::Shown(state_of(alloc, graph, v)?);
+            Ok(Asked { answer, visits })
+        }
         Program::Reach { from, to, pass } => {
             let aim = Aim {
                 from,
@@ -27,8 +52,9 @@ pub fn ask(alloc: Global, graph: &Graph, program: &Program) -> Result<Answer, Al
                 bound: None,
                 pass,
             };
-            let search = searched(alloc, graph, aim)?;
-            Ok(Answer::Reached(search.is_present(to)))
+            let search = searched(alloc, graph, aim, &mut visits)?;
+            let answer = Answer::Reached(search.is_present(to));
+            Ok(Asked { answer, visits })
         }
         Program::Around { from, bound, pass } => {
             let aim = Aim {
@@ -37,8 +63,9 @@ pub fn ask(alloc: Global, graph: &Graph, program: &Program) -> Result<Answer, Al
                 bound: Some(bound),
                 pass,
             };
-            let search = searched(alloc, graph, aim)?;
-            Ok(Answer::Found(search.present()?))
+            let search = searched(alloc, graph, aim, &mut visits)?;
+            let answer = Answer::Found(search.present()?);
+            Ok(Asked { answer, visits })
         }
         Program::Path {
             from,
@@ -52,8 +79,9 @@ pub fn ask(alloc: Global, graph: &Graph, program: &Program) -> Result<Answer, Al
                 bound: Some(bound),
                 pass,
             };
-            let search = walked(alloc, graph, aim)?;
-            Ok(Answer::Walk(search.walk(alloc)?))
+            let search = walked(alloc, graph, aim, &mut visits)?;
+            let answer = Answer::Walk(search.walk(alloc)?);
+            Ok(Asked { answer, visits })
         }
     }
 }
@@ -67,48 +95,60 @@ fn state_of(alloc: Global, graph: &Graph, v: Name) -> Result<Option<Record>, All
     }
 }
 
-// The search of the whole graph.
-fn searched(alloc: Global, graph: &Graph, aim: Aim) -> Result<Search, AllocError>
-    ensures { IfOk result (λ search. (program : Program) → aim_of program ≡ Some aim → HasAllRead program (plain_of graph.now) search) }
+// The search of the whole graph, and what it read.
+fn searched(
+    alloc: Global,
+    graph: &Graph,
+    aim: Aim,
+    visits: &mut Visits,
+) -> Result<Search, AllocError>
+    requires program { (program : Program) × (aim_of program ≡ Some aim) }
+    requires none { visits.old ≡ [] }
+    ensures { IfOk result (λ search. (program : Program) → aim_of program ≡ Some aim
+        → HasReadVisits program (plain_of graph.now) search visits.new) }
 {
     let mut search = Search::new(alloc, aim)?;
-    for _count in 0..u64::MAX {
-        let Some(v) = search.next() else {
-            return Ok(search);
-        };
+    while let Some(v) = search.next() {
         let state = graph.find(v);
         let edges = match state {
             None => 0,
             Some(found) => found.edges.len(),
         };
         let Some(names) = edges.checked_add(1) else {
-            break;
+            return Err(AllocError);
         };
+        visits.put(v)?;
         search.reserve(names)?;
         search.see(state);
     }
-    Err(AllocError)
+    Ok(search)
 }
 
-// The search for the least walk of the whole graph.
-fn walked(alloc: Global, graph: &Graph, aim: Aim) -> Result<PathSearch, AllocError>
-    ensures { IfOk result (λ walk. (program : Program) → aim_of program ≡ Some aim → HasAllWalked program (plain_of graph.now) walk) }
+// The search for the least walk of the whole graph, and what it read.
+fn walked(
+    alloc: Global,
+    graph: &Graph,
+    aim: Aim,
+    visits: &mut Visits,
+) -> Result<PathSearch, AllocError>
+    requires program { (program : Program) × (aim_of program ≡ Some aim) }
+    requires none { visits.old ≡ [] }
+    ensures { IfOk result (λ walk. (program : Program) → aim_of program ≡ Some aim
+        → HasWalkedVisits program (plain_of graph.now) walk visits.new) }
 {
     let mut search = PathSearch::new(alloc, aim)?;
-    for _count in 0..u64::MAX {
-        let Some(v) = search.next() else {
-            return Ok(search);
-        };
+    while let Some(v) = search.next() {
         let state = graph.find(v);
         let edges = match state {
             None => 0,
             Some(found) => found.edges.len(),
         };
         let Some(names) = edges.checked_add(1) else {
-            break;
+            return Err(AllocError);
         };
+        visits.put(v)?;
         search.reserve(names)?;
         search.see(state);
     }
-    Err(AllocError)
+    Ok(search)
 }

@@ -4,7 +4,7 @@ use graph_ops::Record;
 use std::alloc::{AllocError, Global};
 use weave_data::{Copied, Items, Name};
 
-/// Lets an edge pass where its tag at the key has the value.
+/// Lets an edge pass if its tag at the key has the value.
 #[derive(Clone, Copy)]
 pub struct Filter {
     pub key: Name,
@@ -24,13 +24,13 @@ pub enum Program {
         to: Name,
         pass: Option<Filter>,
     },
-    /// Asks for the vertices within so many edges, 0 to 1,000.
+    /// Asks for the vertices within a number of edges, 0 to 1,000.
     Around {
         from: Name,
         bound: u32,
         pass: Option<Filter>,
     },
-    /// Asks for the least walk of at most so many edges, 0 to 1,000.
+    /// Asks for the least walk of at most a number of edges, 0 to 1,000.
     Path {
         from: Name,
         to: Name,

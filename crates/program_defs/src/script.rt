@@ -35,7 +35,7 @@ pub enum Step {
     Judge { gate: u32 },
     /// The messages of the transaction in flight go out.
     Send { gate: u32 },
-    /// The gatekeeper tells its clock, which is the next notice.
+    /// The gatekeeper announces its clock, which is the next notice.
     Say { gate: u32 },
     /// The gatekeeper hears a notice.
     Hear { gate: u32, notice: u64 },

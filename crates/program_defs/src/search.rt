@@ -46,7 +46,8 @@ impl Model for Search {
       reached = s.reached.keys;
       present = s.present.items;
       over = s.over;
-      room = min (spare s.reached) (min (vec_capacity s.found - vec_len s.found) (vec_capacity s.present - vec_len s.present));
+      room = min (spare s.reached)
+          (min (vec_capacity s.found - vec_len s.found) (vec_capacity s.present - vec_len s.present));
     } };
 }
 
@@ -56,7 +57,8 @@ impl Search {
         ensures aim { IfOk result (λ search. search.aim ≡ aim) }
         ensures going { IfOk result (λ search. IsGoing search [] 0 []) }
         ensures present { IfOk result (λ search. search.present ≡ []) }
-        ensures reads { IfOk result (λ search. (program : Program) → aim_of program ≡ Some aim → HasSearched program search []) }
+        ensures reads { IfOk result (λ search. (program : Program) → aim_of program ≡ Some aim
+            → HasSearched program search []) }
     {
         let mut level = Vec::new(alloc);
         level.push(aim.from)?;
@@ -98,6 +100,13 @@ impl Search {
         self.aim.target
     }
 
+    /// The most edges of a walk.
+    pub fn bound(&self) -> Option<u32>
+        ensures { result ≡ self.now.aim.bound }
+    {
+        self.aim.bound
+    }
+
     /// Which edges pass.
     pub fn pass(&self) -> Option<Filter>
         ensures { result ≡ self.now.aim.pass }
@@ -112,7 +121,7 @@ impl Search {
         self.level.len().saturating_sub(self.at) <= 1
     }
 
-    /// Takes the room for the read of a vertex of so many edges less one. Nothing else changes.
+    /// Takes room for that many names: a read needs one more than the vertex has edges. Nothing else changes.
     pub fn reserve(&mut self, names: usize) -> Result<(), AllocError>
         ensures room { OnOk result (names ≤ self.new.room) }
         ensures less { self.old.room ≤ self.new.room }
@@ -130,7 +139,8 @@ impl Search {
         ensures aim { self.new.aim ≡ self.old.aim }
         ensures onward { (v : Name) → next_of self.old ≡ Some v → Seen v (option_copied state.entry) self.old self.new }
         ensures reads { (program : Program) (v : Name) (reads : List (Name × State)) → next_of self.old ≡ Some v
-            → HasSearched program self.old reads → HasSearched program self.new ((v, option_copied state.entry) ∷ reads) }
+            → HasSearched program self.old reads
+            → HasSearched program self.new ((v, option_copied state.entry) ∷ reads) }
     {
         let Some(v) = self.next() else {
             return;
@@ -192,7 +202,8 @@ impl Search {
     // Goes to the next level, within the bound.
     fn turn(&mut self)
         ensures aim { self.new.aim ≡ self.old.aim }
-        ensures next_level { IsOnce self.old.found → self.new ≡ record (turned self.old.left self.old) { room = self.new.room } }
+        ensures next_level { IsOnce self.old.found
+            → self.new ≡ record (turned self.old.left self.old) { room = self.new.room } }
     {
         match self.left {
             None => self.go_down(),
@@ -207,7 +218,8 @@ impl Search {
     // The names found are the next level.
     fn go_down(&mut self)
         ensures aim { self.new.aim ≡ self.old.aim }
-        ensures level { IsOnce self.old.found → self.new ≡ record (onto_next_level self.old.left self.old) { room = self.new.room } }
+        ensures level { IsOnce self.old.found
+            → self.new ≡ record (onto_next_level self.old.left self.old) { room = self.new.room } }
     {
         swap(&mut self.level, &mut self.found);
         self.found.clear();

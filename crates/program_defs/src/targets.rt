@@ -34,8 +34,10 @@ pub fn look(
 )
     requires places { length vertex.now.edges ≤ spare reached.old }
     requires room { vec_len found.old + length vertex.now.edges ≤ vec_capacity found.old }
-    ensures found { found.new.items ≡ found.old.items ++ new_names (has_name reached.old.keys) (targets pass.now (Some vertex.now)) }
-    ensures reached { (v : Name) → has_name reached.new.keys v ≡ is_among (targets pass.now (Some vertex.now)) v || has_name reached.old.keys v }
+    ensures found { found.new.items
+        ≡ found.old.items ++ new_names (has_name reached.old.keys) (targets pass.now (Some vertex.now)) }
+    ensures reached { (v : Name) → has_name reached.new.keys v
+        ≡ is_among (targets pass.now (Some vertex.now)) v || has_name reached.old.keys v }
 {
     for (_name, edge) in vertex.edges.as_slice() {
         if passes(pass, edge) {

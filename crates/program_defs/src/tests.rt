@@ -1,6 +1,6 @@
 ghost use Rattle.std.specs.Prelude.{◌<◌, ◌^◌, length};
 
-use crate::{Answer, Filter, Program, Request, Script, Step, Work, ask};
+use crate::{Answer, Filter, Program, Request, Script, Step, Work, ask, ask_with_visits};
 use graph_ops::{Graph, Op, Record};
 use std::alloc::Global;
 use std::process::Abort;
@@ -694,4 +694,73 @@ fn a_star(rt: HostRuntime) {
     assert_eq!(rt; count(&rt, alloc, &graph, &around), 1_001);
     let to = numbered(&rt, 999);
     assert_eq!(rt; count(&rt, alloc, &graph, &any_path(v, to, 1)), 2);
+}
+
+// The letters of the vertices visited, of a to e and x.
+fn visited(rt: &impl Abort, alloc: Global, graph: &Graph, program: &Program) -> Vec<u8> {
+    let asked = ask_with_visits(alloc, graph, program).expect(rt, "memory");
+    let mut letters = Vec::new(alloc);
+    for byte in b"abcdex" {
+        if asked.visits.has(named(rt, &[*byte])) {
+            letters.push(*byte).expect(rt, "memory");
+        }
+    }
+    letters
+}
+
+fn path_to_d(rt: &impl Abort, from: &[u8], bound: u32) -> Program {
+    Program::Path {
+        from: named(rt, from),
+        to: named(rt, b"d"),
+        bound,
+        pass: None,
+    }
+}
+
+// A path visits its levels up to the bound or the target, and an absent start alone.
+#[test]
+fn visits_of_paths(rt: HostRuntime) {
+    let alloc = rt.alloc();
+    let graph = diamond(&rt, alloc);
+    for (from, bound, want) in [
+        (b"a", 2, b"abcd" as &[u8]),
+        (b"a", 1, b"abc"),
+        (b"a", 0, b"a"),
+        (b"d", 5, b"d"),
+        (b"x", 5, b"x"),
+    ] {
+        let found = visited(&rt, alloc, &graph, &path_to_d(&rt, from, bound));
+        assert_eq!(rt; found.as_slice(), want);
+    }
+}
+
+// The others: `reach` stops at its target, and a vertex that is visited need not be there.
+#[test]
+fn visits_of_other_programs(rt: HostRuntime) {
+    let alloc = rt.alloc();
+    let mut graph = diamond(&rt, alloc);
+    let (from, to) = (named(&rt, b"a"), named(&rt, b"b"));
+    let reach = Program::Reach {
+        from,
+        to,
+        pass: None,
+    };
+    let around = Program::Around {
+        from,
+        bound: 1,
+        pass: None,
+    };
+    assert_eq!(rt;
+        visited(&rt, alloc, &graph, &reach).as_slice(),
+        b"ab".as_slice()
+    );
+    assert_eq!(rt;
+        visited(&rt, alloc, &graph, &Program::Show { v: to }).as_slice(),
+        b"b".as_slice()
+    );
+    delete(&rt, alloc, &mut graph, b"b");
+    assert_eq!(rt;
+        visited(&rt, alloc, &graph, &around).as_slice(),
+        b"abc".as_slice()
+    );
 }

@@ -25,7 +25,7 @@ fn run(rt: &impl Abort, alloc: Global, graph: &mut Graph, ops: &[Op])
     assert!(rt; outcome.is_ok());
 }
 
-// Feeds a program from a graph, and tells how many vertices it read.
+// Feeds a program from a graph, and says how many vertices it read.
 fn feed<P: NodeProgram>(rt: &impl Abort, alloc: Global, walk: &mut P, graph: &Graph) -> u32 {
     for count in 0..1_000_000 {
         let Some(v) = walk.next_vertex() else {

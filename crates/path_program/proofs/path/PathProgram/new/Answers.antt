@@ -1,4 +1,4 @@
-use Rattle.std.proofs.Common.{Some, None}
+use Rattle.std.proofs.Common.{Some}
 use Rattle.path_program.proofs.path.PathProgram.new.Goals as goal
 
 pub returns-clause-reads : goal.returns-clause-reads
