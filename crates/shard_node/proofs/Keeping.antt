@@ -19,10 +19,8 @@ use Rattle.weave_entries.specs.declared.shard_log.ShardEntry.{ShardEntry}
 use Rattle.weave_entries.specs.declared.shard_log.ShardDeed.TheVariants.{Arrived, Applied, Visited}
 use Rattle.weave_entries.specs.ShardReplay.{arrived_at, processed_by, processed_count, head_of, updates_of, waits_at, first_unready, dropped_after, dropped_from}
 use Rattle.vector_stamp.specs.Precedence.{Given}
-use Rattle.version_chain.specs.Views.{view_of}
-use Rattle.shard_node.specs.Shards.{IsTakable, PassesAt, chain_in, chain_in_if, versions_from}
-use Rattle.shard_node.specs.Rules.{FitsShard}
-use Rattle.shard_node.specs.Keeping.{IsInboxOf, IsReplayOf}
+use Rattle.weave_entries.specs.ShardRules.{updates_read, is_settled_by, IsKeptFor, IsTakable, PassesAt, FitsShard}
+use Rattle.shard_node.specs.Keeping.{chain_in_if, versions_from, IsInboxOf, IsReplayOf}
 use Rattle.shard_node.proofs.Places.{get_set_here, get_set_other, some_is}
 use Rattle.shard_node.proofs.Replay.{arrived-still, arrived-new, arrived-others, count-still, count-applied, updates-still, updates-applied, all-still, all-applied, dropped-push}
 use Rattle.shard_node.proofs.Updates.{chain_from, parts-on}
@@ -199,8 +197,8 @@ module _ (gates : ℕ) (inboxes : List (Incoming Message)) (chains : Chains) (lo
       })
 
   -- a program read a vertex
-  pub keeps_visited : (author request : ℕ) (stamp : Stamp) (vertex : Name) (updates : ℕ) (settled : Bool) (longer : List ShardEntry) → first_unready gates stamp log ≡ None → updates ≤ length (updates_of vertex log) → (pairs : List Given) → updates ≡ (view_of pairs stamp (chain_in vertex log)).updates → settled ≡ (view_of pairs stamp (chain_in vertex log)).settled → longer ≡ log ++ record { author = author; deed = Visited request stamp vertex updates settled } ∷ [] → IsReplayOf gates inboxes chains longer
-  keeps_visited author request stamp vertex updates settled longer ready applied pairs updates_are settled_is longer_is =
+  pub keeps_visited : (author request : ℕ) (stamp : Stamp) (vertex : Name) (updates : ℕ) (settled : Bool) (longer : List ShardEntry) → first_unready gates stamp log ≡ None → IsKeptFor stamp vertex log → updates ≤ length (updates_of vertex log) → (pairs : List Given) → updates ≡ updates_read pairs stamp vertex log → settled ≡ is_settled_by pairs stamp vertex log → longer ≡ log ++ record { author = author; deed = Visited request stamp vertex updates settled } ∷ [] → IsReplayOf gates inboxes chains longer
+  keeps_visited author request stamp vertex updates settled longer ready base applied pairs updates_are settled_is longer_is =
       let entry : ShardEntry = record { author = author; deed = Visited request stamp vertex updates settled } in
       let still : (v : Name) (dropped : ℕ) → dropped_after v log entry.deed dropped ≡ dropped = λ v dropped. refl in
       subst (λ (l : List ShardEntry). IsReplayOf gates inboxes chains l) (sym longer_is) (record {
@@ -212,7 +210,7 @@ module _ (gates : ℕ) (inboxes : List (Incoming Message)) (chains : Chains) (lo
         takable = λ at_gate k one arrived. kept.takable at_gate k one (sym (arrived-still log entry refl at_gate k) ∙ arrived);
         all_arrived = all-still log entry refl kept.all_arrived;
         nothing_dropped = dropped-none entry still;
-        rules = each_push (λ before one. FitsShard gates before one.deed) log entry kept.rules (record { ready = ready; applied = applied; pairs = pairs; updates_are = updates_are; settled_is = settled_is });
+        rules = each_push (λ before one. FitsShard gates before one.deed) log entry kept.rules (record { ready = ready; base = base; applied = applied; pairs = pairs; updates_are = updates_are; settled_is = settled_is });
       })
 
 -- before the first entry nothing has arrived, and no vertex has updates

@@ -1,6 +1,6 @@
 -- What the inboxes and the chains of a shard say is what the replay of its log says.
 use Rattle.std.proofs.Common.{◌≡◌, ℕ, suc, ◌+◌, Bool, true, false, cond, List, [], ◌∷◌, drop, length, slice_get, get_or, Option, None, Some, is_some, inl, inr, refl, sym, ap, subst, ◌∙◌, arith}
-use Rattle.std.specs.Prelude.{◌==◌, ◌||◌, not, IsTrue, ◌-◌, ◌<◌, ◌≤◌}
+use Rattle.std.specs.Prelude.{◌==◌, ◌||◌, not, All, IsTrue, ◌<◌, ◌≤◌}
 use Rattle.std.specs.List.{find, range_with_len}
 use Rattle.std.specs.Option.{option_map}
 use Rattle.std.proofs.lemmas.Bool.Decides.{eqb_tells}
@@ -22,10 +22,10 @@ use Rattle.shard_queue.specs.Incoming.{Incoming, has_arrived}
 use Rattle.weave_entries.specs.declared.message.Message.{Message}
 use Rattle.weave_entries.specs.declared.shard_log.ShardEntry.{ShardEntry}
 use Rattle.weave_entries.specs.ShardReplay.{Update, arrived_at, processed_count, head_of, last_of, updates_of, waits_at, state_of_updates, is_past, is_ready_for, first_unready, kept_of}
-use Rattle.shard_node.specs.Shards.{PassesAt, versions_from, chain_in, update_stamps, updates_read}
-use Rattle.shard_node.specs.Keeping.{first_differing, is_after, is_channel_ready, first_not_ready, IsInboxOf, IsReplayOf}
+use Rattle.weave_entries.specs.ShardRules.{update_stamps, kept_stamps, updates_read, PassesAt}
+use Rattle.shard_node.specs.Keeping.{versions_from, chain_in, first_differing, is_after, is_channel_ready, first_not_ready, IsInboxOf, IsReplayOf}
 use Rattle.shard_node.proofs.Replay.{processed_are_few}
-use Rattle.shard_node.proofs.Updates.{chain_from, or_new, count-is, newest-state-is, stamps-are, length-versions}
+use Rattle.shard_node.proofs.Updates.{chain_from, or_new, count-is, newest-state-is, kept-stamps-are, length-versions}
 use Rattle.shard_node.proofs.Keeping.{stamp_in, has-arrived, head-is, chain-is}
 
 none_mapped : {A B : Type 0} (f : A → B) (x : Option A) → option_map f x ≡ None → x ≡ None
@@ -96,19 +96,15 @@ module _ (gates : ℕ) (inboxes : List (Incoming Message)) (chains : Chains) (lo
       ∙ or_new (updates_of v log)
       ∙ ap (λ (dropped : ℕ). record { dropped = dropped; kept = drop dropped (versions_from None (updates_of v log)) }) (sym (kept.nothing_dropped v))
 
-  pub seen-stamps : (v : Name) → stamps_of (chain_or_new (chain_of chains v)).kept ≡ update_stamps v log
-  seen-stamps v =
-      ap (λ (chain : Option ChainView). stamps_of (chain_or_new chain).kept) (chain-from v)
-      ∙ ap (λ (chain : ChainView). stamps_of chain.kept) (or_new (updates_of v log))
-      ∙ stamps-are None (updates_of v log)
+  pub seen-stamps : (v : Name) → stamps_of (chain_or_new (chain_of chains v)).kept ≡ kept_stamps v log
+  seen-stamps v = ap (λ (chain : ChainView). stamps_of chain.kept) (seen-chain v) ∙ kept-stamps-are v log
 
   -- a program reads at most the updates that were applied
   pub read-few : ((pairs : List Given) (program : Stamp) (updates : List Stamp) → seen_of pairs program updates ≤ length updates) → (pairs : List Given) (program : Stamp) (v : Name) → updates_read pairs program v log ≤ length (updates_of v log)
   read-few within pairs program v =
-      let few = within pairs program (stamps_of (chain_in v log).kept) in
+      let few = within pairs program (kept_stamps v log) in
       let none = kept.nothing_dropped v in
-      let stamps : stamps_of (chain_in v log).kept ≡ update_stamps v log = ap (λ (chain : ChainView). stamps_of chain.kept) (sym (seen-chain v)) ∙ seen-stamps v in
-      let long : length (stamps_of (chain_in v log).kept) ≡ length (updates_of v log) = ap length stamps ∙ length-map (updates_of v log) (λ (update : Update). update.stamp) in
+      let long : length (kept_stamps v log) ≡ length (updates_of v log) = ap (λ n. length (drop n (update_stamps v log))) none ∙ length-map (updates_of v log) (λ (update : Update). update.stamp) in
       omega (arith, few, none, long)
 
   count-at : (v : Name) → update_count (chain_or_new (chain_of chains v)) ≡ length (updates_of v log)
@@ -130,6 +126,10 @@ module _ (gates : ℕ) (inboxes : List (Incoming Message)) (chains : Chains) (lo
   -- the newest state of a vertex is that after its updates
   pub state-at : (v : Name) → newest_state (chain_or_new (chain_of chains v)).kept ≡ state_of_updates (updates_of v log)
   state-at v = ap (λ (chain : Option ChainView). newest_state (chain_or_new chain).kept) (chain-from v) ∙ newest-state-is (updates_of v log)
+
+  -- operations that pass on the newest states pass after the updates
+  pub all-pass : (head : Message) → All (λ (part : Part). IsTrue (none_refused part.ops (newest_state (chain_or_new (chain_of chains part.vertex)).kept))) head.parts → PassesAt log head
+  all-pass head all = λ k d below. subst (λ (state : State). IsTrue (none_refused (get_or head.parts k d).ops state)) (state-at (get_or head.parts k d).vertex) (all k d below)
 
   -- a head that doesn't wait, and whose operations pass, has the next updates of its vertices
   pub next-updates : (gate : ℕ) (head : Message) → head_of gate log ≡ Some head → waits_at head log ≡ None → PassesAt log head → AreNextUpdates chains head.parts

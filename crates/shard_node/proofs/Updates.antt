@@ -1,19 +1,29 @@
 -- The chain of a vertex whose updates are given: with one more update, and with those of a message.
-use Rattle.std.proofs.Common.{◌≡◌, ◌+◌, false, List, [], ◌∷◌, ◌++◌, map, length, filter, Option, None, Some, inl, inr, refl, sym, ap, ◌∙◌, arith}
-use Rattle.std.specs.Prelude.{◌==◌, fold, if◌then◌else◌}
-use Rattle.std.proofs.lemmas.Bool.{cases_Bool, ne_eqb}
-use Rattle.std.proofs.lemmas.List.{append_assoc, append-nil, length-append}
+use Rattle.std.proofs.Common.{◌≡◌, ℕ, zero, suc, ◌+◌, ◌≤◌, false, List, [], ◌∷◌, ◌++◌, map, take, drop, length, filter, slice_get, IsTrue, Option, None, Some, inl, inr, refl, sym, ap, subst, ◌∙◌, arith}
+use Rattle.std.specs.Prelude.{◌==◌, fold, not, if◌then◌else◌}
+use Rattle.std.specs.List.{list_any}
+use Rattle.std.specs.Option.{IsSomeAnd}
+use Rattle.std.proofs.lemmas.Bool.{cases_Bool, cases_lt, ne_eqb, or_left}
+use Rattle.std.proofs.lemmas.List.{append_assoc, append-nil, length-append, length-map}
+use Rattle.std.proofs.lemmas.List.Sums.{fold-append}
 use Rattle.weave_data.specs.declared.name.Name.{Name}
 use Rattle.weave_data.specs.Names.{same_name}
 use Rattle.graph_ops.specs.declared.part.Part.{Part}
 use Rattle.graph_ops.specs.Operations.{State}
 use Rattle.graph_ops.specs.VertexOps.{state_after}
 use Rattle.vector_stamp.specs.declared.clock.Stamp.{Stamp}
+use Rattle.vector_stamp.specs.Order.{stamp_before}
+use Rattle.vector_stamp.specs.Precedence.{Given, precedes}
+use Rattle.vector_stamp.specs.Seeing.{is_seen, seen_of, last_seen}
+use Rattle.vector_stamp.specs.Settling.{additions_from, places_of, pairs_of, entries_of_call}
 use Rattle.version_chain.specs.declared.version.Version.{Version}
 use Rattle.version_chain.specs.Chains.{ChainView, update_count, stamps_of, newest_state, with_update}
+use Rattle.version_chain.specs.Views.{view_of, put_before, entries_for, ReachesBack}
 use Rattle.version_graph.specs.Graphs.{chain_or_new, after_parts}
-use Rattle.weave_entries.specs.ShardReplay.{Update, state_of_updates}
-use Rattle.shard_node.specs.Shards.{versions_from}
+use Rattle.weave_entries.specs.ShardReplay.{Update, updates_of, state_of_updates}
+use Rattle.weave_entries.specs.declared.shard_log.ShardEntry.{ShardEntry}
+use Rattle.weave_entries.specs.ShardRules.{dropped_of, kept_stamps, updates_read, is_settled_by, last_read, entries_of_visit, pairs_after_visit, IsKeptFor}
+use Rattle.shard_node.specs.Keeping.{versions_from, chain_in}
 
 -- the chain that keeps all versions of these updates, if there is an update
 abbrev pub chain_from : List Update → Option ChainView
@@ -73,3 +83,119 @@ parts-on stamp v updates (part ∷ parts) = elim (cases_Bool (same_name part.ver
       )
   | inr other ↦ rw other (parts-on stamp v updates parts)
 ]
+
+-- A visit in the words of the log
+
+map-drop : {A B : Type 0} (f : A → B) (n : ℕ) (xs : List A) → map f (drop n xs) ≡ drop n (map f xs)
+map-drop f zero xs = refl
+map-drop f (suc n) [] = refl
+map-drop f (suc n) (x ∷ xs) = map-drop f n xs
+
+pub kept-stamps-are : (v : Name) (log : List ShardEntry) → stamps_of (chain_in v log).kept ≡ kept_stamps v log
+kept-stamps-are v log = map-drop (λ (version : Version). version.stamp) (dropped_of v log) (versions_from None (updates_of v log)) ∙ ap (drop (dropped_of v log)) (stamps-are None (updates_of v log))
+
+module _ (pairs : List Given) (program : Stamp) (v : Name) (log : List ShardEntry) where
+  pub updates-are : (view_of pairs program (chain_in v log)).updates ≡ updates_read pairs program v log
+  updates-are = ap (λ (stamps : List Stamp). dropped_of v log + seen_of pairs program stamps) (kept-stamps-are v log)
+
+  pub settled-is : (view_of pairs program (chain_in v log)).settled ≡ is_settled_by pairs program v log
+  settled-is = ap (λ (stamps : List Stamp). list_any (λ update. not (precedes pairs update program)) (last_seen (seen_of pairs program stamps) stamps)) (kept-stamps-are v log)
+
+  pub put-is : put_before pairs program (chain_in v log) ≡ additions_from 0 pairs (last_read pairs program v log) program
+  put-is = ap (λ (stamps : List Stamp). additions_from 0 pairs (last_seen (seen_of pairs program stamps) stamps) program) (kept-stamps-are v log)
+
+  pub pairs-are : pairs ++ pairs_of (put_before pairs program (chain_in v log)) program ≡ pairs_after_visit pairs program v log
+  pairs-are = ap (λ (put : List (ℕ × Stamp)). pairs ++ pairs_of put program) put-is
+
+  pub entries-are : (author : ℕ) → entries_for pairs author program (chain_in v log) ≡ entries_of_visit pairs author program v log
+  entries-are author = ap (λ (stamps : List Stamp). let last = last_seen (seen_of pairs program stamps) stamps in entries_of_call author last program (places_of (additions_from 0 pairs last program))) (kept-stamps-are v log)
+
+pub reaches-back : (program : Stamp) (v : Name) (log : List ShardEntry) → IsKeptFor program v log → ReachesBack program (chain_in v log)
+reaches-back program v log base some = subst (λ (stamps : List Stamp). IsSomeAnd (slice_get stamps 0) (λ oldest. IsTrue (stamp_before oldest program))) (sym (kept-stamps-are v log)) (base some)
+
+-- The state that it reads
+
+-- what is dropped of versions is what is dropped of their updates
+versions-drop : (state : State) (updates : List Update) (n : ℕ) → drop n (versions_from state updates) ≡ versions_from (fold (λ before (update : Update). state_after update.ops before) state (take n updates)) (drop n updates)
+versions-drop state updates zero = refl
+versions-drop state [] (suc n) = refl
+versions-drop state (update ∷ updates) (suc n) = versions-drop (state_after update.ops state) updates n
+
+versions-take : (state : State) (updates : List Update) (n : ℕ) → take n (versions_from state updates) ≡ versions_from state (take n updates)
+versions-take state updates zero = refl
+versions-take state [] (suc n) = refl
+versions-take state (update ∷ updates) (suc n) = ap (λ (versions : List Version). record { stamp = update.stamp; state = state_after update.ops state } ∷ versions) (versions-take (state_after update.ops state) updates n)
+
+-- the newest of some versions, whatever was before them
+newest-some : (state : State) (updates : List Update) → 1 ≤ length updates → newest_state (versions_from state updates) ≡ fold (λ before (update : Update). state_after update.ops before) state updates
+newest-some state [] some = absurd (omega (arith, some))
+newest-some state (update ∷ updates) some = newest-is (state_after update.ops state) updates
+
+abbrev no_updates : List Update
+no_updates = []
+
+take-none : (n : ℕ) → take n no_updates ≡ no_updates
+take-none zero = refl
+take-none (suc n) = refl
+
+take-more : (updates : List Update) (d n : ℕ) → take d updates ++ take n (drop d updates) ≡ take (d + n) updates
+take-more updates zero n = let more : n ≡ 0 + n = omega arith in ap (λ k. take k updates) more
+take-more [] (suc d) n = take-none n ∙ sym (take-none (suc d + n))
+take-more (update ∷ updates) (suc d) n =
+    let more : suc (d + n) ≡ suc d + n = omega arith in
+    ap (λ (rest : List Update). update ∷ rest) (take-more updates d n) ∙ ap (λ k. take k (update ∷ updates)) more
+
+-- of at least one of the updates that are kept
+some-kept : (updates : List Update) (d n : ℕ) → 1 ≤ length (take n (drop d updates)) → newest_state (take n (drop d (versions_from None updates))) ≡ state_of_updates (take (d + n) updates)
+some-kept updates d n some =
+    ap (λ (versions : List Version). newest_state (take n versions)) (versions-drop None updates d)
+    ∙ ap newest_state (versions-take (state_of_updates (take d updates)) (drop d updates) n)
+    ∙ newest-some (state_of_updates (take d updates)) (take n (drop d updates)) some
+    ∙ sym (fold-append _ _ (take d updates) (take n (drop d updates)))
+    ∙ ap state_of_updates (take-more updates d n)
+
+-- and if none is dropped
+all-kept : (updates : List Update) (n : ℕ) → newest_state (take n (versions_from None updates)) ≡ state_of_updates (take n updates)
+all-kept updates n = ap newest_state (versions-take None updates n) ∙ newest-is None (take n updates)
+
+-- the law of what is skipped
+abbrev SkippedLaw : Type 0
+SkippedLaw = (pairs : List Given) (program update : Stamp) (updates : List Stamp) (place : ℕ) → seen_of pairs program updates ≤ place → slice_get updates place ≡ Some update → ¬ IsTrue (is_seen pairs program update)
+
+-- the oldest update is seen if it is before the program
+sees-some : SkippedLaw → (pairs : List Given) (program : Stamp) (updates : List Stamp) → IsSomeAnd (slice_get updates 0) (λ oldest. IsTrue (stamp_before oldest program)) → 1 ≤ seen_of pairs program updates
+sees-some skipped pairs program [] before = absurd before
+sees-some skipped pairs program (update ∷ updates) before = elim (cases_lt (seen_of pairs program (update ∷ updates)) 1) [
+  | inl none ↦ absurd (skipped pairs program update (update ∷ updates) 0 (omega (arith, none)) refl (or_left (stamp_before update program) _ before))
+  | inr some ↦ some
+]
+
+some-there : (program : Stamp) (stamps : List Stamp) → IsSomeAnd (slice_get stamps 0) (λ oldest. IsTrue (stamp_before oldest program)) → 1 ≤ length stamps
+some-there program [] before = absurd before
+some-there program (stamp ∷ stamps) before = omega arith
+
+some-taken : (updates : List Update) (n : ℕ) → 1 ≤ n → 1 ≤ length updates → 1 ≤ length (take n updates)
+some-taken updates zero some more = absurd (omega (arith, some))
+some-taken [] (suc n) some more = absurd (omega (arith, more))
+some-taken (update ∷ updates) (suc n) some more = omega arith
+
+module _ (skipped : SkippedLaw) (pairs : List Given) (program : Stamp) (v : Name) (log : List ShardEntry) where
+  -- a program reads the state after the updates that it sees
+  pub view-state : IsKeptFor program v log → (view_of pairs program (chain_in v log)).state ≡ state_of_updates (take (updates_read pairs program v log) (updates_of v log))
+  view-state base =
+      let updates = updates_of v log in
+      let seen = seen_of pairs program (kept_stamps v log) in
+      let read : newest_state (take seen (drop (dropped_of v log) (versions_from None updates))) ≡ state_of_updates (take (dropped_of v log + seen) updates) = elim (cases_lt 0 (dropped_of v log)) [
+        | inl dropped ↦
+            let oldest = base (omega (arith, dropped)) in
+            let there = some-there program (kept_stamps v log) oldest in
+            let long : length (kept_stamps v log) ≡ length (drop (dropped_of v log) updates) = ap length (sym (map-drop (λ (update : Update). update.stamp) (dropped_of v log) updates)) ∙ length-map (drop (dropped_of v log) updates) (λ (update : Update). update.stamp) in
+            some-kept updates (dropped_of v log) seen (some-taken (drop (dropped_of v log) updates) seen (sees-some skipped pairs program (kept_stamps v log) oldest) (omega (arith, there, long)))
+        | inr none ↦
+            let is : dropped_of v log ≡ 0 = omega (arith, none) in
+            ap (λ n. newest_state (take seen (drop n (versions_from None updates)))) is
+            ∙ all-kept updates seen
+            ∙ (let more : seen ≡ 0 + seen = omega arith in ap (λ n. state_of_updates (take n updates)) more)
+            ∙ ap (λ n. state_of_updates (take (n + seen) updates)) (sym is)
+      ] in
+      ap (λ (stamps : List Stamp). newest_state (take (seen_of pairs program stamps) (chain_in v log).kept)) (kept-stamps-are v log) ∙ read

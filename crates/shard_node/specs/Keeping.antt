@@ -1,19 +1,38 @@
 -- What a shard keeps beside its log. No public contract cites this.
-use Rattle.std.specs.Prelude.{◌≡◌, ℕ, ◌+◌, ◌<◌, ◌≤◌, ◌==◌, ◌||◌, Bool, false, not, if◌then◌else◌, List, [], ◌∷◌, length, slice_get, Option, None, Some, IsSome, Contains}
+use Rattle.std.specs.Prelude.{◌≡◌, ℕ, ◌+◌, ◌<◌, ◌≤◌, ◌==◌, ◌||◌, Bool, false, not, if◌then◌else◌, List, [], ◌∷◌, drop, length, slice_get, Option, None, Some, IsSome, Contains}
 use Rattle.std.specs.Option.{option_map}
 use Rattle.std.specs.List.{find}
 use Rattle.graph_ops.specs.declared.part.Part.{Part}
+use Rattle.graph_ops.specs.Operations.{State}
+use Rattle.graph_ops.specs.VertexOps.{state_after}
 use Rattle.vector_stamp.specs.declared.clock.Stamp.{Stamp}
 use Rattle.vector_stamp.specs.Order.{stamp_before}
-use Rattle.version_chain.specs.Chains.{update_count}
+use Rattle.version_chain.specs.declared.version.Version.{Version}
+use Rattle.version_chain.specs.Chains.{ChainView, update_count}
 use Rattle.weave_data.specs.declared.name.Name.{Name}
 use Rattle.shard_queue.specs.Incoming.{Incoming, head_of, waiting_at}
 use Rattle.version_graph.specs.Graphs.{Chains, chain_of, chain_or_new}
 use Rattle.weave_entries.specs.declared.message.Message.{Message}
 use Rattle.weave_entries.specs.declared.shard_log.ShardEntry.{ShardEntry}
-use Rattle.weave_entries.specs.ShardReplay.{arrived_at, processed_of, processed_count, last_of, dropped_from}
-use Rattle.shard_node.specs.Shards.{chain_in_if, IsTakable}
-use Rattle.shard_node.specs.Rules.{IsShardLog}
+use Rattle.weave_entries.specs.ShardReplay.{Update, arrived_at, processed_of, processed_count, last_of, updates_of}
+use Rattle.weave_entries.specs.ShardRules.{dropped_of, IsTakable, IsShardLog}
+
+-- the versions that updates make, one after another
+abbrev pub versions_from : State → List Update → List Version
+versions_from state [] = []
+versions_from state (update ∷ updates) =
+    record { stamp = update.stamp; state = state_after update.ops state } ∷ versions_from (state_after update.ops state) updates
+
+-- the chain of a vertex at the end of a log
+abbrev pub chain_in : Name → List ShardEntry → ChainView
+chain_in v log = record {
+  dropped = dropped_of v log;
+  kept = drop (dropped_of v log) (versions_from None (updates_of v log));
+}
+
+-- and if it has updates
+abbrev pub chain_in_if : Name → List ShardEntry → Option ChainView
+chain_in_if v log = if length (updates_of v log) == 0 then None else Some (chain_in v log)
 
 -- the first vertex of these parts whose count is not the number of updates that its chain has
 abbrev pub first_differing : Chains → List Part → Option Name
@@ -54,5 +73,5 @@ pub record IsReplayOf (gates : ℕ) (inboxes : List (Incoming Message)) (chains 
   pub chains_are : (v : Name) → chain_of chains v ≡ chain_in_if v log
   pub takable : (gate number : ℕ) (message : Message) → arrived_at gate number log ≡ Some message → IsTakable message
   pub all_arrived : ProcessedArrived log
-  pub nothing_dropped : (v : Name) → dropped_from v [] log 0 ≡ 0
+  pub nothing_dropped : (v : Name) → dropped_of v log ≡ 0
   pub rules : IsShardLog gates log

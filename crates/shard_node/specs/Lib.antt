@@ -1,4 +1,3 @@
 pub mod Keeping
-pub mod Rules
 pub mod Shards
 pub mod TestWords

@@ -1,5 +1,5 @@
 //! A shard.
-ghost use Rattle.std.specs.Prelude.{◌≡◌, ◌≢◌, ◌+◌, ◌<◌, ◌≤◌, ◌∷◌, ◌++◌, ◌⊎◌, [], length, is_some, All, Contains, IsTrue, Some, None, IfOk, IfErr, OnOk, OnErr, if◌then◌else◌};
+ghost use Rattle.std.specs.Prelude.{◌≡◌, ◌≢◌, ◌+◌, ◌<◌, ◌≤◌, ◌∷◌, ◌++◌, ◌⊎◌, [], take, length, is_some, false, All, Contains, IsTrue, IsSome, Some, None, IfOk, IfErr, OnOk, OnErr, if◌then◌else◌};
 ghost use Rattle.std.specs.Option.{ForSome};
 ghost use Rattle.vector_stamp.specs.declared.clock.Stamp.{Stamp};
 ghost use Rattle.vector_stamp.specs.Order.{id_of};
@@ -7,10 +7,10 @@ ghost use Rattle.vector_stamp.specs.Coherence.{AreCoherent};
 ghost use Rattle.vector_stamp.specs.Settling.{pairs_of};
 ghost use Rattle.version_chain.specs.Chains.{stamps_of};
 ghost use Rattle.version_graph.specs.Graphs.{chain_of, chain_or_new};
-ghost use Rattle.version_chain.specs.Views.{view_of, put_before, entries_for, ReachesBack};
-ghost use Rattle.weave_entries.specs.ShardReplay.{arrived_at, processed_count, head_of, waits_at, first_unready, kept_of};
-ghost use Rattle.shard_node.specs.Rules.{IsShardLog};
-ghost use Rattle.shard_node.specs.Shards.{Adds, IsNext, IsTakable, PassesAt, IsRightlyUnapplied, IsRightlyUnread, chain_in, update_stamps, pairs_after_visit};
+ghost use Rattle.version_chain.specs.Views.{has_unordered, view_of, put_before, entries_for, ReachesBack};
+ghost use Rattle.weave_entries.specs.ShardReplay.{arrived_at, processed_count, head_of, updates_of, waits_at, state_of_updates, first_unready, kept_of};
+ghost use Rattle.weave_entries.specs.ShardRules.{kept_stamps, updates_read, is_settled_by, pairs_after_visit, entries_of_visit, is_judge_asked, IsKeptFor, IsTakable, PassesAt, IsShardLog};
+ghost use Rattle.shard_node.specs.Shards.{AddsEntry, IsNext, IsRightlyUnapplied, IsRightlyUnread};
 
 use crate::channels::{empty_channels, first_unready};
 use crate::fault::{ApplyFault, VisitFault};
@@ -79,7 +79,7 @@ impl Shard {
         ensures answer { IfOk result (λ arrival.
             arrival ≡ (if is_some (arrived_at gate number self.old.log) then Arrival.Repeat else Arrival.Kept)) }
         ensures kept { IfOk result (λ arrival. arrival ≡ Arrival.Kept
-            → Adds self.old self.new author (ShardDeed.Arrived gate number message)) }
+            → AddsEntry self.old self.new author (ShardDeed.Arrived gate number message)) }
         ensures repeat { IfOk result (λ arrival. arrival ≡ Arrival.Repeat → self.new ≡ self.old) }
         ensures refused { OnErr result (self.new ≡ self.old) }
     {
@@ -106,7 +106,7 @@ impl Shard {
         requires passes { ForSome (head_of gate self.old.log) (λ head.
             waits_at head self.old.log ≡ None → PassesAt self.old.log head) }
         ensures next { OnOk result (IsNext gate self.old.log) }
-        ensures entry { OnOk result (Adds self.old self.new author
+        ensures entry { OnOk result (AddsEntry self.old self.new author
             (ShardDeed.Applied gate (processed_count gate self.old.log + 1))) }
         ensures refused { IfErr result (λ fault. IsRightlyUnapplied gate self.old.log fault) }
         ensures unchanged { OnErr result (self.new ≡ self.old) }
@@ -139,23 +139,26 @@ impl Shard {
         vertex: Name,
         judge: &mut J,
     ) -> Result<Option<Record>, VisitFault>
-        requires other_ids { All (λ update. id_of update ≢ id_of stamp) (update_stamps vertex self.old.log) }
-        requires coherent { AreCoherent (stamp ∷ update_stamps vertex self.old.log ++ J.known judge.old) }
-        requires base { ReachesBack stamp (chain_in vertex self.old.log) }
+        requires other_ids { All (λ update. id_of update ≢ id_of stamp) (kept_stamps vertex self.old.log) }
+        requires coherent { AreCoherent (stamp ∷ kept_stamps vertex self.old.log ++ J.known judge.old) }
+        requires base { IsKeptFor stamp vertex self.old.log }
         ensures ready { OnOk result (first_unready self.old.gates stamp self.old.log ≡ None) }
-        ensures state { IfOk result (λ state.
-            state ≡ (view_of (J.pairs judge.old) stamp (chain_in vertex self.old.log)).state) }
-        ensures entry { OnOk result (let view = view_of (J.pairs judge.old) stamp (chain_in vertex self.old.log) in
-            Adds self.old self.new author (ShardDeed.Visited request stamp vertex view.updates view.settled)) }
+        ensures state { IfOk result (λ state. state ≡ state_of_updates
+            (take (updates_read (J.pairs judge.old) stamp vertex self.old.log) (updates_of vertex self.old.log))) }
+        ensures entry { OnOk result (AddsEntry self.old self.new author (ShardDeed.Visited request stamp vertex
+            (updates_read (J.pairs judge.old) stamp vertex self.old.log)
+            (is_settled_by (J.pairs judge.old) stamp vertex self.old.log))) }
         ensures pairs { OnOk result (J.pairs judge.new
             ≡ pairs_after_visit (J.pairs judge.old) stamp vertex self.old.log) }
         ensures no_pair { OnErr result (J.pairs judge.new ≡ J.pairs judge.old) }
         ensures known { (event : Stamp) → Contains (J.known judge.new) event
-            → Contains (J.known judge.old) event ⊎ Contains (stamp ∷ update_stamps vertex self.old.log) event }
+            → Contains (J.known judge.old) event ⊎ Contains (stamp ∷ kept_stamps vertex self.old.log) event }
         ensures stay_known { (event : Stamp) → Contains (J.known judge.old) event → Contains (J.known judge.new) event }
         ensures logged { OnOk result (IsTrue J.keeps_log → J.log_of judge.new
-            ≡ J.log_of judge.old ++ entries_for (J.pairs judge.old) author stamp (chain_in vertex self.old.log)) }
+            ≡ J.log_of judge.old ++ entries_of_visit (J.pairs judge.old) author stamp vertex self.old.log) }
         ensures not_logged { OnErr result (IsTrue J.keeps_log → J.log_of judge.new ≡ J.log_of judge.old) }
+        ensures not_ready { IsSome (first_unready self.old.gates stamp self.old.log) → judge.new ≡ judge.old }
+        ensures not_asked { is_judge_asked stamp vertex self.old.log ≡ false → judge.new ≡ judge.old }
         ensures refused { IfErr result (λ fault. IsRightlyUnread self.old.gates stamp self.old.log fault) }
         ensures unchanged { OnErr result (self.new ≡ self.old) }
     {
@@ -220,6 +223,8 @@ fn see<J: Judge>(
     ensures logged { OnOk result (IsTrue J.keeps_log → J.log_of judge.new ≡ J.log_of judge.old
         ++ entries_for (J.pairs judge.old) author stamp (chain_or_new (chain_of graph.now vertex))) }
     ensures not_logged { OnErr result (IsTrue J.keeps_log → J.log_of judge.new ≡ J.log_of judge.old) }
+    ensures not_asked { has_unordered stamp (stamps_of (chain_or_new (chain_of graph.now vertex)).kept) ≡ false
+        → judge.new ≡ judge.old }
 {
     let Some(chain) = graph.chain(vertex) else {
         return Ok(View {

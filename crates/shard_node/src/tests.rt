@@ -1,4 +1,4 @@
-ghost use Rattle.std.specs.Prelude.{◌≡◌, ◌≢◌, ◌<◌, ◌∷◌, ◌++◌, [], Some, None, All, IsTrue};
+ghost use Rattle.std.specs.Prelude.{◌≡◌, ◌≢◌, ◌-◌, ◌^◌, ◌<◌, ◌∷◌, ◌++◌, [], Some, None, All, AllPairs, IsTrue};
 ghost use Rattle.std.specs.List.{flat_map};
 ghost use Rattle.graph_ops.specs.VertexOps.{none_refused};
 ghost use Rattle.vector_stamp.specs.declared.clock.Stamp.{Stamp};
@@ -9,7 +9,7 @@ ghost use Rattle.version_chain.specs.Chains.{newest_state};
 ghost use Rattle.version_chain.specs.TestJudge.{ends};
 ghost use Rattle.version_graph.specs.Graphs.{chain_of, chain_or_new};
 ghost use Rattle.weave_entries.specs.ShardReplay.{head_of};
-ghost use Rattle.shard_node.specs.Shards.{IsTakable, PassesAt};
+ghost use Rattle.weave_entries.specs.ShardRules.{IsTakable, PassesAt};
 ghost use Rattle.shard_node.specs.TestWords.{arrived_stamps};
 
 use crate::{ApplyFault, Arrival, Shard, VisitFault};
@@ -105,12 +105,13 @@ fn judge(alloc: Global) -> TestJudge {
 }
 
 fn stamp(home: u32, first: u64, second: u64, third: u64) -> Stamp {
+    stamp_in(0, home, [first, second, third, 0, 0, 0, 0, 0])
+}
+
+fn stamp_in(epoch: u64, home: u32, counts: [u64; 8]) -> Stamp {
     Stamp {
         home,
-        clock: Clock {
-            epoch: 0,
-            counts: [first, second, third, 0, 0, 0, 0, 0],
-        },
+        clock: Clock { epoch, counts },
     }
 }
 
@@ -148,14 +149,61 @@ fn commit(rt: &impl Abort, alloc: Global, stamp: Stamp, before: u64, op: Op) -> 
     }
 }
 
-// Whether a message has one part at most, with a count that a shard takes.
+// A part of a message.
+fn part(rt: &impl Abort, alloc: Global, vertex: Name, before: u64, ops: &[Op]) -> Part {
+    let ops = Vec::from_slice(alloc, ops).expect(rt, "memory");
+    Part {
+        vertex,
+        before,
+        ops: Items::from_vec(ops),
+    }
+}
+
+// A message with two parts.
+fn two_parts(rt: &impl Abort, alloc: Global, stamp: Stamp, first: Part, second: Part) -> Message {
+    let mut parts = Items::new(alloc);
+    parts.push(first).expect(rt, "memory");
+    parts.push(second).expect(rt, "memory");
+    Message {
+        request: Some(0),
+        stamp,
+        low: stamp.clock,
+        parts,
+    }
+}
+
+// Whether none of the parts is of this vertex.
+fn are_elsewhere(parts: &[Part], vertex: Name) -> bool
+    ensures { IsTrue result → All (λ (part : Part). vertex ≢ part.vertex) parts.now }
+{
+    let Some((part, others)) = parts.split_first() else {
+        return true;
+    };
+    if vertex == part.vertex {
+        return false;
+    }
+    are_elsewhere(others, vertex)
+}
+
+// Whether the parts are of vertices of their own, with counts that a shard takes.
+fn are_takable(parts: &[Part]) -> bool
+    ensures apart { IsTrue result → AllPairs (λ (one other : Part). one.vertex ≢ other.vertex) parts.now }
+    ensures small { IsTrue result → All (λ (part : Part). part.before < 2 ^ 64 - 1) parts.now }
+{
+    let Some((part, others)) = parts.split_first() else {
+        return true;
+    };
+    if part.before == u64::MAX || !are_elsewhere(others, part.vertex) {
+        return false;
+    }
+    are_takable(others)
+}
+
+// Whether a shard takes the message.
 fn is_takable(message: &Message) -> bool
     ensures { IsTrue result → IsTakable message.now }
 {
-    let Some((part, others)) = message.parts.as_slice().split_first() else {
-        return true;
-    };
-    others.is_empty() && part.before < u64::MAX
+    are_takable(message.parts.as_slice())
 }
 
 // A message arrives, under the conditions of `arrive`.
@@ -185,17 +233,35 @@ fn newest(rt: &impl Abort, alloc: Global, graph: &VersionGraph, vertex: Name) ->
     chain.newest(alloc).expect(rt, "memory")
 }
 
-// Whether there is one operation at most, which passes on a state.
+// Whether none of the operations is refused, each on the state that those before it leave.
 fn passes(alloc: Global, mut state: Option<Record>, ops: &[Op]) -> bool
     ensures { IsTrue result → IsTrue (none_refused ops.now state) }
 {
     let Some((op, others)) = ops.split_first() else {
         return true;
     };
-    others.is_empty() && apply_op(alloc, &mut state, op).is_ok()
+    if apply_op(alloc, &mut state, op).is_err() {
+        return false;
+    }
+    passes(alloc, state, others)
 }
 
-// Whether the head of a channel, if there is one, has one part at most, which passes.
+// Whether the operations of each part pass on the newest state of its vertex.
+fn parts_pass(rt: &impl Abort, alloc: Global, graph: &VersionGraph, parts: &[Part]) -> bool
+    ensures { IsTrue result → All (λ (part : Part). IsTrue (none_refused part.ops
+        (newest_state (chain_or_new (chain_of graph.now part.vertex)).kept))) parts.now }
+{
+    let Some((part, others)) = parts.split_first() else {
+        return true;
+    };
+    let state = newest(rt, alloc, graph, part.vertex);
+    if !passes(alloc, state, part.ops.as_slice()) {
+        return false;
+    }
+    parts_pass(rt, alloc, graph, others)
+}
+
+// Whether each part of the head of a channel passes, if there is a head.
 fn head_passes(rt: &impl Abort, alloc: Global, shard: &Shard, gate: u32) -> bool
     requires { gate < shard.now.gates }
     ensures { IsTrue result → (head : Message) → head_of gate shard.now.log ≡ Some head → PassesAt shard.now.log head }
@@ -204,11 +270,7 @@ fn head_passes(rt: &impl Abort, alloc: Global, shard: &Shard, gate: u32) -> bool
     let Some(head) = channel.head() else {
         return true;
     };
-    let Some((part, others)) = head.parts.as_slice().split_first() else {
-        return true;
-    };
-    let state = newest(rt, alloc, &shard.graph, part.vertex);
-    others.is_empty() && passes(alloc, state, part.ops.as_slice())
+    parts_pass(rt, alloc, &shard.graph, head.parts.as_slice())
 }
 
 // A head is processed, under the conditions of `apply`.
@@ -276,11 +338,12 @@ fn together(
     all
 }
 
-// A visit, under the conditions of `visit`: the stamps of all that arrived, and those that the judge knows, are coherent with the program's.
-fn visit(
+// A visit for a request, under the conditions of `visit`: the stamps of all that arrived, and those that the judge knows, are coherent with the program's.
+fn visit_for(
     rt: &impl Abort,
     alloc: Global,
     shard: &mut Shard,
+    request: u32,
     program: Stamp,
     vertex: Name,
     judge: &mut TestJudge,
@@ -294,7 +357,19 @@ fn visit(
     if !are_others(arrived.as_slice(), &program, known.as_slice()) {
         panic!(rt; "the program is one of the updates");
     }
-    shard.visit(alloc, 7, 5, program, vertex, judge)
+    shard.visit(alloc, 7, request, program, vertex, judge)
+}
+
+// The same for request 5.
+fn visit(
+    rt: &impl Abort,
+    alloc: Global,
+    shard: &mut Shard,
+    program: Stamp,
+    vertex: Name,
+    judge: &mut TestJudge,
+) -> Result<Option<Record>, VisitFault> {
+    visit_for(rt, alloc, shard, 5, program, vertex, judge)
 }
 
 // What a visit read.
@@ -538,4 +613,103 @@ fn a_later_program_reads_the_newest_state(rt: HostRuntime) {
         (visited(shard.log(), 9), judge.pairs.len()),
         (Some((5, 3, false)), 0)
     );
+}
+
+// A head waits for its second vertex, and nothing of it is applied until then. Of two vertices that wait the first is named.
+#[test]
+fn the_second_vertex_waits(rt: HostRuntime) -> Result<(), Fail> {
+    let alloc = rt.alloc();
+    let (v, w) = (name(&rt, "v"), name(&rt, "w"));
+    let mut shard = Shard::new(alloc, 0, 2)?;
+    let makes = part(&rt, alloc, v, 0, &[Op::Create { v }]);
+    let reads = part(&rt, alloc, w, 1, &[Op::Get { v: w }]);
+    let both = two_parts(&rt, alloc, stamp(1, 0, 1, 0), makes, reads);
+    arrive(&rt, alloc, &mut shard, 1, 1, both);
+    assert!(rt; apply(&rt, alloc, &mut shard, 1) == Err(ApplyFault::Waits { vertex: w }));
+    assert_eq!(rt; (shard.kept(v), shard.kept(w)), (0, 0));
+    let made = commit(&rt, alloc, stamp(0, 1, 0, 0), 0, Op::Create { v: w });
+    take(&rt, alloc, &mut shard, 0, 1, made);
+    assert!(rt; apply(&rt, alloc, &mut shard, 1).is_ok());
+    assert_eq!(rt; (shard.kept(v), shard.kept(w)), (1, 2));
+    let first = part(&rt, alloc, v, 3, &[Op::Get { v }]);
+    let second = part(&rt, alloc, w, 4, &[Op::Get { v: w }]);
+    let both = two_parts(&rt, alloc, stamp(1, 0, 2, 0), first, second);
+    arrive(&rt, alloc, &mut shard, 1, 2, both);
+    assert!(rt; apply(&rt, alloc, &mut shard, 1) == Err(ApplyFault::Waits { vertex: v }));
+    Ok(())
+}
+
+// `w` is made. One transaction then makes `v`, gives it a color and links `w` to it. A third one has no operation on `v`.
+fn two_linked(rt: &impl Abort, alloc: Global) -> Shard {
+    let (v, w) = (name(rt, "v"), name(rt, "w"));
+    let mut shard = Shard::new(alloc, 0, 2).expect(rt, "memory");
+    let made = commit(rt, alloc, stamp(0, 1, 0, 0), 0, Op::Create { v: w });
+    take(rt, alloc, &mut shard, 0, 1, made);
+    let link = Op::Link {
+        v: w,
+        edge: name(rt, "e"),
+        target: v,
+    };
+    let makes = part(rt, alloc, v, 0, &[Op::Create { v }, color(rt, "red")]);
+    let links = part(rt, alloc, w, 1, &[link]);
+    let both = two_parts(rt, alloc, stamp(1, 1, 1, 0), makes, links);
+    take(rt, alloc, &mut shard, 1, 1, both);
+    let nothing = part(rt, alloc, v, 1, &[]);
+    let reads = part(rt, alloc, w, 2, &[Op::Get { v: w }]);
+    let third = two_parts(rt, alloc, stamp(0, 2, 1, 0), nothing, reads);
+    take(rt, alloc, &mut shard, 0, 2, third);
+    shard
+}
+
+// How many edges the vertex has that was read.
+fn edges(visit: &Result<Option<Record>, VisitFault>) -> Option<usize> {
+    let Ok(state) = visit else {
+        return None;
+    };
+    let Some(found) = state else {
+        return None;
+    };
+    Some(found.edges.len())
+}
+
+// A message of two vertices is applied to both, with all operations of each part. A part without operations is an update.
+#[test]
+fn a_message_of_two_vertices(rt: HostRuntime) {
+    let alloc = rt.alloc();
+    let (v, w, program) = (name(&rt, "v"), name(&rt, "w"), stamp(0, 3, 1, 0));
+    let mut shard = two_linked(&rt, alloc);
+    let mut judge = judge(alloc);
+    assert_eq!(rt; (shard.kept(v), shard.kept(w)), (2, 3));
+    arrive(&rt, alloc, &mut shard, 0, 3, nop(alloc, stamp(0, 4, 1, 0)));
+    arrive(&rt, alloc, &mut shard, 1, 2, nop(alloc, stamp(1, 3, 2, 0)));
+    let first = visit(&rt, alloc, &mut shard, program, v, &mut judge);
+    assert!(rt; read(&rt, &first) == Reading::Colored(Some(name(&rt, "red"))));
+    let second = visit(&rt, alloc, &mut shard, program, w, &mut judge);
+    assert_eq!(rt; edges(&second), Some(1));
+    for (place, entry) in [(8, (5, 2, false)), (9, (5, 3, false))] {
+        assert_eq!(rt; visited(shard.log(), place), Some(entry), "at {place}");
+    }
+}
+
+// Eight gatekeepers in epoch 3: the last one makes a vertex, and a program of the seventh reads it once each has sent a message of epoch 4.
+#[test]
+fn eight_gatekeepers(rt: HostRuntime) {
+    let alloc = rt.alloc();
+    let v = name(&rt, "v");
+    let program = stamp_in(3, 6, [0, 0, 0, 0, 0, 0, 1, 1]);
+    let mut shard = Shard::new(alloc, 5, 8).expect(&rt, "memory");
+    let mut judge = judge(alloc);
+    let made = stamp_in(3, 7, [0, 0, 0, 0, 0, 0, 0, 1]);
+    let made = commit(&rt, alloc, made, 0, Op::Create { v });
+    take(&rt, alloc, &mut shard, 7, 1, made);
+    for gate in 0..8 {
+        let silent = visit_for(&rt, alloc, &mut shard, 41, program, v, &mut judge);
+        assert!(rt; silent.err() == Some(VisitFault::Again { gate }));
+        let number = if gate == 7 { 2 } else { 1 };
+        let empty = nop(alloc, stamp_in(4, gate, [1; 8]));
+        arrive(&rt, alloc, &mut shard, gate, number, empty);
+    }
+    let seen = visit_for(&rt, alloc, &mut shard, 41, program, v, &mut judge);
+    assert!(rt; read(&rt, &seen) == Reading::Colored(None));
+    assert_eq!(rt; visited(shard.log(), 10), Some((41, 1, false)));
 }

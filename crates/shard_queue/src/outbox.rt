@@ -34,7 +34,7 @@ impl<M: Stamped> Outbox<M> {
         }
     }
 
-    /// Takes the room for one more message. The one error is want of memory, and then the channel is as before.
+    /// Takes the room for one more message. The one error is out of memory, and then the channel is as before.
     pub fn reserve(&mut self, _alloc: Global) -> Result<(), AllocError>
         ensures sent { self.new.sent ≡ self.old.sent }
         ensures room { OnOk result (1 ≤ self.new.spare) }
@@ -45,7 +45,7 @@ impl<M: Stamped> Outbox<M> {
         Ok(())
     }
 
-    /// Sends a message, and answers its number. For want of memory it gives the message back, and then the channel is as before; where there is room it can't fail.
+    /// Sends a message, and answers its number. If it is out of memory it gives the message back, and the channel is as before. If there is room it can't fail.
     pub fn push(&mut self, _alloc: Global, message: M) -> Result<u64, M>
         requires { IsAfterLast (M.stamp_of message) (map M.stamp_of self.old.sent) }
         ensures sent { OnOk result (self.new.sent ≡ self.old.sent ++ message ∷ []) }

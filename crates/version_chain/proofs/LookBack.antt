@@ -3,22 +3,22 @@ use Rattle.std.proofs.Common.{◌≡◌, ◌≢◌, ℕ, zero, suc, ◌+◌, Boo
 use Rattle.std.specs.List.{list_any}
 use Rattle.std.proofs.Math.Bool.{or-false}
 use Rattle.std.proofs.lemmas.List.{append-nil, map-append}
-use Rattle.std.proofs.lemmas.Bool.{or_left}
+use Rattle.std.proofs.lemmas.Bool.{cases_Bool, or_left}
 use Rattle.std.specs.Prelude.{◌<◌, ◌≤◌, Result, Ok, Err, IfOk, slice_get}
 use Rattle.std.specs.Option.{IsSomeAnd}
 use Rattle.std.specs.declared.alloc.AllocError.{AllocError}
 use Rattle.std.proofs.lemmas.List.Sums.{fold-append}
 use Rattle.std.proofs.lemmas.List.Elements.{All-contains, Contains-append_left, Contains-append_right, Contains-append_cases}
-use Rattle.proof_base.proofs.Members.{has_none, has_read, has_head, has_tail, has_last, has_map}
+use Rattle.proof_base.proofs.Members.{has_none, has_read, has_head, has_tail, has_last, has_map, any_from}
 use Rattle.vector_stamp.specs.declared.clock.Stamp.{Stamp}
-use Rattle.vector_stamp.specs.Order.{id_of, stamp_before}
+use Rattle.vector_stamp.specs.Order.{id_of, stamp_before, unordered}
 use Rattle.vector_stamp.specs.Coherence.{AreCoherent}
 use Rattle.vector_stamp.specs.Precedence.{Given, precedes}
 use Rattle.vector_stamp.specs.Settling.{SettledEntry, additions_from, places_of, pairs_of, entries_of_call}
 use Rattle.vector_stamp.specs.Seeing.{with_front, last_place, is_seen, seen_of, last_seen}
 use Rattle.version_chain.specs.declared.version.Version.{Version}
 use Rattle.version_chain.specs.Chains.{ChainView, stamps_of, newest_state}
-use Rattle.version_chain.specs.Views.{kept_seen, read_update, view_of, ReachesBack}
+use Rattle.version_chain.specs.Views.{has_unordered, kept_seen, read_update, view_of, ReachesBack}
 use Rattle.version_chain.specs.Looks.{IsFront, LearnsOnly, read_of}
 use Rattle.version_chain.specs.declared.view.View.{View}
 use Rattle.version_chain.specs.declared.view.Seen.{Seen}
@@ -64,6 +64,13 @@ module _ (versions rest older : List Version) (newest : Version) (front : IsFron
   newest_stamp-in =
       let here : Contains versions newest = subst (λ (vs : List Version). Contains vs newest) (sym whole) (Contains-append_left (older ++ newest ∷ []) front.0 newest (has_last older newest)) in
       has_map (λ (version : Version). version.stamp) versions newest here
+
+  -- if no version is unordered with the program, the newest one is not
+  pub none_unordered : (program : Stamp) → has_unordered program (stamps_of versions) ≡ false → unordered newest.stamp program ≡ false
+  none_unordered program none = elim (cases_Bool (unordered newest.stamp program)) [
+    | inl is ↦ let some : has_unordered program (stamps_of versions) ≡ true = any_from (λ update. unordered update program) (stamps_of versions) newest.stamp newest_stamp-in is in absurd cc
+    | inr ordered ↦ ordered
+  ]
 
   pub older-front : IsFront older versions
   older-front = (newest ∷ front.0, whole ∙ append_assoc older (newest ∷ []) front.0)

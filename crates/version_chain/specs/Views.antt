@@ -3,12 +3,16 @@ use Rattle.std.specs.Prelude.{ℕ, ◌+◌, ◌≤◌, Bool, not, List, take, Is
 use Rattle.std.specs.List.{list_any, slice_get}
 use Rattle.std.specs.Option.{IsSomeAnd}
 use Rattle.vector_stamp.specs.declared.clock.Stamp.{Stamp}
-use Rattle.vector_stamp.specs.Order.{stamp_before}
+use Rattle.vector_stamp.specs.Order.{stamp_before, unordered}
 use Rattle.vector_stamp.specs.Precedence.{Given, precedes}
 use Rattle.vector_stamp.specs.Seeing.{seen_of, last_seen}
 use Rattle.vector_stamp.specs.Settling.{SettledEntry, additions_from, places_of, entries_of_call}
 use Rattle.version_chain.specs.Chains.{ChainView, stamps_of, newest_state}
 use Rattle.version_chain.specs.declared.view.View.{View}
+
+-- one of the updates is unordered with the program: only then is the judge asked
+abbrev pub has_unordered : Stamp → List Stamp → Bool
+has_unordered program updates = list_any (λ update. unordered update program) updates
 
 -- how many of the kept versions the program sees: all up to the last one that it sees
 abbrev pub kept_seen : List Given → Stamp → ChainView → ℕ

@@ -1,12 +1,12 @@
 //! A vertex's updates.
-ghost use Rattle.std.specs.Prelude.{◌≡◌, ◌≢◌, ◌+◌, ◌<◌, ◌≤◌, ◌∷◌, ◌++◌, ◌⊎◌, [], length, All, Contains, IsTrue, IfOk, OnOk, OnErr};
+ghost use Rattle.std.specs.Prelude.{◌≡◌, ◌≢◌, ◌+◌, ◌<◌, ◌≤◌, ◌∷◌, ◌++◌, ◌⊎◌, [], false, length, All, Contains, IsTrue, IfOk, OnOk, OnErr};
 ghost use Rattle.vector_stamp.specs.declared.clock.Stamp.{Stamp};
 ghost use Rattle.vector_stamp.specs.Order.{id_of};
 ghost use Rattle.vector_stamp.specs.Coherence.{AreCoherent};
 ghost use Rattle.vector_stamp.specs.Settling.{pairs_of};
 ghost use Rattle.version_chain.specs.declared.version.Version.{Version};
 ghost use Rattle.version_chain.specs.Chains.{ChainView, no_updates, update_count, stamps_of, newest_state, with_version, with_update, IsNextUpdate, KeepsOne};
-ghost use Rattle.version_chain.specs.Views.{view_of, put_before, entries_for, ReachesBack};
+ghost use Rattle.version_chain.specs.Views.{has_unordered, view_of, put_before, entries_for, ReachesBack};
 
 use crate::version::{Version, updated};
 use crate::view::{View, look_back};
@@ -118,6 +118,7 @@ impl Chain {
         ensures logged { OnOk result (IsTrue J.keeps_log
             → J.log_of judge.new ≡ J.log_of judge.old ++ entries_for (J.pairs judge.old) author stamp self.now) }
         ensures not_logged { OnErr result (IsTrue J.keeps_log → J.log_of judge.new ≡ J.log_of judge.old) }
+        ensures not_asked { has_unordered stamp (stamps_of self.now.kept) ≡ false → judge.new ≡ judge.old }
     {
         look_back(
             alloc,

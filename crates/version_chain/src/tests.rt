@@ -16,7 +16,7 @@ use std::marker::Model;
 use std::process::Abort;
 use std::test::Fail;
 use vector_stamp::{Clock, Judge, Refusal, Settled, Stamp, are_coherent};
-use weave_data::Items;
+use weave_data::{Copied, Items};
 
 // A judge for calls with one earlier event. It looks for paths as the definition does, and answers out of memory where it is told to.
 #[derive(Drop)]
@@ -424,4 +424,28 @@ fn updates_of_each_kind(rt: HostRuntime) {
     let mut judge = judge_of(&rt, alloc, &[]);
     let seen = view(&rt, alloc, &chain, stamp(0, 10, 0, 0), &mut judge);
     assert!(rt; shows(&seen, None, 9, false));
+}
+
+// Copies are equal.
+#[test]
+fn copies_are_equal(rt: HostRuntime) -> Result<(), Fail> {
+    let alloc = rt.alloc();
+    let clocks = [stamp(0, 1, 0, 0), stamp(1, 0, 1, 0), stamp(2, 3, 0, 1)];
+    let chain = three_updates(&rt, alloc, &clocks);
+    let version = Version {
+        stamp: clocks[2],
+        state: chain.newest(alloc)?,
+    };
+    let other = version.copy(alloc)?;
+    assert!(rt; other.stamp == clocks[2]);
+    assert!(rt; other.state.is_some() && other.state == version.state);
+    let view = View {
+        state: chain.newest(alloc)?,
+        updates: 3,
+        settled: true,
+    };
+    let other = view.copy(alloc)?;
+    assert!(rt; other.state.is_some() && other.state == view.state);
+    assert_eq!(rt; (other.updates, other.settled), (3, true));
+    Ok(())
 }

@@ -5,6 +5,7 @@ ghost use Rattle.graph_ops.specs.VertexOps.{state_after, none_refused};
 use graph_ops::{Op, OpFault, Record, apply_op};
 use std::alloc::{AllocError, Global};
 use vector_stamp::Stamp;
+use weave_data::Copied;
 
 /// The state of a vertex after an update, with the stamp of the update's transaction.
 #[derive(Drop)]
@@ -13,7 +14,16 @@ pub struct Version {
     pub state: Option<Record>,
 }
 
-/// Does operations that pass to a state, one after another.
+impl Copied for Version {
+    fn copy(&self, alloc: Global) -> Result<Self, AllocError> {
+        Ok(Version {
+            stamp: self.stamp,
+            state: self.state.copy(alloc)?,
+        })
+    }
+}
+
+/// Does operations that pass to a state, one after another. One that only reads leaves the state as it is, and copies nothing.
 pub(crate) fn updated(
     alloc: Global,
     mut state: Option<Record>,
@@ -23,6 +33,9 @@ pub(crate) fn updated(
     ensures { IfOk result (λ now. now ≡ state_after ops.now state) }
 {
     for op in ops {
+        if let Op::Get { .. } = op {
+            continue;
+        }
         match apply_op(alloc, &mut state, op) {
             Ok(_) => {}
             Err(OpFault::Refused(_)) => unreachable!(),

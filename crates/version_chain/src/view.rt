@@ -1,14 +1,14 @@
 //! What a program sees.
-ghost use Rattle.std.specs.Prelude.{◌≡◌, ◌≢◌, ◌<◌, ◌+◌, ◌^◌, length, ◌∷◌, ◌++◌, ◌⊎◌, [], not, All, Contains, IsTrue, Some, None, IfOk, OnOk, OnErr, if◌then◌else◌};
+ghost use Rattle.std.specs.Prelude.{◌≡◌, ◌≢◌, ◌<◌, ◌+◌, ◌^◌, length, ◌∷◌, ◌++◌, ◌⊎◌, [], false, not, All, Contains, IsTrue, Some, None, IfOk, OnOk, OnErr, if◌then◌else◌};
 ghost use Rattle.vector_stamp.specs.declared.clock.Stamp.{Stamp};
-ghost use Rattle.vector_stamp.specs.Order.{id_of};
+ghost use Rattle.vector_stamp.specs.Order.{id_of, unordered};
 ghost use Rattle.vector_stamp.specs.Coherence.{AreCoherent};
 ghost use Rattle.vector_stamp.specs.Precedence.{precedes};
 ghost use Rattle.vector_stamp.specs.Seeing.{is_seen};
 ghost use Rattle.vector_stamp.specs.Settling.{additions_from, places_of, pairs_of, entries_of_call};
 ghost use Rattle.version_chain.specs.Chains.{stamps_of};
 ghost use Rattle.version_chain.specs.Looks.{read_of};
-ghost use Rattle.version_chain.specs.Views.{view_of, put_before, entries_for};
+ghost use Rattle.version_chain.specs.Views.{has_unordered, view_of, put_before, entries_for};
 
 use crate::version::Version;
 use graph_ops::Record;
@@ -26,6 +26,16 @@ pub struct View {
     pub updates: u64,
     /// Whether the judge added a pair, which puts the last of these updates before the program.
     pub settled: bool,
+}
+
+impl Copied for View {
+    fn copy(&self, alloc: Global) -> Result<Self, AllocError> {
+        Ok(View {
+            state: self.state.copy(alloc)?,
+            updates: self.updates,
+            settled: self.settled,
+        })
+    }
 }
 
 /// A version that a program sees.
@@ -58,6 +68,7 @@ pub(crate) fn look<J: Judge>(
         ++ entries_of_call author (read_of seen version.now.stamp) program
         (places_of (additions_from 0 (J.pairs judge.old) (read_of seen version.now.stamp) program))) }
     ensures not_logged { OnErr result (IsTrue J.keeps_log → J.log_of judge.new ≡ J.log_of judge.old) }
+    ensures not_asked { unordered version.now.stamp program ≡ false → judge.new ≡ judge.old }
 {
     precedence_is_decided();
     match version.stamp.clock.compare(&program.clock) {
@@ -158,6 +169,7 @@ pub(crate) fn look_back<J: Judge>(
     ensures logged { OnOk result (IsTrue J.keeps_log → J.log_of judge.new ≡ J.log_of judge.old
         ++ entries_for (J.pairs judge.old) author program (record { dropped = dropped; kept = versions.now })) }
     ensures not_logged { OnErr result (IsTrue J.keeps_log → J.log_of judge.new ≡ J.log_of judge.old) }
+    ensures not_asked { has_unordered program (stamps_of versions.now) ≡ false → judge.new ≡ judge.old }
 {
     parts_and_unions_are_coherent();
     let mut rest = versions;

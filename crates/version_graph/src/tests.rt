@@ -60,7 +60,7 @@ fn create_three(
     graph.apply_parts(alloc, stamp, &parts).is_ok()
 }
 
-// All three vertices have one update, or none of them has a chain. With memory for all, the first holds.
+// All three vertices have one update, or none of them has a chain. There is memory for all.
 #[test]
 fn three_vertices(rt: HostRuntime) -> Result<(), Fail> {
     let alloc = rt.alloc();
@@ -72,6 +72,7 @@ fn three_vertices(rt: HostRuntime) -> Result<(), Fail> {
         assert_eq!(rt; graph.chain(v).map(|chain| chain.count()), count);
     }
     assert!(rt; graph.chain(name(&rt, "d")).is_none());
+    assert!(rt; made);
     Ok(())
 }
 

@@ -11,3 +11,5 @@ pub mod LowMarks
 pub mod NonePast
 pub mod OracleLogs
 pub mod Sessions
+pub mod ShardLogs
+pub mod StoreLogs

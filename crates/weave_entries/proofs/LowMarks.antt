@@ -1,19 +1,17 @@
 -- Low marks: at most the message's stamp, and at most the stamp of each program that is running.
-use Rattle.std.proofs.Common.{◌≡◌, ℕ, ◌<◌, List, [], ◌∷◌, ◌++◌, map, fold, filter, not, Contains, IsTrue, inl, inr, refl, sym, ap, subst, ◌∙◌}
-use Rattle.std.proofs.lemmas.List.{length-set}
-use Rattle.std.proofs.lemmas.List.Elements.{Contains-append_cases, Contains-append_left}
+use Rattle.std.proofs.Common.{◌≡◌, ℕ, ◌<◌, List, [], ◌∷◌, ◌++◌, map, fold, not, Contains, IsTrue, inl, inr, refl, sym, subst, ◌∙◌}
+use Rattle.std.proofs.lemmas.List.Elements.{Contains-append_cases}
 use Rattle.proof_base.proofs.Members.{has_none, has_read, has_head, has_tail, has_map, map_has, only, filter_has}
 use Rattle.vector_stamp.specs.declared.clock.Clock.{Clock}
 use Rattle.vector_stamp.specs.declared.clock.Stamp.{Stamp}
-use Rattle.vector_stamp.specs.Order.{HasEightCounts, HaveEightCounts, is_before, is_at_most}
+use Rattle.vector_stamp.specs.Order.{HasEightCounts, HaveEightCounts, is_at_most}
 use Rattle.vector_stamp.specs.ClockLaws.{ClockLaws}
 use Rattle.vector_stamp.specs.Clocks.{meet_of, meet_with}
-use Rattle.weave_entries.specs.declared.message.Message.{Message}
 use Rattle.weave_entries.specs.declared.message.Addressed.{Addressed}
 use Rattle.weave_entries.specs.declared.gate_log.GateEntry.{GateEntry}
 use Rattle.weave_entries.specs.declared.gate_log.GateDeed.{GateDeed}
 use Rattle.weave_entries.specs.declared.gate_log.GateDeed.TheVariants.{BeganTx, BeganProgram, Sent, Nop, Heard, Raised, Finished}
-use Rattle.weave_entries.specs.GateReplay.{Begun, is_begun, nop_message, next_stamp, begun_stamp, clock_of, stamps_by, stamps_of, running_after, running_of, flight_of, messages_by, sent_in, low_mark}
+use Rattle.weave_entries.specs.GateReplay.{Begun, is_begun, nop_message, next_stamp, begun_stamp, clock_of, stamps_by, stamps_of, running_after, running_of, messages_by, sent_in, low_mark}
 use Rattle.weave_entries.specs.GateRules.{IsBegunAt, FitsAs, IsGateLog}
 use Rattle.weave_entries.proofs.OwnStamps.{flight-stamp, running-stamp, sent-stamp, of-begun}
 use Rattle.weave_entries.proofs.Replay.{stamps-push, running-push, sent-push, by_entries}

@@ -1,22 +1,21 @@
 -- No clock of a log counts an event of a gatekeeper that isn't there, if no heard clock does.
-use Rattle.std.proofs.Common.{◌≡◌, ℕ, ◌<◌, List, [], ◌∷◌, ◌++◌, map, Contains, Option, None, Some, inl, inr, refl, sym, ap, subst, ◌∙◌}
+use Rattle.std.proofs.Common.{ℕ, ◌<◌, List, [], ◌∷◌, ◌++◌, map, Contains, Option, None, Some, inl, inr, refl, sym, ap, subst, ◌∙◌}
 use Rattle.std.specs.List.{flat_map}
 use Rattle.std.specs.Option.{ForSome}
 use Rattle.std.proofs.lemmas.List.{append-nil}
 use Rattle.std.proofs.lemmas.List.Elements.{Contains-append_cases}
 use Rattle.proof_base.proofs.Entries as entries
-use Rattle.proof_base.proofs.Members.{has_none, has_read, has_head, has_map, map_has, flat_has, only}
+use Rattle.proof_base.proofs.Members.{has_none, has_read, map_has, flat_has, only}
 use Rattle.vector_stamp.specs.declared.clock.Clock.{Clock}
 use Rattle.vector_stamp.specs.declared.clock.Stamp.{Stamp}
 use Rattle.vector_stamp.specs.Order.{CountsNonePast}
 use Rattle.vector_stamp.specs.ClockLaws.{ClockLaws}
-use Rattle.vector_stamp.specs.Clocks.{clock_after_hearing, meet_with}
-use Rattle.weave_entries.specs.declared.message.Message.{Message}
+use Rattle.vector_stamp.specs.Clocks.{clock_after_hearing}
 use Rattle.weave_entries.specs.declared.message.Addressed.{Addressed}
 use Rattle.weave_entries.specs.declared.gate_log.GateEntry.{GateEntry}
 use Rattle.weave_entries.specs.declared.gate_log.GateDeed.{GateDeed}
 use Rattle.weave_entries.specs.declared.gate_log.GateDeed.TheVariants.{BeganTx, BeganProgram, Sent, Nop, Heard, Raised, Finished}
-use Rattle.weave_entries.specs.GateReplay.{Begun, clock_after_last, begun_stamp, next_stamp, clock_after, clock_of, running_of, low_mark, clocks_of_message, clocks_by, clocks_in}
+use Rattle.weave_entries.specs.GateReplay.{Begun, clock_after_last, clock_after, clock_of, running_of, low_mark, clocks_of_message, clocks_by, clocks_in}
 use Rattle.weave_entries.specs.GateRules.{FitsAs, IsGateLog, HearsNonePastAt, HearsNonePastAs, HearsNonePast}
 use Rattle.weave_entries.proofs.LowMarks.{low-meet}
 use Rattle.weave_entries.proofs.OwnStamps.{flight-stamp, running-stamp, of-begun, stamp-clock}

@@ -1,9 +1,8 @@
 -- A request ends after its begin, by its author, and once where it is begun once.
-use Rattle.std.proofs.Common.{◌≡◌, ◌≢◌, ℕ, ◌<◌, Bool, true, false, not, List, [], ◌∷◌, ◌++◌, length, map, filter, get_or, Contains, Option, None, Some, ◌⊎◌, inl, inr, refl, sym, ap, subst, ◌∙◌, lit<, arith}
+use Rattle.std.proofs.Common.{◌≡◌, ◌≢◌, ℕ, Bool, true, false, not, List, [], ◌∷◌, ◌++◌, map, filter, Contains, Option, None, Some, inl, inr, refl, sym, ap, subst, ◌∙◌, arith}
 use Rattle.std.specs.List.{AllPairs, flat_map, list_any}
-use Rattle.std.proofs.lemmas.Bool.{cases_Bool, both_ways, cases_order, eqb-true, and_parts}
-use Rattle.std.proofs.lemmas.List.{append-nil, length-append, get_or_append_left, get_or_default}
-use Rattle.std.proofs.Math.Seq.{get_or-append_seam}
+use Rattle.std.proofs.lemmas.Bool.{both_ways, eqb-true, and_parts}
+use Rattle.std.proofs.lemmas.List.{append-nil}
 use Rattle.std.proofs.lemmas.List.Elements.{Contains-append_cases, Contains-append_left, Contains-append_right}
 use Rattle.std.proofs.lemmas.List.Kept.{AllPairs-filter}
 use Rattle.vector_stamp.specs.declared.clock.Stamp.{Stamp}
@@ -16,7 +15,7 @@ use Rattle.proof_base.proofs.Ends.{by_last}
 use Rattle.proof_base.proofs.Ends.{flat_push}
 use Rattle.proof_base.proofs.Members.{only, has_none, has_last, filter_has, any_has}
 use Rattle.proof_base.proofs.Ordered.{pairs_push, pairs_front, pairs_last, pairs_cases}
-use Rattle.weave_entries.proofs.Replay.{flight-push, running-push, txs-push, programs-push, ended-push, by_entries}
+use Rattle.weave_entries.proofs.Replay.{flight-push, running-push, txs-push, programs-push, by_entries}
 
 -- two elements of which no pair has R either way are one
 one_place : {A : Type 0} (R : A → A → Type 0) (xs : List A) → AllPairs R xs → (x y : A) → Contains xs x → Contains xs y → (R x y → ⊥) → (R y x → ⊥) → x ≡ y

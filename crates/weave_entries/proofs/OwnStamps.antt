@@ -1,8 +1,7 @@
 -- The stamps of what was begun and sent are stamps that the gatekeeper made.
-use Rattle.std.proofs.Common.{◌≡◌, ℕ, List, [], ◌∷◌, ◌++◌, map, Contains, Option, None, Some, inl, inr, refl, sym, ap, subst, ◌∙◌}
-use Rattle.std.specs.List.{flat_map}
+use Rattle.std.proofs.Common.{◌≡◌, ℕ, List, [], ◌∷◌, ◌++◌, Contains, Some, inl, inr, refl, sym, subst}
 use Rattle.std.proofs.lemmas.List.Elements.{Contains-append_cases, Contains-append_left, Contains-append_right}
-use Rattle.proof_base.proofs.Members.{has_none, has_head, has_tail, only, filter_has, has_filter, map_has, flat_has, has_flat}
+use Rattle.proof_base.proofs.Members.{has_none, has_head, only, filter_has, map_has, flat_has, has_flat}
 use Rattle.vector_stamp.specs.declared.clock.Clock.{Clock}
 use Rattle.vector_stamp.specs.declared.clock.Stamp.{Stamp}
 use Rattle.graph_ops.specs.declared.op.Op.{Op}
@@ -13,7 +12,7 @@ use Rattle.weave_entries.specs.declared.verdict.Verdict.TheVariants.{Committed, 
 use Rattle.weave_entries.specs.declared.gate_log.GateEntry.{GateEntry}
 use Rattle.weave_entries.specs.declared.gate_log.GateDeed.{GateDeed}
 use Rattle.weave_entries.specs.declared.gate_log.GateDeed.TheVariants.{BeganTx, BeganProgram, Sent, Nop, Heard, Raised, Finished}
-use Rattle.weave_entries.specs.GateReplay.{Begun, nop_message, stamps_by, stamps_of, tx_by, program_by, begun_by, begun_in, txs_of, programs_of, flight_of, running_of, messages_by, to_shard, addressed_to, channel_of, sent_in, low_mark, clocks_by, clocks_in}
+use Rattle.weave_entries.specs.GateReplay.{Begun, stamps_by, stamps_of, tx_by, program_by, begun_by, begun_in, txs_of, programs_of, flight_of, running_of, messages_by, to_shard, addressed_to, channel_of, sent_in, low_mark, clocks_by, clocks_in}
 use Rattle.weave_entries.specs.GateRules.{FitsAs, IsGateLog}
 use Rattle.weave_entries.specs.Sending.{message_to, messages_of, shards_named}
 use Rattle.weave_entries.proofs.Once.{flight_begun, running_begun}

@@ -1,7 +1,6 @@
 -- A transaction has at most one message to a shard.
-use Rattle.std.proofs.Common.{◌≡◌, ℕ, zero, suc, ◌+◌, ◌<◌, ◌≤◌, Bool, nat_eq, List, [], ◌∷◌, map, filter, ◌⊎◌, inl, inr, refl, ap, ◌∙◌, arith}
-use Rattle.std.specs.List.{list_any, range_with_len}
-use Rattle.std.proofs.lemmas.Bool.{cases_Bool, eqb-true}
+use Rattle.std.proofs.Common.{◌≡◌, ℕ, ◌≤◌, nat_eq, List, [], ◌∷◌, map, inl, inr, refl, ap, ◌∙◌, arith}
+use Rattle.std.specs.List.{list_any}
 use Rattle.graph_ops.specs.declared.op.Op.{Op}
 use Rattle.weave_entries.specs.declared.message.Addressed.{Addressed}
 use Rattle.weave_entries.specs.declared.verdict.Counted.{Counted}

@@ -4,7 +4,7 @@ use Rattle.std.proofs.lemmas.List.{map-append}
 use Rattle.std.proofs.lemmas.List.Sums.{fold-append}
 use Rattle.weave_entries.specs.declared.message.Addressed.{Addressed}
 use Rattle.weave_entries.specs.declared.gate_log.GateEntry.{GateEntry}
-use Rattle.weave_entries.specs.GateReplay.{Begun, tx_by, program_by, txs_of, programs_of, begun_by, begun_in, ended_by, ended_in, sent_in, clocks_by, clocks_in, clock_after, clock_of, stamps_by, stamps_of, flight_after, flight_of, running_after, running_of, messages_by, to_shard, addressed_to, channel_of}
+use Rattle.weave_entries.specs.GateReplay.{tx_by, program_by, txs_of, programs_of, begun_by, begun_in, ended_by, ended_in, sent_in, clocks_by, clocks_in, clock_after, clock_of, stamps_by, stamps_of, flight_after, flight_of, running_after, running_of, messages_by, to_shard, addressed_to, channel_of}
 use Rattle.weave_entries.specs.GateRules.{FitsAs, IsGateLog}
 use Rattle.proof_base.proofs.Entries as entries
 use Rattle.proof_base.proofs.Ends.{flat_push}

@@ -1,6 +1,5 @@
 -- Which requests of a session have begun and have their replies, and their stamps.
-use Rattle.std.proofs.Common.{◌≡◌, ℕ, zero, suc, ◌+◌, ◌-◌, ◌<◌, ◌⊎◌, add-one, Bool, true, false, cond, List, [], ◌∷◌, ◌++◌, map, take, length, slice_get, Contains, IsTrue, Option, None, Some, inl, inr, refl, sym, ap, subst, ◌∙◌, arith}
-use Rattle.std.specs.Option.{ForSome}
+use Rattle.std.proofs.Common.{◌≡◌, ℕ, zero, suc, ◌+◌, ◌-◌, ◌<◌, ◌⊎◌, add-one, true, cond, List, [], ◌∷◌, ◌++◌, map, take, slice_get, Contains, IsTrue, Some, inl, inr, refl, sym, ap, subst, ◌∙◌, arith}
 use Rattle.std.proofs.lemmas.List.{append-nil, map-append}
 use Rattle.std.proofs.lemmas.List.Sums.{fold-append}
 use Rattle.std.proofs.lemmas.List.Elements.{Contains-append_cases}
@@ -13,7 +12,7 @@ use Rattle.vector_stamp.specs.Order.{stamp_before, StampsRise}
 use Rattle.weave_entries.specs.declared.session_log.SessionEntry.{SessionEntry}
 use Rattle.weave_entries.specs.declared.session_log.SessionDeed.{SessionDeed}
 use Rattle.weave_entries.specs.declared.session_log.SessionDeed.TheVariants.{Begun, Replied}
-use Rattle.weave_entries.specs.SessionReplay.{SessionState, session_start, session_after, session_of, with_begun, with_reply, begin_by, begins_in, reply_by, replied_in, replied_count, FitsSession, IsSessionLog}
+use Rattle.weave_entries.specs.SessionReplay.{SessionState, session_after, session_of, with_begun, with_reply, begin_by, begins_in, reply_by, replied_in, replied_count, FitsSession, IsSessionLog}
 
 -- one more of the first elements
 take_more : {A : Type 0} (xs : List A) (n : ℕ) (x : A) → slice_get xs n ≡ Some x → take (n + 1) xs ≡ take n xs ++ x ∷ []

@@ -1,5 +1,5 @@
 -- The rules that the log of a gatekeeper keeps (Weaver, PVLDB 9(11) 2016), each over the replay of the entries before an entry.
-use Rattle.std.specs.Prelude.{◌≡◌, ◌≢◌, ℕ, ◌<◌, List, [], ◌∷◌, map, length, AllPairs, Contains, IsTrue, Option, None, Some}
+use Rattle.std.specs.Prelude.{◌≡◌, ◌≢◌, ℕ, ◌<◌, List, map, length, AllPairs, Contains, IsTrue, Option, None, Some}
 use Rattle.std.specs.List.{list_any, range_with_len}
 use Rattle.std.specs.Option.{ForSome}
 use Rattle.graph_ops.specs.declared.op.Op.{Op}

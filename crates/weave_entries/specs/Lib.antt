@@ -8,3 +8,4 @@ pub mod StoreRule
 pub mod OracleReplay
 pub mod OracleRules
 pub mod ShardReplay
+pub mod ShardRules

@@ -2,7 +2,6 @@
 use Rattle.std.specs.Prelude.{◌≡◌, ℕ, Bool, ◌==◌, List, [], map, filter, Some}
 use Rattle.std.specs.List.{list_any, range_with_len}
 use Rattle.weave_data.specs.Names.{shard_of}
-use Rattle.weave_data.specs.declared.name.Name.{Name}
 use Rattle.graph_ops.specs.Mentions.{named_by}
 pub use Rattle.graph_ops.specs.VertexOps.{ops_on}
 use Rattle.graph_ops.specs.declared.op.Op.{Op}

@@ -14,7 +14,7 @@ use Rattle.weave_entries.specs.declared.store_log.StoreDeed.TheVariants.{Judged}
 
 -- What was judged
 
--- a transaction that was judged: who asked, its stamp and operations, the vertices of which the oracle was asked, and the verdict
+-- a transaction that was judged: who asked, its stamp and operations, the named vertices whose last stamp was unordered with it, and the verdict
 pub record Judgement : Type 0 where
   pub author : ℕ
   pub request : ℕ

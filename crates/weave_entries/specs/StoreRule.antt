@@ -1,5 +1,5 @@
 -- The rule by which the store judges a transaction, over the commits before it and the pairs of the oracle (validation by the stamp of the last update, Weaver, PVLDB 9(11) 2016).
-use Rattle.std.specs.Prelude.{ℕ, ◌+◌, List, [], ◌∷◌, map, filter, length, Option, None, Some, Ok, Err}
+use Rattle.std.specs.Prelude.{◌≡◌, ◌≢◌, ℕ, ◌+◌, List, [], map, filter, length, All, Option, None, Some, Ok, Err}
 use Rattle.std.specs.List.{find, filter_map}
 use Rattle.std.specs.Option.{option_map}
 use Rattle.weave_data.specs.declared.name.Name.{Name}
@@ -7,15 +7,19 @@ use Rattle.graph_ops.specs.declared.op.Op.{Op}
 use Rattle.graph_ops.specs.Mentions.{named_by}
 use Rattle.graph_ops.specs.PlainGraph.{TxOutcome, transaction}
 use Rattle.vector_stamp.specs.declared.clock.Stamp.{Stamp}
-use Rattle.vector_stamp.specs.Order.{stamp_before, unordered}
+use Rattle.vector_stamp.specs.Order.{id_of, stamp_before, unordered}
 use Rattle.vector_stamp.specs.Precedence.{Given, precedes}
 use Rattle.vector_stamp.specs.Settling.{additions_from, places_of, entries_of_call}
 use Rattle.weave_entries.specs.declared.verdict.Counted.{Counted}
 use Rattle.weave_entries.specs.declared.verdict.Verdict.{Verdict}
 use Rattle.weave_entries.specs.declared.verdict.Verdict.TheVariants.{Committed, Conflict, Refused}
 use Rattle.weave_entries.specs.declared.oracle_log.OracleEntry.{OracleEntry}
+use Rattle.weave_entries.specs.declared.store_log.StoreEntry.{StoreEntry}
+use Rattle.weave_entries.specs.declared.store_log.StoreDeed.{StoreDeed}
+use Rattle.weave_entries.specs.declared.store_log.StoreDeed.TheVariants.{Judged}
+use Rattle.weave_entries.specs.Logs.{AtEachEntry}
 use Rattle.weave_entries.specs.OracleReplay.{oracle_entry}
-use Rattle.weave_entries.specs.StoreReplay.{Commit, count_naming, last_naming, graph_committed}
+use Rattle.weave_entries.specs.StoreReplay.{Judgement, Commit, judgements_of, commits_of, count_naming, last_naming, graph_committed}
 
 -- a named vertex with the last commit that names it
 pub record LastCommit : Type 0 where
@@ -70,3 +74,24 @@ abbrev pub settled_if : Verdict → List OracleEntry → List OracleEntry
 settled_if (Committed number answers counts) entries = entries
 settled_if (Conflict vertex newer) entries = []
 settled_if (Refused op reason at) entries = []
+
+-- The log
+
+-- the stamps of the transactions that were judged
+abbrev pub stamps_judged : List StoreEntry → List Stamp
+stamps_judged log = map (λ (judged : Judgement). judged.stamp) (judgements_of log)
+
+-- a transaction is judged by the rule, by some pairs of a judge: its stamp is of no transaction that was judged before, and its entry names the vertices whose last stamp was unordered with it
+pub record IsJudged (before : List StoreEntry) (stamp : Stamp) (ops : List Op) (asked : List Name) (verdict : Verdict) : Type 0 where
+  pub new : All (λ (judged : Stamp). id_of judged ≢ id_of stamp) (stamps_judged before)
+  pub asked_are : asked ≡ asked_vertices stamp (lasts_of ops (commits_of before))
+  pub pairs : List Given
+  pub verdict_is : verdict ≡ verdict_on pairs (commits_of before) stamp ops
+
+-- a deed is right after these entries
+abbrev pub FitsStore : List StoreEntry → StoreDeed → Type 0
+FitsStore before (Judged request stamp ops asked verdict) = IsJudged before stamp ops asked verdict
+
+-- a log of the store: each entry is right after those before it
+abbrev pub IsStoreLog : List StoreEntry → Type 0
+IsStoreLog log = AtEachEntry (λ before entry. FitsStore before entry.deed) log

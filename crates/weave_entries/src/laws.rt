@@ -1,11 +1,13 @@
 //! What follows for each log that keeps the rules, as contracts over the logs alone.
-ghost use Rattle.std.specs.Prelude.{◌≡◌, ◌≢◌, ◌↔◌, ℕ, ◌<◌, ◌≤◌, List, [], ◌∷◌, ◌++◌, map, take, length, Contains, IsTrue, Option, Some};
+ghost use Rattle.std.specs.Prelude.{◌≡◌, ◌≢◌, ◌↔◌, ℕ, ◌+◌, ◌<◌, ◌≤◌, ◌==◌, true, cond, List, [], ◌∷◌, ◌++◌, map, take, length, Contains, IsTrue, Option, None, Some, is_some};
+ghost use Rattle.weave_data.specs.declared.name.Name.{Name};
 ghost use Rattle.graph_ops.specs.declared.op.Op.{Op};
+ghost use Rattle.graph_ops.specs.declared.tx.Got.{Got};
 ghost use Rattle.vector_stamp.specs.declared.clock.Clock.{Clock};
 ghost use Rattle.vector_stamp.specs.declared.clock.Stamp.{Stamp};
 ghost use Rattle.vector_stamp.specs.Order.{count_of, id_of, HasEightCounts, CountsNonePast, StampsRise, is_at_most, stamp_before, unordered};
 ghost use Rattle.vector_stamp.specs.Coherence.{AreCoherent};
-ghost use Rattle.vector_stamp.specs.Precedence.{Given, IsAcyclic};
+ghost use Rattle.vector_stamp.specs.Precedence.{Given, IsAcyclic, precedes};
 ghost use Rattle.vector_stamp.specs.Settling.{additions_from, pairs_of, SettledEntry};
 ghost use Rattle.weave_entries.specs.declared.message.Addressed.{Addressed};
 ghost use Rattle.weave_entries.specs.declared.message.Message.{Message};
@@ -18,11 +20,19 @@ ghost use Rattle.weave_entries.specs.OracleReplay.{oracle_entry, settled_entry, 
 ghost use Rattle.weave_entries.specs.OracleRules.{IsRightEntry, IsOracleLog};
 ghost use Rattle.weave_entries.specs.Sending.{IsCountsOf};
 ghost use Rattle.weave_entries.specs.SessionReplay.{session_of, replied_count, begins_in, replied_in, has_begun_in, has_reply_in, IsSessionLog};
-ghost use Rattle.weave_entries.specs.StoreReplay.{Commit};
-ghost use Rattle.weave_entries.specs.StoreRule.{verdict_on};
+ghost use Rattle.weave_entries.specs.declared.shard_log.ShardEntry.{ShardEntry};
+ghost use Rattle.weave_entries.specs.declared.shard_log.ShardDeed.TheVariants.{Arrived, Applied};
+ghost use Rattle.weave_entries.specs.declared.store_log.StoreEntry.{StoreEntry};
+ghost use Rattle.weave_entries.specs.declared.verdict.Counted.{Counted};
+ghost use Rattle.weave_entries.specs.declared.verdict.Verdict.TheVariants.{Committed, Conflict};
+ghost use Rattle.weave_entries.specs.ShardReplay.{arrival_by, arrivals_of, arrived_at, processed_by, processed_of, processed_count, updates_in, updates_of, visit_by, visits_of, dropped_after};
+ghost use Rattle.weave_entries.specs.ShardRules.{dropped_of, FitsShard, IsShardLog};
+ghost use Rattle.weave_entries.specs.StoreReplay.{Commit, judged_by, judgements_of, commit_by, commits_of, names_vertex, count_naming, last_naming, graph_with_commit, graph_committed};
+ghost use Rattle.weave_entries.specs.StoreRule.{LastCommit, lasts_of, counts_of, verdict_on, FitsStore, IsStoreLog};
 
 use vector_stamp::laws::{
-    clocks_keep_the_laws, no_cycle_arises, settling_puts_all_before, stamps_are_ordered,
+    clocks_keep_the_laws, no_cycle_arises, precedence_is_decided, settling_puts_all_before,
+    stamps_are_ordered,
 };
 
 // Gatekeepers
@@ -193,6 +203,102 @@ pub fn begun_and_replied_are_decided()
 pub fn verdicts_count_what_is_named()
     ensures { (pairs : List Given) (commits : List Commit) (stamp : Stamp) (ops : List Op)
         → IsCountsOf ops (verdict_on pairs commits stamp ops) }
+{}
+
+/// A store's log goes on with each entry that is right after those before it, and its beginnings are logs of the store too.
+pub fn a_store_log_goes_on()
+    ensures at_first { IsStoreLog [] }
+    ensures right { (log : List StoreEntry) (entry : StoreEntry)
+        → IsStoreLog log → FitsStore log entry.deed → IsStoreLog (log ++ entry ∷ []) }
+    ensures right_before { (log rest : List StoreEntry) → IsStoreLog (log ++ rest) → IsStoreLog log }
+{}
+
+/// With one more entry the replay of a store's log goes on by that entry's deed, and with one more commit the graph, and the last commit and the count at each vertex.
+pub fn the_store_replay_goes_on()
+    ensures judgements { (log : List StoreEntry) (entry : StoreEntry)
+        → judgements_of (log ++ entry ∷ []) ≡ judgements_of log ++ judged_by entry.author entry.deed ∷ [] }
+    ensures commits { (log : List StoreEntry) (entry : StoreEntry)
+        → commits_of (log ++ entry ∷ []) ≡ commits_of log ++ commit_by entry.deed }
+    ensures last { (v : Name) (commits : List Commit) (commit : Commit) → last_naming v (commits ++ commit ∷ [])
+        ≡ cond (names_vertex v commit) (Some commit) (last_naming v commits) }
+    ensures count { (v : Name) (commits : List Commit) (commit : Commit) → count_naming v (commits ++ commit ∷ [])
+        ≡ count_naming v commits + cond (names_vertex v commit) 1 0 }
+    ensures graph { (commits : List Commit) (commit : Commit)
+        → graph_committed (commits ++ commit ∷ []) ≡ graph_with_commit (graph_committed commits) commit }
+{}
+
+/// A commit has the next number and the counts of its operations. A conflict is with the last commit at a named vertex, which the transaction precedes.
+pub fn verdicts_say_what_was_judged()
+    ensures number { (pairs : List Given) (commits : List Commit) (stamp : Stamp) (ops : List Op)
+        → (number : ℕ) (answers : List Got) (counts : List Counted)
+        → verdict_on pairs commits stamp ops ≡ Committed number answers counts → number ≡ length commits + 1 }
+    ensures counts { (pairs : List Given) (commits : List Commit) (stamp : Stamp) (ops : List Op)
+        → (number : ℕ) (answers : List Got) (counts : List Counted)
+        → verdict_on pairs commits stamp ops ≡ Committed number answers counts → counts ≡ counts_of ops commits }
+    ensures conflict { (pairs : List Given) (commits : List Commit) (stamp : Stamp) (ops : List Op)
+        → (vertex : Name) (newer : ℕ) → verdict_on pairs commits stamp ops ≡ Conflict vertex newer
+        → (last : LastCommit) × (last.vertex ≡ vertex) × (last.commit.request ≡ newer)
+        × Contains (lasts_of ops commits) last × IsTrue (precedes pairs stamp last.commit.stamp) }
+{
+    precedence_is_decided();
+}
+
+// Shards
+
+/// A shard's log goes on with each entry that is right after those before it, and its beginnings are logs of the shard too.
+pub fn a_shard_log_goes_on()
+    ensures at_first { (gates : ℕ) → IsShardLog gates [] }
+    ensures right { (gates : ℕ) (log : List ShardEntry) (entry : ShardEntry)
+        → IsShardLog gates log → FitsShard gates log entry.deed → IsShardLog gates (log ++ entry ∷ []) }
+    ensures right_before { (gates : ℕ) (log rest : List ShardEntry)
+        → IsShardLog gates (log ++ rest) → IsShardLog gates log }
+{}
+
+/// With one more entry the replay of a shard's log goes on by that entry's deed.
+pub fn the_shard_replay_goes_on()
+    ensures arrivals { (log : List ShardEntry) (entry : ShardEntry)
+        → arrivals_of (log ++ entry ∷ []) ≡ arrivals_of log ++ arrival_by entry.deed }
+    ensures processed { (log : List ShardEntry) (entry : ShardEntry)
+        → processed_of (log ++ entry ∷ []) ≡ processed_of log ++ processed_by entry.deed }
+    ensures visits { (log : List ShardEntry) (entry : ShardEntry)
+        → visits_of (log ++ entry ∷ []) ≡ visits_of log ++ visit_by entry.author entry.deed }
+    ensures dropped { (v : Name) (log : List ShardEntry) (entry : ShardEntry)
+        → dropped_of v (log ++ entry ∷ []) ≡ dropped_after v log entry.deed (dropped_of v log) }
+{}
+
+/// A message that arrived stays under its number. It is there once it arrives, and no other deed and no other message changes that.
+pub fn arrivals_stay()
+    ensures stay { (log : List ShardEntry) (entry : ShardEntry) (gate number : ℕ) (message : Message)
+        → arrived_at gate number log ≡ Some message → arrived_at gate number (log ++ entry ∷ []) ≡ Some message }
+    ensures new { (log : List ShardEntry) (author gate number : ℕ) (message : Message)
+        → arrived_at gate number log ≡ None
+        → arrived_at gate number (log ++ record { author = author; deed = Arrived gate number message } ∷ [])
+        ≡ Some message }
+    ensures others { (log : List ShardEntry) (author gate number : ℕ) (message : Message) (at_gate at_number : ℕ)
+        → ((gate ≡ at_gate) × (number ≡ at_number) → ⊥)
+        → arrived_at at_gate at_number (log ++ record { author = author; deed = Arrived gate number message } ∷ [])
+        ≡ arrived_at at_gate at_number log }
+    ensures still { (log : List ShardEntry) (entry : ShardEntry) → arrival_by entry.deed ≡ []
+        → (gate number : ℕ) → arrived_at gate number (log ++ entry ∷ []) ≡ arrived_at gate number log }
+{}
+
+/// Each message that was processed had arrived. Processing one makes its channel's processed number one more, and its parts the last updates of their vertices. No other deed changes either.
+pub fn updates_go_on()
+    ensures arrived { (gates : ℕ) (log : List ShardEntry) → IsShardLog gates log
+        → (of : ℕ × ℕ) → Contains (processed_of log) of → is_some (arrived_at of.0 of.1 log) ≡ true }
+    ensures few { (gate : ℕ) (log : List ShardEntry) → processed_count gate log ≤ length log }
+    ensures count { (log : List ShardEntry) (author gate number at_gate : ℕ)
+        → processed_count at_gate (log ++ record { author = author; deed = Applied gate number } ∷ [])
+        ≡ processed_count at_gate log + cond (gate == at_gate) 1 0 }
+    ensures count_still { (log : List ShardEntry) (entry : ShardEntry) → processed_by entry.deed ≡ []
+        → (gate : ℕ) → processed_count gate (log ++ entry ∷ []) ≡ processed_count gate log }
+    ensures applied { (gates : ℕ) (log : List ShardEntry) (author gate number : ℕ) (head : Message) (v : Name)
+        → IsShardLog gates log → arrived_at gate number log ≡ Some head
+        → updates_of v (log ++ record { author = author; deed = Applied gate number } ∷ [])
+        ≡ updates_of v log ++ updates_in v head }
+    ensures still { (gates : ℕ) (log : List ShardEntry) (entry : ShardEntry) (v : Name)
+        → IsShardLog gates log → processed_by entry.deed ≡ []
+        → updates_of v (log ++ entry ∷ []) ≡ updates_of v log }
 {}
 
 // The oracle

@@ -5,7 +5,7 @@ use Rattle.vector_stamp.specs.Order.{id_of}
 use Rattle.vector_stamp.specs.Precedence.{precedes}
 use Rattle.vector_stamp.specs.Seeing.{is_seen}
 use Rattle.std.specs.Prelude.{not}
-use Rattle.version_chain.proofs.LookBack.{newest_stamp-in, older-front, one_coherent, learns_on, passed_over, read_is, view_is, seen_on, pairs_seen, log_seen, pairs_skipped, log_skipped, skipped_on}
+use Rattle.version_chain.proofs.LookBack.{newest_stamp-in, none_unordered, older-front, one_coherent, learns_on, passed_over, read_is, view_is, seen_on, pairs_seen, log_seen, pairs_skipped, log_skipped, skipped_on}
 use Rattle.version_chain.proofs.view.look_back.Goals as goal
 
 pub look-requires-clause-other_id : goal.look-requires-clause-other_id
@@ -48,4 +48,11 @@ loop-newest-preserved g c = record {
   log = λ keeps. log_skipped c.args.author c.in_ok-seen.field-0 c.in-Some.newest.now.stamp c.args.program (g.J.Judge.pairs c.loop-newest.judge) _ _ _ c.in_default-2.is (c.loop-newest.invariant.log keeps) (c.in_ok-seen.ensures.logged keeps);
   known = learns_on c.args.versions.now c.loop-newest.rest.now c.in-Some.older.now c.in-Some.newest.now c.loop-newest.invariant.front c.in-Some.ensures.cases.0 c.args.program _ _ _ c.loop-newest.invariant.known c.look.ensures.known;
   stays = λ stamp has. c.look.ensures.stay_known stamp (c.loop-newest.invariant.stays stamp has);
+  not_asked = λ none. c.look.ensures.not_asked (none_unordered c.args.versions.now c.loop-newest.rest.now c.in-Some.older.now c.in-Some.newest.now c.loop-newest.invariant.front c.in-Some.ensures.cases.0 c.args.program none) ∙ c.loop-newest.invariant.not_asked none;
 }
+
+pub returns-in_err-seen-clause-not_asked : goal.returns-in_err-seen-clause-not_asked
+returns-in_err-seen-clause-not_asked g c = λ none. c.look.ensures.not_asked (none_unordered c.args.versions.now c.loop-newest.rest.now c.in-Some.older.now c.in-Some.newest.now c.loop-newest.invariant.front c.in-Some.ensures.cases.0 c.args.program none) ∙ c.loop-newest.invariant.not_asked none
+
+pub returns-in-Some-2-clause-not_asked : goal.returns-in-Some-2-clause-not_asked
+returns-in-Some-2-clause-not_asked g c = λ none. c.look.ensures.not_asked (none_unordered c.args.versions.now c.loop-newest.rest.now c.in-Some.older.now c.in-Some.newest.now c.loop-newest.invariant.front c.in-Some.ensures.cases.0 c.args.program none) ∙ c.loop-newest.invariant.not_asked none

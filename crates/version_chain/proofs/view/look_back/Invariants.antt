@@ -1,6 +1,7 @@
-use Rattle.std.proofs.Common.{◌≡◌, ◌∷◌, length, IsTrue}
+use Rattle.std.proofs.Common.{◌≡◌, ◌∷◌, false, length, IsTrue}
 use Rattle.vector_stamp.specs.Seeing.{seen_of}
 use Rattle.version_chain.specs.Chains.{stamps_of}
+use Rattle.version_chain.specs.Views.{has_unordered}
 use Rattle.version_chain.specs.Looks.{IsFront, LearnsOnly, ForgetsNone}
 use Rattle.version_chain.proofs.view.look_back.Given as goal
 
@@ -12,6 +13,7 @@ invariant-loop-newest g l = record {
   log : IsTrue g.J.Judge.keeps_log → g.J.Judge.log_of l.judge ≡ g.J.Judge.log_of l.fn.judge;
   known : LearnsOnly (l.program ∷ stamps_of l.versions) (g.J.Judge.known l.fn.judge) (g.J.Judge.known l.judge);
   stays : ForgetsNone (g.J.Judge.known l.fn.judge) (g.J.Judge.known l.judge);
+  not_asked : has_unordered l.program (stamps_of l.versions) ≡ false → l.judge ≡ l.fn.judge;
 }
 
 abbrev pub decreases-loop-newest : goal.decreases-loop-newest

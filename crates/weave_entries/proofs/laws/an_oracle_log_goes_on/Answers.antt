@@ -1,4 +1,4 @@
-use Rattle.std.proofs.Common.{[], ◌∷◌, ap, ◌++◌, ◌∙◌}
+use Rattle.std.proofs.Common.{[]}
 use Rattle.proof_base.proofs.Ends.{flat_push}
 use Rattle.weave_entries.specs.declared.oracle_log.OracleEntry.{OracleEntry}
 use Rattle.weave_entries.specs.OracleReplay.{settled_entry, pairs_of_entry}

@@ -1,4 +1,4 @@
-use Rattle.std.proofs.Common.{◌≡◌, ℕ, ◌==◌, Contains, List, IsTrue, refl, subst, map}
+use Rattle.std.proofs.Common.{ℕ, ◌==◌, Contains, List, IsTrue, refl, subst, map}
 use Rattle.std.specs.List.{list_any}
 use Rattle.std.proofs.lemmas.Bool.{eqb-true, eq-eqb}
 use Rattle.proof_base.proofs.Members.{any_from, any_has, has_map, map_has}

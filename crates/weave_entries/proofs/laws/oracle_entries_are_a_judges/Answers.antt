@@ -1,5 +1,4 @@
 use Rattle.std.proofs.Common.{◌≡◌, ℕ, refl}
-use Rattle.weave_entries.specs.declared.oracle_log.OracleEntry.{OracleEntry}
 use Rattle.weave_entries.specs.declared.oracle_log.OracleDeed.{OracleDeed}
 use Rattle.weave_entries.specs.declared.oracle_log.OracleDeed.TheVariants.{Settled}
 use Rattle.weave_entries.specs.OracleReplay.{oracle_entry, settled_by}

@@ -5,7 +5,8 @@ use Rattle.weave_entries.specs.declared.message.Message.{Message}
 use Rattle.weave_entries.specs.declared.shard_log.ShardEntry.{ShardEntry}
 use Rattle.weave_entries.specs.declared.shard_log.ShardDeed.TheVariants.{Applied}
 use Rattle.weave_entries.specs.ShardReplay.{processed_count, head_of, waits_at}
-use Rattle.shard_node.specs.Shards.{ShardView, Adds, IsNext, PassesAt}
+use Rattle.weave_entries.specs.ShardRules.{PassesAt}
+use Rattle.shard_node.specs.Shards.{ShardView, AddsEntry, IsNext}
 use Rattle.shard_node.specs.Keeping.{first_differing}
 use Rattle.shard_node.proofs.Keeping.{keeps_applied}
 use Rattle.shard_node.proofs.Ready.{at_gate, inbox-head, number-is, processed-few, waits-is, next-updates}
@@ -83,7 +84,7 @@ returns-clause-entry c =
     let log_is : log ≡ c.args.self.now.log = ap (λ (v : ShardView). v.log) c.self.view_is in
     let number : c.next-number.result ≡ processed_count c.args.gate log + 1 = c.next-number.ensures ∙ ap (λ n. n + 1) (number-is _ _ _ _ c.self.invariant c.args.gate inbox at) in
     let next : ShardView = record { number = c.self.inside.number; gates = c.self.inside.gates; log = c.push_reserved.new.self.items } in
-    subst (λ (v : ShardView). Adds v next c.args.author (Applied c.args.gate (processed_count c.args.gate v.log + 1))) c.self.view_is
+    subst (λ (v : ShardView). AddsEntry v next c.args.author (Applied c.args.gate (processed_count c.args.gate v.log + 1))) c.self.view_is
     (record {
       log = c.push_reserved.ensures.items ∙ (λ i. c.reserve.ensures.items i ++ record { author = c.args.author; deed = Applied c.args.gate (number i) } ∷ []);
       number = refl;

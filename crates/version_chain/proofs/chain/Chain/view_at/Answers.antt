@@ -3,7 +3,7 @@ use Rattle.std.specs.Prelude.{IfOk}
 use Rattle.vector_stamp.specs.declared.clock.Stamp.{Stamp}
 use Rattle.version_chain.specs.declared.version.Version.{Version}
 use Rattle.version_chain.specs.Chains.{ChainView, stamps_of}
-use Rattle.version_chain.specs.Views.{view_of}
+use Rattle.version_chain.specs.Views.{has_unordered, view_of}
 use Rattle.version_chain.proofs.LookBack.{base_seen}
 use Rattle.version_chain.proofs.chain.Chain.view_at.Goals as goal
 
@@ -19,3 +19,7 @@ pub returns-clause-known : goal.returns-clause-known
 returns-clause-known g c = λ event has.
     subst (λ (versions : List Version). Contains (g.J.Judge.known c.args.judge.now) event ⊎ Contains (c.args.stamp ∷ stamps_of versions) event)
     (c.as_slice.ensures.value ∙ ap (λ (chain : ChainView). chain.kept) c.self.view_is) (c.look_back.ensures.known event has)
+
+pub returns-clause-not_asked : goal.returns-clause-not_asked
+returns-clause-not_asked g c = λ none.
+    c.look_back.ensures.not_asked (ap (λ (versions : List Version). has_unordered c.args.stamp (stamps_of versions)) (c.as_slice.ensures.value ∙ ap (λ (chain : ChainView). chain.kept) c.self.view_is) ∙ none)

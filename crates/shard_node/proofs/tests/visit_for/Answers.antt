@@ -7,7 +7,7 @@ use Rattle.version_chain.specs.TestJudge.{ends}
 use Rattle.shard_node.specs.Shards.{ShardView}
 use Rattle.shard_node.specs.TestWords.{arrived_stamps}
 use Rattle.shard_node.proofs.Stamps.{all_others, are_coherent_too}
-use Rattle.shard_node.proofs.tests.visit.Goals as goal
+use Rattle.shard_node.proofs.tests.visit_for.Goals as goal
 
 pub visit-requires-clause-other_ids : goal.visit-requires-clause-other_ids
 visit-requires-clause-other_ids g c =

@@ -1,0 +1,79 @@
+-- The replay of a store's log with one more entry, and what a verdict says.
+use Rattle.std.proofs.Common.{◌≡◌, ℕ, ◌+◌, Bool, true, false, cond, List, [], ◌∷◌, ◌++◌, length, filter, Contains, IsTrue, Option, None, Some, Ok, Err, refl, sym, ap, ◌∙◌}
+use Rattle.std.specs.List.{find}
+use Rattle.std.proofs.lemmas.List.{length-append, map-append, reverse-append}
+use Rattle.std.proofs.lemmas.List.Elements.{filter-append}
+use Rattle.std.proofs.lemmas.List.Sums.{fold-append}
+use Rattle.proof_base.proofs.Ends.{flat_push}
+use Rattle.proof_base.proofs.Members.{find_has, filter_has}
+use Rattle.weave_data.specs.declared.name.Name.{Name}
+use Rattle.graph_ops.specs.declared.op.Op.{Op}
+use Rattle.graph_ops.specs.declared.tx.Got.{Got}
+use Rattle.graph_ops.specs.PlainGraph.{TxOutcome, transaction}
+use Rattle.vector_stamp.specs.declared.clock.Stamp.{Stamp}
+use Rattle.vector_stamp.specs.Order.{stamp_before, unordered}
+use Rattle.vector_stamp.specs.Precedence.{Given, precedes}
+use Rattle.weave_entries.specs.declared.store_log.StoreEntry.{StoreEntry}
+use Rattle.weave_entries.specs.declared.verdict.Counted.{Counted}
+use Rattle.weave_entries.specs.declared.verdict.Verdict.TheVariants.{Committed, Conflict}
+use Rattle.weave_entries.specs.StoreReplay.{Commit, judged_by, judgements_of, commit_by, commits_of, names_vertex, count_naming, last_naming, graph_committed, graph_with_commit}
+use Rattle.weave_entries.specs.StoreRule.{LastCommit, lasts_of, asked_of, counts_of, conflict_or, verdict_by, verdict_on}
+
+-- One more entry, and one more commit
+
+pub judgements-push : (log : List StoreEntry) (entry : StoreEntry) → judgements_of (log ++ entry ∷ []) ≡ judgements_of log ++ judged_by entry.author entry.deed ∷ []
+judgements-push log entry = map-append (λ (one : StoreEntry). judged_by one.author one.deed) log (entry ∷ [])
+
+pub commits-push : (log : List StoreEntry) (entry : StoreEntry) → commits_of (log ++ entry ∷ []) ≡ commits_of log ++ commit_by entry.deed
+commits-push log entry = flat_push (λ (one : StoreEntry). commit_by one.deed) log entry
+
+pub last-push : (v : Name) (commits : List Commit) (commit : Commit) → last_naming v (commits ++ commit ∷ []) ≡ cond (names_vertex v commit) (Some commit) (last_naming v commits)
+last-push v commits commit = ap (find (names_vertex v)) (reverse-append commits (commit ∷ []))
+
+one_or_none : (b : Bool) (commit : Commit) → length (cond b (commit ∷ []) []) ≡ cond b 1 0
+one_or_none true commit = refl
+one_or_none false commit = refl
+
+pub count-push : (v : Name) (commits : List Commit) (commit : Commit) → count_naming v (commits ++ commit ∷ []) ≡ count_naming v commits + cond (names_vertex v commit) 1 0
+count-push v commits commit =
+    ap length (filter-append (names_vertex v) commits (commit ∷ []))
+    ∙ length-append (filter (names_vertex v) commits) (filter (names_vertex v) (commit ∷ []))
+    ∙ ap (λ n. count_naming v commits + n) (one_or_none (names_vertex v commit) commit)
+
+pub graph-push : (commits : List Commit) (commit : Commit) → graph_committed (commits ++ commit ∷ []) ≡ graph_with_commit (graph_committed commits) commit
+graph-push commits commit = fold-append _ _ commits (commit ∷ [])
+
+-- What a verdict says
+
+-- a commit is the verdict of operations that pass
+commits_if : (ops : List Op) (commits : List Commit) (first second : Option LastCommit) (outcome : TxOutcome) (number : ℕ) (answers : List Got) (counts : List Counted) → conflict_or first (conflict_or second (verdict_by ops commits outcome)) ≡ Committed number answers counts → (number ≡ length commits + 1) × (counts ≡ counts_of ops commits)
+commits_if ops commits (Some last) second outcome number answers counts is = absurd cc
+commits_if ops commits None (Some last) outcome number answers counts is = absurd cc
+commits_if ops commits None None (Ok passed) number answers counts is = let a : length commits + 1 ≡ number = cc in let b : counts_of ops commits ≡ counts = cc in (sym a, sym b)
+commits_if ops commits None None (Err stopped) number answers counts is = absurd cc
+
+pub commits-if : (pairs : List Given) (commits : List Commit) (stamp : Stamp) (ops : List Op) (number : ℕ) (answers : List Got) (counts : List Counted) → verdict_on pairs commits stamp ops ≡ Committed number answers counts → (number ≡ length commits + 1) × (counts ≡ counts_of ops commits)
+commits-if pairs commits stamp ops number answers counts is =
+    commits_if ops commits
+    (find (λ (last : LastCommit). stamp_before stamp last.commit.stamp) (lasts_of ops commits))
+    (find (λ (last : LastCommit). precedes pairs stamp last.commit.stamp) (asked_of stamp (lasts_of ops commits)))
+    (transaction ops (graph_committed commits)) number answers counts is
+
+-- a conflict is with one of the last commits that are looked at
+newer_if : (P : LastCommit → Type 0) (ops : List Op) (commits : List Commit) (first second : Option LastCommit) (outcome : TxOutcome) → ((last : LastCommit) → first ≡ Some last → P last) → ((last : LastCommit) → second ≡ Some last → P last) → (vertex : Name) (newer : ℕ) → conflict_or first (conflict_or second (verdict_by ops commits outcome)) ≡ Conflict vertex newer → (last : LastCommit) × (last.vertex ≡ vertex) × (last.commit.request ≡ newer) × P last
+newer_if P ops commits (Some last) second outcome of_first of_second vertex newer is = let a : last.vertex ≡ vertex = cc in let b : last.commit.request ≡ newer = cc in (last, a, b, of_first last refl)
+newer_if P ops commits None (Some last) outcome of_first of_second vertex newer is = let a : last.vertex ≡ vertex = cc in let b : last.commit.request ≡ newer = cc in (last, a, b, of_second last refl)
+newer_if P ops commits None None (Ok passed) of_first of_second vertex newer is = absurd cc
+newer_if P ops commits None None (Err stopped) of_first of_second vertex newer is = absurd cc
+
+-- which the new transaction precedes
+pub conflict-if : (pairs : List Given) (commits : List Commit) (stamp : Stamp) (ops : List Op) → ((a b : Stamp) → IsTrue (stamp_before a b) → IsTrue (precedes pairs a b)) → (vertex : Name) (newer : ℕ) → verdict_on pairs commits stamp ops ≡ Conflict vertex newer → (last : LastCommit) × (last.vertex ≡ vertex) × (last.commit.request ≡ newer) × Contains (lasts_of ops commits) last × IsTrue (precedes pairs stamp last.commit.stamp)
+conflict-if pairs commits stamp ops ordered vertex newer is =
+    let found = newer_if (λ (last : LastCommit). Contains (lasts_of ops commits) last × IsTrue (precedes pairs stamp last.commit.stamp)) ops commits
+    (find (λ (last : LastCommit). stamp_before stamp last.commit.stamp) (lasts_of ops commits))
+    (find (λ (last : LastCommit). precedes pairs stamp last.commit.stamp) (asked_of stamp (lasts_of ops commits)))
+    (transaction ops (graph_committed commits))
+    (λ last found. let has = find_has (λ (one : LastCommit). stamp_before stamp one.commit.stamp) (lasts_of ops commits) last found in (has.0, ordered stamp last.commit.stamp has.1))
+    (λ last found. let has = find_has (λ (one : LastCommit). precedes pairs stamp one.commit.stamp) (asked_of stamp (lasts_of ops commits)) last found in ((filter_has (λ (one : LastCommit). unordered one.commit.stamp stamp) (lasts_of ops commits) last has.0).0, has.1))
+    vertex newer is in
+    (found.0, found.1, found.2, found.3.0, found.3.1)
