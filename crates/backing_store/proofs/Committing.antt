@@ -1,6 +1,6 @@
 -- What a commit knows before it asks the judge.
-use Rattle.std.proofs.Common.{◌≡◌, ◌≢◌, ℕ, ◌+◌, ◌<◌, ◌≤◌, ◌^◌, Bool, true, false, not, cond, ◌&&◌, ◌||◌, List, [], ◌∷◌, ◌++◌, length, map, filter, Contains, All, IsSome, Option, None, Some, ◌⊎◌, inl, inr, refl, sym, ap, subst, ◌∙◌, arith}
-use Rattle.std.specs.List.{flat_map, list_any, find}
+use Rattle.std.proofs.Common.{◌≡◌, ◌≢◌, ℕ, ◌<◌, ◌≤◌, ◌^◌, Bool, true, false, not, cond, ◌&&◌, ◌||◌, List, [], ◌∷◌, ◌++◌, length, map, filter, Contains, All, IsSome, Option, None, Some, ◌⊎◌, inl, inr, refl, sym, ap, subst, ◌∙◌, arith}
+use Rattle.std.specs.List.{list_any, find}
 use Rattle.std.proofs.lemmas.List.Elements.{All-map, All-nil}
 use Rattle.std.proofs.lemmas.List.{length-append, length-map}
 use Rattle.weave_data.specs.declared.name.Name.{Name}
@@ -18,15 +18,16 @@ use Rattle.weave_entries.specs.declared.store_log.StoreDeed.TheVariants.{Judged}
 use Rattle.weave_entries.specs.declared.verdict.Counted.{Counted}
 use Rattle.weave_entries.specs.declared.verdict.Verdict.{Verdict}
 use Rattle.weave_entries.specs.declared.verdict.Verdict.TheVariants.{Committed, Conflict, Refused}
+use Rattle.graph_ops.specs.declared.tx.Got.{Got}
 use Rattle.weave_entries.specs.StoreReplay.{Commit, commit_by, commits_of, names_vertex, count_naming}
-use Rattle.weave_entries.specs.StoreRule.{LastCommit, lasts_of, asked_of, asked_stamps, asked_vertices, counts_of, conflict_or, verdict_on}
+use Rattle.weave_entries.specs.StoreRule.{LastCommit, lasts_of, asked_stamps, asked_vertices, conflict_or, verdict_on}
 use Rattle.backing_store.specs.declared.lasts.KeptCommit.{KeptCommit}
 use Rattle.backing_store.specs.declared.asked.Asked.{Asked}
 use Rattle.backing_store.specs.Commits.{stamps_judged, stamps_kept, is_judge_asked}
 use Rattle.backing_store.specs.Keeping.{first_newer, held_of, unordered_of, IsAsked, IsReplayOf}
 use Rattle.backing_store.specs.Trying.{counts_in, IsBefore}
-use Rattle.backing_store.proofs.Members.{filter_le, all_members, named_le, asked_le, asked_others, asked_among}
-use Rattle.backing_store.proofs.Replay.{counts_given}
+use Rattle.backing_store.proofs.Members.{filter_le, all_members, asked_le, asked_others, asked_among}
+use Rattle.backing_store.proofs.Replay.{by_rule, counts_given}
 use Rattle.backing_store.proofs.Rule.{newer_or, newer_is, vertices_asked, stamps_asked}
 
 -- Numbers
@@ -40,6 +41,13 @@ one_at_most (Judged request stamp ops asked (Refused op reason at)) = omega arit
 pub commits_le : (log : List StoreEntry) → length (commits_of log) ≤ length log
 commits_le [] = omega arith
 commits_le (entry ∷ log) = omega (arith, length-append (commit_by entry.deed) (commits_of log), one_at_most entry.deed, commits_le log)
+
+-- and each count is at most the number of commits
+pub counts_le : (pairs : List Given) (commits : List Commit) (stamp : Stamp) (ops : List Op) (number : ℕ) (answers : List Got) (counts : List Counted) → verdict_on pairs commits stamp ops ≡ Committed number answers counts → All (λ (counted : Counted). counted.before ≤ length commits) counts
+counts_le pairs commits stamp ops number answers counts is =
+    subst (All (λ (one : Counted). one.before ≤ length commits)) (sym (by_rule pairs commits stamp ops number answers counts (sym is)))
+    (All-map (λ (one : Counted). one.before ≤ length commits) (λ (v : Name). record { vertex = v; before = count_naming v commits }) (named_by ops)
+    (all_members (λ (v : Name). count_naming v commits ≤ length commits) (named_by ops) (λ v h. filter_le (names_vertex v) commits)))
 
 module _ (pairs : List Given) (log : List StoreEntry) (stamp : Stamp) (ops : List Op) (verdict : Verdict) (is : verdict ≡ verdict_on pairs (commits_of log) stamp ops) where
   -- no more are counted than named

@@ -1,5 +1,5 @@
 -- What is decided of a transaction is what the rule says.
-use Rattle.std.proofs.Common.{◌≡◌, ℕ, ◌<◌, zero, suc, List, [], ◌∷◌, ◌++◌, length, map, Option, None, Some, Result, Ok, Err, IfOk, OnErr, refl, sym, ap, ◌∙◌, subst, arith}
+use Rattle.std.proofs.Common.{◌≡◌, ℕ, ◌<◌, zero, suc, List, [], ◌∷◌, length, map, Option, None, Some, Result, Ok, Err, IfOk, refl, sym, ap, ◌∙◌, subst, arith}
 use Rattle.std.specs.Prelude.{position, slice_get, slice_index_or, slice_index}
 use Rattle.std.specs.List.{find}
 use Rattle.weave_data.specs.declared.name.Name.{Name}
@@ -17,7 +17,7 @@ use Rattle.weave_entries.specs.StoreReplay.{Commit, graph_committed}
 use Rattle.weave_entries.specs.StoreRule.{LastCommit, lasts_of, asked_of, counts_of, conflict_or, verdict_by, verdict_on}
 use Rattle.backing_store.specs.declared.lasts.KeptCommit.{KeptCommit}
 use Rattle.backing_store.specs.declared.asked.Asked.{Asked}
-use Rattle.backing_store.specs.Keeping.{first_newer, count_held, held_of, unordered_of, IsAsked, KeepsLasts}
+use Rattle.backing_store.specs.Keeping.{first_newer, count_held, held_of, unordered_of, IsAsked}
 use Rattle.backing_store.specs.Trying.{verdict_of_ops, verdict_asked, IsBefore}
 use Rattle.backing_store.proofs.Firsts.{found_at, found_none, found_within, position_map}
 use Rattle.backing_store.proofs.Rule.{newer_or, newer_is, vertices_asked, stamps_asked, newer_asked, counts_are}

@@ -1,3 +1,4 @@
+pub mod Afters
 pub mod Committing
 pub mod Firsts
 pub mod Judging

@@ -1,6 +1,6 @@
 -- What is asked is among what the store keeps, and among what it judged.
-use Rattle.std.proofs.Common.{◌≡◌, ◌≢◌, ℕ, suc, ◌≤◌, Bool, true, false, cond, not, List, [], ◌∷◌, ◌++◌, length, map, filter, reverse, Contains, All, IsTrue, Option, None, Some, ◌⊎◌, inl, inr, refl, sym, ap, subst, ◌∙◌, arith}
-use Rattle.std.specs.List.{filter_map, flat_map, find, cons_option, list_any}
+use Rattle.std.proofs.Common.{◌≡◌, ◌≢◌, ℕ, suc, ◌≤◌, Bool, not, List, [], ◌∷◌, ◌++◌, length, map, filter, reverse, Contains, All, Option, None, Some, ◌⊎◌, inl, inr, refl, sym, ap, subst, ◌∙◌, arith}
+use Rattle.std.specs.List.{filter_map, flat_map, cons_option}
 use Rattle.std.specs.Option.{option_map}
 use Rattle.std.proofs.lemmas.Bool.{cases_Bool}
 use Rattle.std.proofs.lemmas.List.{reverse-append, length-map}
@@ -16,9 +16,8 @@ use Rattle.graph_ops.specs.Mentions.{named_by, first_mentions}
 use Rattle.weave_entries.specs.declared.store_log.StoreEntry.{StoreEntry}
 use Rattle.weave_entries.specs.declared.store_log.StoreDeed.{StoreDeed}
 use Rattle.weave_entries.specs.declared.store_log.StoreDeed.TheVariants.{Judged}
-use Rattle.weave_entries.specs.declared.verdict.Verdict.{Verdict}
 use Rattle.weave_entries.specs.declared.verdict.Verdict.TheVariants.{Committed, Conflict, Refused}
-use Rattle.weave_entries.specs.StoreReplay.{Judgement, Commit, judged_by, judgements_of, commit_if, commit_by, commits_of, names_vertex, last_naming}
+use Rattle.weave_entries.specs.StoreReplay.{Judgement, Commit, judged_by, judgements_of, commit_by, commits_of, names_vertex, last_naming}
 use Rattle.weave_entries.specs.StoreRule.{LastCommit, lasts_of, asked_of, asked_stamps}
 use Rattle.backing_store.specs.Commits.{stamps_judged, stamps_kept}
 

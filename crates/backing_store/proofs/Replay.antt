@@ -1,7 +1,7 @@
 -- What the store keeps, after one more entry.
-use Rattle.std.proofs.Common.{◌≡◌, ℕ, ◌+◌, ◌<◌, ◌≤◌, zero, suc, Bool, true, false, cond, ◌||◌, List, [], ◌∷◌, ◌++◌, length, map, filter, reverse, fold, get_or, Option, None, Some, Ok, Err, ◌⊎◌, inl, inr, refl, sym, ap, ◌∙◌, subst, arith}
-use Rattle.std.specs.Prelude.{position, slice_get, nat_eq, nat_lt}
-use Rattle.std.specs.List.{find, position_or_len, list_any, flat_map}
+use Rattle.std.proofs.Common.{◌≡◌, ◌≢◌, ℕ, ◌+◌, ◌<◌, All, zero, suc, Bool, true, false, cond, ◌||◌, List, [], ◌∷◌, ◌++◌, length, map, filter, get_or, Option, None, Some, Ok, Err, ◌⊎◌, inl, inr, refl, sym, ap, ◌∙◌, subst, arith}
+use Rattle.std.specs.Prelude.{position, slice_get, nat_eq}
+use Rattle.std.specs.List.{find}
 use Rattle.std.specs.Map.{lookup}
 use Rattle.std.specs.Option.{option_map, option_or}
 use Rattle.std.proofs.lemmas.Bool.{cases_Bool}
@@ -9,24 +9,25 @@ use Rattle.std.proofs.lemmas.List.{length-map, length-append, append-nil, map-ap
 use Rattle.std.proofs.lemmas.List.Sums.{fold-append}
 use Rattle.std.proofs.lemmas.List.Elements.{filter-append}
 use Rattle.proof_base.proofs.Ends.{flat_push}
+use Rattle.proof_base.proofs.Entries.{each_push}
 use Rattle.weave_data.specs.Names.{same_name, one_name}
 use Rattle.weave_data.specs.declared.name.Name.{Name}
 use Rattle.vector_stamp.specs.declared.clock.Stamp.{Stamp}
-use Rattle.vector_stamp.specs.Order.{stamp_before}
+use Rattle.vector_stamp.specs.Order.{id_of, stamp_before}
 use Rattle.vector_stamp.specs.Precedence.{Given, precedes}
 use Rattle.graph_ops.specs.declared.op.Op.{Op}
 use Rattle.graph_ops.specs.Mentions.{named_by, is_among}
 use Rattle.graph_ops.specs.declared.tx.Got.{Got}
-use Rattle.graph_ops.specs.PlainGraph.{PlainGraph, TxOutcome, transaction, graph_left}
+use Rattle.graph_ops.specs.PlainGraph.{PlainGraph, TxOutcome, transaction}
 use Rattle.weave_entries.specs.declared.store_log.StoreEntry.{StoreEntry}
 use Rattle.weave_entries.specs.declared.store_log.StoreDeed.TheVariants.{Judged}
 use Rattle.weave_entries.specs.declared.verdict.Counted.{Counted}
 use Rattle.weave_entries.specs.declared.verdict.Verdict.{Verdict}
 use Rattle.weave_entries.specs.declared.verdict.Verdict.TheVariants.{Committed, Conflict, Refused}
-use Rattle.weave_entries.specs.StoreReplay.{Judgement, Commit, judged_by, judgements_of, judgement_of, commit_if, commit_by, commits_of, names_vertex, count_naming, last_naming, graph_committed, graph_with_commit}
-use Rattle.weave_entries.specs.StoreRule.{LastCommit, counts_of, conflict_or, verdict_by, verdict_on, lasts_of, asked_of}
+use Rattle.weave_entries.specs.StoreReplay.{Judgement, Commit, judged_by, judgements_of, judgement_of, commit_if, commit_by, commits_of, names_vertex, count_naming, last_naming, graph_committed}
+use Rattle.weave_entries.specs.StoreRule.{LastCommit, counts_of, conflict_or, verdict_by, verdict_on, lasts_of, asked_of, asked_vertices, stamps_judged, FitsStore}
 use Rattle.backing_store.specs.declared.lasts.KeptCommit.{KeptCommit}
-use Rattle.backing_store.specs.Keeping.{kept_of, kept_at, held_at, held_after, KeepsLasts, FindsEntries, IsReplayOf}
+use Rattle.backing_store.specs.Keeping.{kept_commit, kept_at, held_at, held_after, KeepsLasts, FindsEntries, IsReplayOf}
 use Rattle.backing_store.specs.Trying.{counts_in, commits_in, graph_after}
 use Rattle.backing_store.proofs.Firsts.{found_at, found_none, found_within, find_push, position_push}
 
@@ -38,18 +39,17 @@ get_map f (x ∷ xs) zero d below = refl
 get_map f (x ∷ xs) (suc i) d below = get_map f xs i d (omega arith)
 
 module _ (request : ℕ) (places : List (ℕ × ℕ)) (log : List StoreEntry) (finds : FindsEntries places log) where
-  pub none_judged : lookup (nat_eq request) places ≡ None → None ≡ option_map (λ (judged : Judgement). judged.verdict) (judgement_of request log)
-  none_judged none = ap (option_map (λ (judged : Judgement). judged.verdict)) (sym (found_none _ (judgements_of log) (sym (finds request) ∙ none)))
+  pub none_judged : lookup (nat_eq request) places ≡ None → None ≡ judgement_of request log
+  none_judged none = sym (found_none _ (judgements_of log) (sym (finds request) ∙ none))
 
   -- the place is within the log
   pub place_within : (place : ℕ) → lookup (nat_eq request) places ≡ Some place → place < length log
   place_within place there = let below = found_within _ (judgements_of log) place (sym (finds request) ∙ there) in omega (arith, length-map log (λ (entry : StoreEntry). judged_by entry.author entry.deed))
 
-  pub judged_there : (place : ℕ) (entry : StoreEntry) → lookup (nat_eq request) places ≡ Some place → entry ≡ get_or log place entry → Some (judged_by entry.author entry.deed).verdict ≡ option_map (λ (judged : Judgement). judged.verdict) (judgement_of request log)
+  pub judged_there : (place : ℕ) (entry : StoreEntry) → lookup (nat_eq request) places ≡ Some place → entry ≡ get_or log place entry → Some (judged_by entry.author entry.deed) ≡ judgement_of request log
   judged_there place entry there is =
-      ap (λ (one : StoreEntry). Some (judged_by one.author one.deed).verdict) is
-      ∙ ap (option_map (λ (judged : Judgement). judged.verdict))
-      (sym (found_at _ (judgements_of log) place (sym (finds request) ∙ there) ∙ get_map (λ (one : StoreEntry). judged_by one.author one.deed) log place entry (place_within place there)))
+      ap (λ (one : StoreEntry). Some (judged_by one.author one.deed)) is
+      ∙ sym (found_at _ (judgements_of log) place (sym (finds request) ∙ there) ∙ get_map (λ (one : StoreEntry). judged_by one.author one.deed) log place entry (place_within place there))
 
 -- with one more entry
 places_more : (places noted : List (ℕ × ℕ)) (log : List StoreEntry) (entry : StoreEntry) → FindsEntries places log → ((one : ℕ) → lookup (nat_eq one) noted ≡ option_or (lookup (nat_eq one) places) (cond (nat_eq (judged_by entry.author entry.deed).request one) (Some (length log)) None)) → FindsEntries noted (log ++ entry ∷ [])
@@ -77,15 +77,15 @@ module _ (commits : List Commit) (commit : Commit) (v : Name) where
       one true = refl
       one false = refl
 
-  kept_push : kept_at (commits ++ commit ∷ []) v ≡ cond (names_vertex v commit) (Some (kept_of (count_naming v commits + 1) commit)) (kept_at commits v)
+  kept_push : kept_at (commits ++ commit ∷ []) v ≡ cond (names_vertex v commit) (Some (kept_commit (count_naming v commits + 1) commit)) (kept_at commits v)
   kept_push =
-      ap (λ (n : ℕ). option_map (kept_of n) (last_naming v (commits ++ commit ∷ []))) count_push
-      ∙ ap (option_map (kept_of (count_naming v commits + cond (names_vertex v commit) 1 0))) last_push
+      ap (λ (n : ℕ). option_map (kept_commit n) (last_naming v (commits ++ commit ∷ []))) count_push
+      ∙ ap (option_map (kept_commit (count_naming v commits + cond (names_vertex v commit) 1 0))) last_push
       ∙ by (names_vertex v commit)
     where
-      by : (b : Bool) → option_map (kept_of (count_naming v commits + cond b 1 0)) (cond b (Some commit) (last_naming v commits)) ≡ cond b (Some (kept_of (count_naming v commits + 1) commit)) (kept_at commits v)
+      by : (b : Bool) → option_map (kept_commit (count_naming v commits + cond b 1 0)) (cond b (Some commit) (last_naming v commits)) ≡ cond b (Some (kept_commit (count_naming v commits + 1) commit)) (kept_at commits v)
       by true = refl
-      by false = ap (λ (n : ℕ). option_map (kept_of n) (last_naming v commits)) (omega arith)
+      by false = ap (λ (n : ℕ). option_map (kept_commit n) (last_naming v commits)) (omega arith)
 
 -- a table after the counts of a transaction
 module _ (commits : List Commit) (request : ℕ) (stamp : Stamp) (v : Name) where
@@ -115,7 +115,8 @@ committed_counts ops commits None None (Ok passed) number answers counts is = cc
 committed_counts ops commits None None (Err stopped) number answers counts is = absurd (cc)
 
 module _ (pairs : List Given) (commits : List Commit) (stamp : Stamp) (ops : List Op) where
-  by_rule : (number : ℕ) (answers : List Got) (counts : List Counted) → Committed number answers counts ≡ verdict_on pairs commits stamp ops → counts ≡ counts_of ops commits
+  -- a commit counts the named vertices
+  pub by_rule : (number : ℕ) (answers : List Got) (counts : List Counted) → Committed number answers counts ≡ verdict_on pairs commits stamp ops → counts ≡ counts_of ops commits
   by_rule number answers counts is =
       committed_counts ops commits
       (find (λ (last : LastCommit). stamp_before stamp last.commit.stamp) (lasts_of ops commits))
@@ -160,10 +161,13 @@ module _ (graph : PlainGraph) (lasts : List (Name × KeptCommit)) (made : ℕ) (
         lasts_are = λ v. held v ∙ kept.lasts_are v;
         made_is = kept.made_is;
         places_are = λ one. looked one ∙ kept.places_are one;
+        right = kept.right;
       })
 
   -- one more entry
   pub replay_more : (pairs : List Given) (author request : ℕ) (stamp : Stamp) (ops : List Op) (asked : List Name) (verdict : Verdict) (now : PlainGraph) (noted : List (Name × KeptCommit)) (number : ℕ) (placed : List (ℕ × ℕ)) (longer : List StoreEntry)
+      → All (λ (judged : Stamp). id_of judged ≢ id_of stamp) (stamps_judged log)
+      → asked ≡ asked_vertices stamp (lasts_of ops (commits_of log))
       → verdict ≡ verdict_on pairs (commits_of log) stamp ops
       → now ≡ graph_after verdict graph ops
       → ((v : Name) → held_at noted v ≡ held_after request stamp (counts_in verdict) v (held_at lasts v))
@@ -171,7 +175,7 @@ module _ (graph : PlainGraph) (lasts : List (Name × KeptCommit)) (made : ℕ) (
       → ((one : ℕ) → lookup (nat_eq one) placed ≡ option_or (lookup (nat_eq one) places) (cond (nat_eq request one) (Some (length log)) None))
       → longer ≡ log ++ record { author = author; deed = Judged request stamp ops asked verdict } ∷ []
       → IsReplayOf now noted number placed longer
-  replay_more pairs author request stamp ops asked verdict now noted number placed longer verdict_is now_is notes number_is places_noted longer_is =
+  replay_more pairs author request stamp ops asked verdict now noted number placed longer new asked_are verdict_is now_is notes number_is places_noted longer_is =
       let entry : StoreEntry = record { author = author; deed = Judged request stamp ops asked verdict } in
       let commit : Commit = record { request = request; stamp = stamp; ops = ops } in
       let more : commits_of (log ++ entry ∷ []) ≡ commits_of log ++ commit_if verdict commit = flat_push (λ (e : StoreEntry). commit_by e.deed) log entry in
@@ -180,4 +184,5 @@ module _ (graph : PlainGraph) (lasts : List (Name × KeptCommit)) (made : ℕ) (
         lasts_are = subst (KeepsLasts noted) (sym more) (lasts_after pairs (commits_of log) stamp ops lasts noted request verdict verdict_is kept.lasts_are notes);
         made_is = number_is ∙ ap (λ (n : ℕ). n + commits_in verdict) kept.made_is ∙ made_after (commits_of log) verdict commit ∙ ap length (sym more);
         places_are = places_more places placed log entry kept.places_are places_noted;
+        right = each_push (λ before (one : StoreEntry). FitsStore before one.deed) log entry kept.right (record { new = new; asked_are = asked_are; pairs = pairs; verdict_is = verdict_is });
       })

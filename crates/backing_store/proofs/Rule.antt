@@ -1,6 +1,5 @@
 -- What the store looks up in its table is what the rule looks up in the commits.
-use Rattle.std.proofs.Common.{◌≡◌, ℕ, Bool, true, false, cond, List, [], ◌∷◌, ◌++◌, map, filter, length, Option, None, Some, inl, inr, refl, sym, ap, ◌∙◌}
-use Rattle.std.specs.Prelude.{position, slice_get}
+use Rattle.std.proofs.Common.{◌≡◌, ℕ, Bool, List, [], ◌∷◌, map, length, Option, None, Some, inl, inr, refl, sym, ap, ◌∙◌}
 use Rattle.std.specs.List.{find, cons_option, filter_map}
 use Rattle.std.specs.Option.{option_map, option_map_or, option_or}
 use Rattle.std.proofs.lemmas.Bool.{cases_Bool}
@@ -11,14 +10,13 @@ use Rattle.vector_stamp.specs.declared.clock.Stamp.{Stamp}
 use Rattle.vector_stamp.specs.Order.{stamp_before, unordered}
 use Rattle.graph_ops.specs.declared.op.Op.{Op}
 use Rattle.graph_ops.specs.Mentions.{named_by}
-use Rattle.weave_entries.specs.declared.verdict.Counted.{Counted}
 use Rattle.weave_entries.specs.declared.verdict.Verdict.{Verdict}
 use Rattle.weave_entries.specs.declared.verdict.Verdict.TheVariants.{Conflict}
 use Rattle.weave_entries.specs.StoreReplay.{Commit, names_vertex, count_naming, last_naming}
 use Rattle.weave_entries.specs.StoreRule.{LastCommit, lasts_of, asked_of, asked_stamps, asked_vertices, counts_of, conflict_or}
 use Rattle.backing_store.specs.declared.lasts.KeptCommit.{KeptCommit}
 use Rattle.backing_store.specs.declared.asked.Asked.{Asked}
-use Rattle.backing_store.specs.Keeping.{kept_of, kept_at, held_at, held_of, unordered_of, newer_if, first_newer, count_held, KeepsLasts, IsAsked}
+use Rattle.backing_store.specs.Keeping.{kept_commit, held_at, held_of, unordered_of, newer_if, first_newer, count_held, KeepsLasts, IsAsked}
 use Rattle.backing_store.proofs.Firsts.{none_from_end}
 
 -- the last commit at a vertex
@@ -40,7 +38,7 @@ module _ (table : List (Name × KeptCommit)) (commits : List Commit) (keeps : Ke
     is_newer : LastCommit → Bool
     is_newer last = stamp_before stamp last.commit.stamp
 
-    newer_more : (v : Name) (found : Option Commit) (held : Option KeptCommit) (n : ℕ) → held ≡ option_map (kept_of n) found → (more : List LastCommit) (newer : Option (Name × ℕ)) → conflict_or (find (λ (last : LastCommit). stamp_before stamp last.commit.stamp) more) rest ≡ newer_or newer rest → conflict_or (find (λ (last : LastCommit). stamp_before stamp last.commit.stamp) (cons_option (option_map (λ (commit : Commit). record { vertex = v; commit = commit }) found) more)) rest ≡ newer_or (option_or (newer_if stamp v held) newer) rest
+    newer_more : (v : Name) (found : Option Commit) (held : Option KeptCommit) (n : ℕ) → held ≡ option_map (kept_commit n) found → (more : List LastCommit) (newer : Option (Name × ℕ)) → conflict_or (find (λ (last : LastCommit). stamp_before stamp last.commit.stamp) more) rest ≡ newer_or newer rest → conflict_or (find (λ (last : LastCommit). stamp_before stamp last.commit.stamp) (cons_option (option_map (λ (commit : Commit). record { vertex = v; commit = commit }) found) more)) rest ≡ newer_or (option_or (newer_if stamp v held) newer) rest
     newer_more v None held n is more newer so_far = rw is so_far
     newer_more v (Some commit) held n is more newer so_far =
         rw is (elim (cases_Bool (stamp_before stamp commit.stamp)) [
@@ -56,11 +54,11 @@ module _ (table : List (Name × KeptCommit)) (commits : List Commit) (keeps : Ke
 
   -- a last commit as the table has it
   abbrev as_held : LastCommit → Name × KeptCommit
-  as_held last = (last.vertex, kept_of (count_naming last.vertex commits) last.commit)
+  as_held last = (last.vertex, kept_commit (count_naming last.vertex commits) last.commit)
 
-  held_more : (v : Name) (found : Option Commit) (held : Option KeptCommit) → held ≡ option_map (kept_of (count_naming v commits)) found → (more : List LastCommit) (rest : List (Name × KeptCommit)) → rest ≡ map as_held more → cons_option (option_map (λ (last : KeptCommit). (v, last)) held) rest ≡ map as_held (cons_option (option_map (λ (commit : Commit). record { vertex = v; commit = commit }) found) more)
+  held_more : (v : Name) (found : Option Commit) (held : Option KeptCommit) → held ≡ option_map (kept_commit (count_naming v commits)) found → (more : List LastCommit) (rest : List (Name × KeptCommit)) → rest ≡ map as_held more → cons_option (option_map (λ (last : KeptCommit). (v, last)) held) rest ≡ map as_held (cons_option (option_map (λ (commit : Commit). record { vertex = v; commit = commit }) found) more)
   held_more v None held is more rest so_far = rw is so_far
-  held_more v (Some commit) held is more rest so_far = rw is (ap (λ (ones : List (Name × KeptCommit)). (v, kept_of (count_naming v commits) commit) ∷ ones) so_far)
+  held_more v (Some commit) held is more rest so_far = rw is (ap (λ (ones : List (Name × KeptCommit)). (v, kept_commit (count_naming v commits) commit) ∷ ones) so_far)
 
   pub held_is : (names : List Name) → held_of table names ≡ map as_held (lasts_among commits names)
   held_is [] = refl
@@ -81,7 +79,7 @@ module _ (table : List (Name × KeptCommit)) (commits : List Commit) (keeps : Ke
 
   -- The counts
 
-  count_from : (v : Name) (found : Option Commit) (held : Option KeptCommit) (n : ℕ) → held ≡ option_map (kept_of n) found → (found ≡ None → n ≡ 0) → option_map_or (λ (last : KeptCommit). last.commits) held 0 ≡ n
+  count_from : (v : Name) (found : Option Commit) (held : Option KeptCommit) (n : ℕ) → held ≡ option_map (kept_commit n) found → (found ≡ None → n ≡ 0) → option_map_or (λ (last : KeptCommit). last.commits) held 0 ≡ n
   count_from v None held n is none = rw is (sym (none refl))
   count_from v (Some commit) held n is none = rw is refl
 

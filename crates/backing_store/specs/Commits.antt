@@ -1,5 +1,5 @@
 -- What the store promises of a commit, over any judge.
-use Rattle.std.specs.Prelude.{ℕ, Bool, true, false, not, ◌&&◌, List, [], ◌∷◌, map}
+use Rattle.std.specs.Prelude.{ℕ, Bool, not, ◌&&◌, List, [], map}
 use Rattle.std.specs.List.{flat_map, list_any}
 use Rattle.vector_stamp.specs.declared.clock.Stamp.{Stamp}
 use Rattle.vector_stamp.specs.Order.{stamp_before, unordered}
@@ -10,12 +10,9 @@ use Rattle.weave_entries.specs.declared.store_log.StoreEntry.{StoreEntry}
 use Rattle.weave_entries.specs.declared.store_log.StoreDeed.TheVariants.{Judged}
 use Rattle.weave_entries.specs.declared.verdict.Verdict.{Verdict}
 use Rattle.weave_entries.specs.declared.verdict.Verdict.TheVariants.{Committed, Conflict, Refused}
-use Rattle.weave_entries.specs.StoreReplay.{Judgement, Commit, judgements_of, commits_of}
-use Rattle.weave_entries.specs.StoreRule.{LastCommit, lasts_of, asked_of, asked_stamps, asked_vertices, verdict_on}
-
--- the stamps of the transactions that were judged
-abbrev pub stamps_judged : List StoreEntry → List Stamp
-stamps_judged log = map (λ (judged : Judgement). judged.stamp) (judgements_of log)
+use Rattle.weave_entries.specs.StoreReplay.{Commit, commits_of}
+pub use Rattle.weave_entries.specs.StoreRule.{stamps_judged}
+use Rattle.weave_entries.specs.StoreRule.{LastCommit, lasts_of, asked_stamps, asked_vertices, verdict_on}
 
 -- the stamps that the store keeps: those of the last commits, one for each vertex that a commit names
 abbrev pub stamps_kept : List Commit → List Stamp

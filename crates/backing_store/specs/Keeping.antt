@@ -1,5 +1,5 @@
 -- What the store keeps beside its log, and that it is what the log's replay gives. For proofs: no public contract cites it.
-use Rattle.std.specs.Prelude.{◌≡◌, ℕ, ◌+◌, Bool, cond, List, [], ◌∷◌, map, filter, fold, length, Option, Some, None, position, nat_eq}
+use Rattle.std.specs.Prelude.{◌≡◌, ℕ, ◌+◌, cond, List, [], ◌∷◌, map, filter, fold, length, Option, Some, None, position, nat_eq}
 use Rattle.std.specs.List.{filter_map}
 use Rattle.std.specs.Option.{option_map, option_map_or, option_or}
 use Rattle.std.specs.Map.{lookup}
@@ -11,18 +11,19 @@ use Rattle.graph_ops.specs.PlainGraph.{PlainGraph}
 use Rattle.weave_entries.specs.declared.store_log.StoreEntry.{StoreEntry}
 use Rattle.weave_entries.specs.declared.verdict.Counted.{Counted}
 use Rattle.weave_entries.specs.StoreReplay.{Judgement, Commit, judgements_of, commits_of, count_naming, last_naming, graph_committed}
+use Rattle.weave_entries.specs.StoreRule.{IsStoreLog}
 use Rattle.backing_store.specs.declared.lasts.KeptCommit.{KeptCommit}
 use Rattle.backing_store.specs.declared.asked.Asked.{Asked}
 
 -- The last commits
 
 -- what is kept of the last commit that names a vertex, with the number of those that do
-abbrev pub kept_of : ℕ → Commit → KeptCommit
-kept_of count commit = record { request = commit.request; stamp = commit.stamp; commits = count }
+abbrev pub kept_commit : ℕ → Commit → KeptCommit
+kept_commit count commit = record { request = commit.request; stamp = commit.stamp; commits = count }
 
 -- what is kept at a vertex, where a commit names it
 abbrev pub kept_at : List Commit → Name → Option KeptCommit
-kept_at commits v = option_map (kept_of (count_naming v commits)) (last_naming v commits)
+kept_at commits v = option_map (kept_commit (count_naming v commits)) (last_naming v commits)
 
 -- what a table has at a vertex
 abbrev pub held_at : List (Name × KeptCommit) → Name → Option KeptCommit
@@ -80,3 +81,4 @@ pub record IsReplayOf (graph : PlainGraph) (lasts : List (Name × KeptCommit)) (
   pub lasts_are : KeepsLasts lasts (commits_of log)
   pub made_is : made ≡ length (commits_of log)
   pub places_are : FindsEntries places log
+  pub right : IsStoreLog log

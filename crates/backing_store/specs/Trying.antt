@@ -1,12 +1,10 @@
 -- What is decided of a transaction before it is noted. For proofs: no public contract cites it.
-use Rattle.std.specs.Prelude.{◌≡◌, ℕ, ◌+◌, List, [], ◌∷◌, Option, Some, None, Ok, Err, slice_index_or, slice_index, length}
+use Rattle.std.specs.Prelude.{◌≡◌, ℕ, ◌+◌, List, [], Option, Some, None, Ok, Err, slice_index_or, slice_index, length}
 use Rattle.weave_data.specs.declared.name.Name.{Name}
 use Rattle.graph_ops.specs.declared.op.Op.{Op}
 use Rattle.graph_ops.specs.PlainGraph.{PlainGraph, TxOutcome, transaction, graph_left}
 use Rattle.graph_ops.specs.Graphs.{plain_of}
 use Rattle.vector_stamp.specs.declared.clock.Stamp.{Stamp}
-use Rattle.vector_stamp.specs.Precedence.{Given}
-use Rattle.vector_stamp.specs.Settling.{refused_place}
 use Rattle.weave_entries.specs.declared.verdict.Counted.{Counted}
 use Rattle.weave_entries.specs.declared.verdict.Verdict.{Verdict}
 use Rattle.weave_entries.specs.declared.verdict.Verdict.TheVariants.{Committed, Conflict, Refused}

@@ -13,7 +13,7 @@ use weave_entries::Counted;
 
 /// The last commit that names a vertex.
 #[derive(Clone, Copy)]
-pub struct KeptCommit {
+pub(crate) struct KeptCommit {
     pub request: u32,
     pub stamp: Stamp,
     /// How many commits name the vertex.

@@ -11,5 +11,4 @@ pub mod laws;
 mod store;
 mod trying;
 
-pub use lasts::KeptCommit;
 pub use store::Store;

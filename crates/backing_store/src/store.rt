@@ -7,11 +7,13 @@ ghost use Rattle.vector_stamp.specs.declared.clock.Stamp.{Stamp};
 ghost use Rattle.vector_stamp.specs.Order.{id_of};
 ghost use Rattle.vector_stamp.specs.Coherence.{AreCoherent};
 ghost use Rattle.weave_data.specs.declared.name.Name.{Name};
+ghost use Rattle.weave_entries.specs.declared.store_log.StoreEntry.{StoreEntry};
 ghost use Rattle.weave_entries.specs.declared.verdict.Counted.{Counted};
 ghost use Rattle.backing_store.specs.Commits.{stamps_judged, stamps_kept, asked_at, is_judge_asked, verdict_at, judged_entry, pairs_added, entries_added};
 ghost use Rattle.backing_store.specs.Keeping.{held_at, held_after};
 ghost use Rattle.backing_store.specs.Trying.{counts_in, commits_in};
 ghost use Rattle.weave_entries.specs.StoreReplay.{Judgement, judged_by, commits_of, judgement_of, graph_committed};
+ghost use Rattle.weave_entries.specs.StoreRule.{IsStoreLog};
 
 use crate::asked::asked_at;
 use crate::deciding::{Decided, judge_tx};
@@ -74,7 +76,7 @@ impl Store {
     /// Otherwise the first operation that is refused refuses the transaction, or it commits.
     /// The judge keeps the pairs of a commit alone.
     ///
-    /// It costs its own operations and look-ups, and what the judge takes.
+    /// It costs its own operations and look-ups, a compare of each named vertex with those named before it, and what the judge takes.
     /// After out of memory store and judge are as before.
     pub fn commit<J: Judge>(
         &mut self,
@@ -151,25 +153,39 @@ impl Store {
 
     /// How many commits were made.
     pub fn commits(&self) -> u64
-        ensures { result ≡ length (commits_of self.now) }
+        ensures count { result ≡ length (commits_of self.now) }
+        ensures small { result < 2 ^ 63 }
     {
         self.made
     }
 
-    /// The verdict of a request, or `None` where it has none. It takes no memory.
-    pub fn verdict_of(&self, request: u32) -> Option<&Verdict>
-        ensures { option_copied result
-            ≡ option_map (λ (judged : Judgement). judged.verdict) (judgement_of request self.now) }
+    /// What was judged of a request, or `None`. It takes no memory.
+    pub fn judged(&self, request: u32) -> Option<&StoreEntry>
+        ensures { option_map (λ (entry : StoreEntry). judged_by entry.author entry.deed) (option_copied result)
+            ≡ judgement_of request self.now }
     {
         let Some(place) = self.places.get(&request) else {
             return None;
         };
-        Some(verdict_in(&self.log[*place]))
+        Some(&self.log[*place])
+    }
+
+    /// The verdict of a request, or `None` if it has none. It takes no memory.
+    pub fn verdict_of(&self, request: u32) -> Option<&Verdict>
+        ensures { option_copied result
+            ≡ option_map (λ (judged : Judgement). judged.verdict) (judgement_of request self.now) }
+    {
+        let Some(entry) = self.judged(request) else {
+            return None;
+        };
+        Some(verdict_in(entry))
     }
 
     /// What was judged, in order.
     pub fn log(&self) -> &[StoreEntry]
-        ensures { result.now ≡ self.now }
+        ensures log { result.now ≡ self.now }
+        ensures small { length self.now < 2 ^ 63 }
+        ensures right { IsStoreLog self.now }
     {
         self.log.as_slice()
     }

@@ -1,4 +1,4 @@
-//! Calls under the conditions that the store and the oracle ask for, and what their answers are compared with.
+//! A call under the conditions that the store and the oracle ask for.
 ghost use Rattle.std.specs.Prelude.{◌≡◌, ◌≢◌, All, IsTrue};
 ghost use Rattle.vector_stamp.specs.declared.clock.Stamp.{Stamp};
 ghost use Rattle.vector_stamp.specs.Order.{id_of};
@@ -8,22 +8,24 @@ ghost use Rattle.store_rows.specs.Covers.{Covers};
 
 use backing_store::Store;
 use backing_store::laws::what_is_asked_is_kept;
-use graph_ops::{Got, Op, Reason};
+use graph_ops::Op;
 use std::alloc::{AllocError, Global};
 use std::process::Abort;
 use vector_stamp::laws::parts_and_unions_are_coherent;
 use vector_stamp::{Clock, EventId, Judge, Stamp, are_coherent};
 use weave_data::Name;
-use weave_entries::{Counted, OracleDeed, OracleEntry, StoreDeed, StoreEntry, Verdict};
+use weave_entries::{StoreDeed, StoreEntry, Verdict};
 
 /// A stamp of epoch 0 of three gatekeepers.
 pub fn stamp(home: u32, first: u64, second: u64, third: u64) -> Stamp {
+    stamp_in(0, home, [first, second, third, 0, 0, 0, 0, 0])
+}
+
+/// A stamp of any epoch and home.
+pub fn stamp_in(epoch: u64, home: u32, counts: [u64; 8]) -> Stamp {
     Stamp {
         home,
-        clock: Clock {
-            epoch: 0,
-            counts: [first, second, third, 0, 0, 0, 0, 0],
-        },
+        clock: Clock { epoch, counts },
     }
 }
 
@@ -86,108 +88,4 @@ pub fn try_commit<J: Judge>(
         panic!(rt; "too many operations");
     }
     store.commit(alloc, 0, request, stamp, ops, judge)
-}
-
-/// The same where there is memory.
-pub fn commit<J: Judge>(
-    rt: &impl Abort,
-    alloc: Global,
-    store: &mut Store,
-    judge: &mut J,
-    stamps: &mut Vec<Stamp>,
-    request: u32,
-    stamp: Stamp,
-    ops: &[Op],
-) -> Verdict
-    requires { Covers stamps.old.items store.old (J.known judge.old) }
-    ensures { Covers stamps.new.items store.new (J.known judge.new) }
-{
-    try_commit(rt, alloc, store, judge, stamps, request, stamp, ops).expect(rt, "memory")
-}
-
-/// It is the commit of this number, with these counts, and these of its `get`s read records with that many properties, or none.
-pub fn is_committed(
-    verdict: &Verdict,
-    number: u64,
-    counts: &[(Name, u64)],
-    got: &[(u32, Option<usize>)],
-) -> bool {
-    match verdict {
-        Verdict::Committed {
-            number: made,
-            answers,
-            counts: counted,
-        } => {
-            *made == number
-                && are_counts(counted.as_slice(), counts)
-                && are_got(answers.as_slice(), got)
-        }
-        Verdict::Conflict { .. } | Verdict::Refused { .. } => false,
-    }
-}
-
-fn are_counts(counted: &[Counted], counts: &[(Name, u64)]) -> bool {
-    counted.len() == counts.len()
-        && counted.iter().zip(counts).all(|(one, other)| one.vertex == other.0
-            && one.before == other.1)
-}
-
-fn are_got(answers: &[Got], got: &[(u32, Option<usize>)]) -> bool {
-    answers.len() == got.len()
-        && answers.iter().zip(got).all(|(one, other)| one.op == other.0 && props_of(one) == other.1)
-}
-
-fn props_of(got: &Got) -> Option<usize> {
-    let Some(record) = &got.state else {
-        return None;
-    };
-    Some(record.props.len())
-}
-
-/// How many properties the vertex has now, or `None` where it is absent.
-pub fn props_at(store: &Store, v: Name) -> Option<usize> {
-    let Some(record) = store.state(v) else {
-        return None;
-    };
-    Some(record.props.len())
-}
-
-pub fn is_conflict(verdict: &Verdict, at: Name, with: u32) -> bool {
-    match verdict {
-        Verdict::Conflict { vertex, newer } => *vertex == at && *newer == with,
-        Verdict::Committed { .. } | Verdict::Refused { .. } => false,
-    }
-}
-
-pub fn is_refused(verdict: &Verdict, number: u32, cause: Reason, commits: u64) -> bool {
-    match verdict {
-        Verdict::Refused { op, reason, at } => *op == number && *reason == cause && *at == commits,
-        Verdict::Committed { .. } | Verdict::Conflict { .. } => false,
-    }
-}
-
-/// The last entry of the store is of this request, and asked of these vertices.
-pub fn is_last_judged(log: &[StoreEntry], number: u32, of: &[Name]) -> bool {
-    let Some(entry) = log.last() else {
-        return false;
-    };
-    let StoreDeed::Judged { request, asked, .. } = &entry.deed;
-    *request == number && asked.as_slice() == of
-}
-
-/// The oracle's log is the entry of one call, which put these events before this one, and added pairs at these places.
-pub fn is_one_settled(log: &[OracleEntry], before: &[Stamp], after: &Stamp, at: &[u32]) -> bool {
-    let Some((entry, others)) = log.split_first() else {
-        return false;
-    };
-    let OracleDeed::Settled {
-        earlier,
-        later,
-        places,
-    } = &entry.deed;
-    others.is_empty()
-        && entry.author == 0
-        && earlier.as_slice() == before
-        && later == after
-        && places.as_slice() == at
 }

@@ -8,4 +8,8 @@ mod fixed_judge;
 #[cfg(test)]
 mod judged;
 #[cfg(test)]
+mod row;
+#[cfg(test)]
 mod rows;
+#[cfg(test)]
+mod verdicts;

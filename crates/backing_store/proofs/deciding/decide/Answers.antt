@@ -1,4 +1,4 @@
-use Rattle.std.proofs.Common.{◌≡◌, ◌∷◌, ◌⊎◌, sym, subst, Contains, List}
+use Rattle.std.proofs.Common.{◌∷◌, ◌⊎◌, subst, Contains, List}
 use Rattle.vector_stamp.specs.declared.clock.Stamp.{Stamp}
 use Rattle.backing_store.proofs.deciding.decide.Goals as goal
 

@@ -1,4 +1,4 @@
-use Rattle.std.proofs.Common.{◌≡◌, sym, ◌∙◌, ap, rules}
+use Rattle.std.proofs.Common.{◌≡◌, sym, ◌∙◌, rules}
 use Rattle.weave_entries.specs.declared.verdict.Verdict.TheVariants.{Conflict}
 use Rattle.backing_store.proofs.Judging.{if_ok, stale_is, decided_is}
 use Rattle.backing_store.proofs.deciding.judge_tx.Goals as goal

@@ -1,6 +1,5 @@
 use Rattle.std.proofs.Common.{◌≡◌, map, take}
 use Rattle.weave_data.specs.declared.name.Name.{Name}
-use Rattle.weave_entries.specs.declared.verdict.Counted.{Counted}
 use Rattle.backing_store.specs.Keeping.{count_held}
 use Rattle.backing_store.proofs.lasts.counts_at.Given as goal
 

@@ -1,4 +1,3 @@
-use Rattle.std.proofs.Common.{◌≡◌, sym}
 use Rattle.backing_store.proofs.trying.try_ops.Goals as goal
 
 pub returns-in-Ok-clause-trial : goal.returns-in-Ok-clause-trial

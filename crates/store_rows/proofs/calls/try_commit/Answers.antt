@@ -1,6 +1,4 @@
-use Rattle.std.proofs.Common.{◌≡◌, ◌∷◌, ◌++◌, [], List, ◌∙◌}
-use Rattle.vector_stamp.specs.declared.clock.Stamp.{Stamp}
-use Rattle.store_rows.specs.Covers.{Covers}
+use Rattle.std.proofs.Common.{◌∙◌}
 use Rattle.store_rows.proofs.Covered.{has_all, store_after, judge_after}
 use Rattle.store_rows.proofs.calls.try_commit.Goals as goal
 

@@ -1,17 +1,21 @@
-use Rattle.std.proofs.Common.{◌≡◌, List, Option, None, Some, sym, subst, ap, ◌∙◌}
+use Rattle.std.proofs.Common.{Option, Some, sym, ap, ◌∙◌}
 use Rattle.std.specs.Option.{option_copied, option_map}
 use Rattle.weave_entries.specs.declared.store_log.StoreEntry.{StoreEntry}
-use Rattle.weave_entries.specs.StoreReplay.{Judgement, judgement_of}
-use Rattle.backing_store.proofs.Replay.{none_judged, judged_there}
+use Rattle.weave_entries.specs.declared.verdict.Verdict.{Verdict}
+use Rattle.weave_entries.specs.StoreReplay.{Judgement, judged_by}
 use Rattle.backing_store.proofs.store.Store.verdict_of.Goals as goal
+
+-- the verdict of an entry, if there is one
+abbrev verdict_if : Option StoreEntry → Option Verdict
+verdict_if entry = option_map (λ (judged : Judgement). judged.verdict) (option_map (λ (one : StoreEntry). judged_by one.author one.deed) entry)
 
 pub returns-in_default : goal.returns-in_default
 returns-in_default c =
-    none_judged c.args.request c.self.inside.places.entries c.self.inside.log.items c.self.invariant.places_are (sym c.get.ensures.value ∙ ap option_copied c.in_default.is)
-    ∙ ap (λ (log : List StoreEntry). option_map (λ (judged : Judgement). judged.verdict) (judgement_of c.args.request log)) c.self.view_is
+    ap verdict_if (sym (ap option_copied c.in_default.is))
+    ∙ ap (option_map (λ (judged : Judgement). judged.verdict)) c.judged.ensures
 
 pub returns : goal.returns
 returns c =
     ap Some c.verdict_in.ensures
-    ∙ judged_there c.args.request c.self.inside.places.entries c.self.inside.log.items c.self.invariant.places_are c.in-Some.place.now c.index.result.now (sym c.get.ensures.value ∙ ap option_copied c.in-Some.is) c.index.ensures
-    ∙ ap (λ (log : List StoreEntry). option_map (λ (judged : Judgement). judged.verdict) (judgement_of c.args.request log)) c.self.view_is
+    ∙ ap verdict_if (sym (ap option_copied c.in-Some.is))
+    ∙ ap (option_map (λ (judged : Judgement). judged.verdict)) c.judged.ensures

@@ -1,0 +1,265 @@
+//! A row: a store over a judge, and calls whose answers are compared on the spot.
+ghost use Rattle.std.specs.Prelude.{◌≡◌, ◌∷◌, [], Contains};
+ghost use Rattle.vector_stamp.specs.declared.clock.Stamp.{Stamp};
+ghost use Rattle.store_rows.specs.Covers.{IsAmong};
+
+use crate::calls::try_commit;
+use crate::fixed_judge::FixedJudge;
+use crate::verdicts::{
+    is_committed, is_conflict, is_judgement, is_last_judged, is_one_settled, is_refused,
+};
+use backing_store::Store;
+use graph_ops::{Op, Reason};
+use std::alloc::Global;
+use std::marker::Model;
+use std::process::Abort;
+use timeline_oracle::Oracle;
+use vector_stamp::{Judge, Stamp};
+use weave_data::Name;
+use weave_entries::Verdict;
+
+/// A store with its judge, and stamps among which are all that either of them knows.
+#[derive(Drop)]
+pub struct Row<J: Judge> {
+    alloc: Global,
+    store: Store,
+    judge: J,
+    stamps: Vec<Stamp>,
+}
+
+impl<J: Judge> Model for Row<J> {
+    ghost use Rattle.std.specs.Prelude.{List};
+    ghost use Rattle.vector_stamp.specs.declared.clock.Stamp.{Stamp};
+    ghost use Rattle.store_rows.specs.Covers.{Covers};
+
+    ghost Value = { List Stamp };
+
+    ghost view = { λ r. r.stamps.items };
+
+    ghost invariant = { λ r. Covers r.stamps.items r.store (J.known r.judge) };
+}
+
+/// A store that has judged nothing, over this judge, which knows none but these stamps.
+fn row_over<J: Judge>(alloc: Global, judge: J, stamps: Vec<Stamp>) -> Row<J>
+    requires { IsAmong (J.known judge) stamps.items }
+{
+    Row {
+        alloc,
+        store: Store::new(alloc),
+        judge,
+        stamps,
+    }
+}
+
+/// A new store over a new oracle.
+pub fn oracle_row(alloc: Global) -> Row<Oracle> {
+    row_over(alloc, Oracle::new(alloc), Vec::new(alloc))
+}
+
+/// A new store over a judge of one pair, or of none.
+pub fn fixed_row(rt: &impl Abort, alloc: Global, pair: Option<(Stamp, Stamp)>) -> Row<FixedJudge> {
+    let (mut pairs, mut stamps) = (Vec::new(alloc), Vec::new(alloc));
+    if let Some((earlier, later)) = pair {
+        pairs.push((earlier, later)).expect(rt, "memory");
+        stamps.push(earlier).expect(rt, "memory");
+        stamps.push(later).expect(rt, "memory");
+    }
+    row_over(alloc, FixedJudge { pairs }, stamps)
+}
+
+impl<J: Judge + Drop> Row<J> {
+    fn judged(&mut self, rt: &impl Abort, request: u32, stamp: Stamp, ops: &[Op]) -> Verdict {
+        try_commit(
+            rt,
+            self.alloc,
+            &mut self.store,
+            &mut self.judge,
+            &mut self.stamps,
+            request,
+            stamp,
+            ops,
+        )
+        .expect(rt, "memory")
+    }
+
+    /// The transaction is the commit of this number, with these counts, and its `get`s read records with that many properties, or none.
+    pub fn commits(
+        &mut self,
+        rt: &impl Abort,
+        request: u32,
+        stamp: Stamp,
+        ops: &[Op],
+        number: u64,
+        counts: &[(Name, u64)],
+        got: &[(u32, Option<usize>)],
+    ) {
+        let verdict = self.judged(rt, request, stamp, ops);
+        if !is_committed(&verdict, number, counts, got) {
+            panic!(rt; "not this commit");
+        }
+    }
+
+    /// A transaction that makes a vertex is the commit of this number, the first that names it.
+    pub fn creates(&mut self, rt: &impl Abort, request: u32, stamp: Stamp, v: Name, number: u64) {
+        self.commits(
+            rt,
+            request,
+            stamp,
+            &[Op::Create { v }],
+            number,
+            &[(v, 0)],
+            &[],
+        );
+    }
+
+    /// The transaction conflicts at this vertex with the commit of that request.
+    pub fn conflicts(
+        &mut self,
+        rt: &impl Abort,
+        request: u32,
+        stamp: Stamp,
+        ops: &[Op],
+        at: Name,
+        with: u32,
+    ) {
+        let verdict = self.judged(rt, request, stamp, ops);
+        if !is_conflict(&verdict, at, with) {
+            panic!(rt; "not this conflict");
+        }
+    }
+
+    /// The operation of this number refuses the transaction, for this reason, after that many commits.
+    pub fn refuses(
+        &mut self,
+        rt: &impl Abort,
+        request: u32,
+        stamp: Stamp,
+        ops: &[Op],
+        op: u32,
+        reason: Reason,
+        commits: u64,
+    ) {
+        let verdict = self.judged(rt, request, stamp, ops);
+        if !is_refused(&verdict, op, reason, commits) {
+            panic!(rt; "not this refusal");
+        }
+    }
+
+    /// The judge is out of memory: nothing is judged.
+    pub fn is_out_of_memory(&mut self, rt: &impl Abort, request: u32, stamp: Stamp, ops: &[Op]) {
+        let entries = self.store.log().len();
+        let full = try_commit(
+            rt,
+            self.alloc,
+            &mut self.store,
+            &mut self.judge,
+            &mut self.stamps,
+            request,
+            stamp,
+            ops,
+        );
+        if full.is_ok() || self.store.log().len() != entries {
+            panic!(rt; "judged");
+        }
+    }
+
+    /// The last entry is of this request, and asked of these vertices.
+    pub fn asked(&self, rt: &impl Abort, request: u32, vertices: &[Name]) {
+        if !is_last_judged(self.store.log(), request, vertices) {
+            panic!(rt; "another entry");
+        }
+    }
+
+    /// The store has made this many commits, and the vertex has that many properties, or is absent.
+    pub fn has(&self, rt: &impl Abort, commits: u64, v: Name, props: Option<usize>) {
+        if self.store.commits() != commits || self.props(v) != props {
+            panic!(rt; "another state");
+        }
+    }
+
+    /// How many properties the vertex has, or `None` where it is absent.
+    fn props(&self, v: Name) -> Option<usize> {
+        let Some(record) = self.store.state(v) else {
+            return None;
+        };
+        Some(record.props.len())
+    }
+
+    /// The vertex has this many edges.
+    pub fn has_edges(&self, rt: &impl Abort, v: Name, edges: usize) {
+        let Some(record) = self.store.state(v) else {
+            panic!(rt; "no vertex");
+        };
+        if record.edges.len() != edges {
+            panic!(rt; "another number of edges");
+        }
+    }
+
+    /// The verdict of this request was the refusal of that operation.
+    pub fn was_refused(
+        &self,
+        rt: &impl Abort,
+        request: u32,
+        op: u32,
+        reason: Reason,
+        commits: u64,
+    ) {
+        let Some(verdict) = self.store.verdict_of(request) else {
+            panic!(rt; "no verdict");
+        };
+        if !is_refused(verdict, op, reason, commits) {
+            panic!(rt; "another verdict");
+        }
+    }
+
+    /// The verdict of this request was the commit of that number, the first that names the vertex, without an answer.
+    pub fn was_committed(&self, rt: &impl Abort, request: u32, number: u64, v: Name) {
+        let Some(verdict) = self.store.verdict_of(request) else {
+            panic!(rt; "no verdict");
+        };
+        if !is_committed(verdict, number, &[(v, 0)], &[]) {
+            panic!(rt; "another verdict");
+        }
+    }
+
+    /// The request has no verdict and no entry.
+    pub fn was_not_judged(&self, rt: &impl Abort, request: u32) {
+        if self.store.verdict_of(request).is_some() || self.store.judged(request).is_some() {
+            panic!(rt; "judged");
+        }
+    }
+
+    /// The entry of this request was asked of these vertices.
+    pub fn was_asked(&self, rt: &impl Abort, request: u32, vertices: &[Name]) {
+        let Some(entry) = self.store.judged(request) else {
+            panic!(rt; "not judged");
+        };
+        if !is_judgement(entry, request, vertices) {
+            panic!(rt; "another entry");
+        }
+    }
+}
+
+/// The oracle's log is the entry of one call, which put these events before this one, and added pairs at these places.
+pub fn put(rt: &impl Abort, row: &Row<Oracle>, earlier: &[Stamp], later: Stamp, places: &[u32]) {
+    if !is_one_settled(row.judge.log(), earlier, &later, places) {
+        panic!(rt; "another log of the oracle");
+    }
+}
+
+/// The oracle has put nothing.
+pub fn put_nothing(rt: &impl Abort, row: &Row<Oracle>) {
+    if !row.judge.log().is_empty() {
+        panic!(rt; "the oracle has a log");
+    }
+}
+
+/// The same store over a new oracle.
+pub fn over_oracle(row: Row<FixedJudge>) -> Row<Oracle> {
+    Row {
+        alloc: row.alloc,
+        store: row.store,
+        judge: Oracle::new(row.alloc),
+        stamps: row.stamps,
+    }
+}
