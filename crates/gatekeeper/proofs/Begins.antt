@@ -12,7 +12,7 @@ use Rattle.weave_entries.specs.declared.message.Addressed.{Addressed}
 use Rattle.weave_entries.specs.declared.gate_log.GateEntry.{GateEntry}
 use Rattle.weave_entries.specs.GateReplay.{Begun, begun_stamp, clock_of, channel_of}
 use Rattle.weave_entries.specs.GateRules.{IsBegunAt, IsGateLog}
-use Rattle.gatekeeper.specs.declared.begun.Open.{Open}
+use Rattle.gatekeeper.specs.declared.begun.Flight.{Flight}
 use Rattle.gatekeeper.specs.Opened.{as_begun}
 use Rattle.gatekeeper.specs.Gates.{GateView, IsReplayOf}
 
@@ -35,11 +35,11 @@ abbrev pub SendsNoneBeyond : Type 0
 SendsNoneBeyond = (home shards shard : ℕ) (log : List GateEntry) → IsGateLog home shards log → shards ≤ shard → channel_of shard log ≡ []
 
 -- where the field is empty no transaction is in flight
-pub none_flies : (flight : Option Open) (flies : Option Begun) → option_map as_begun flight ≡ flies → is_some flight ≡ false → flies ≡ None
+pub none_flies : (flight : Option Flight) (flies : Option Begun) → option_map as_begun flight ≡ flies → is_some flight ≡ false → flies ≡ None
 none_flies None flies is none = sym is
 none_flies (Some one) flies is none = absurd (cc)
 
-module _ (home shards : ℕ) (clock : Clock) (flight : Option Open) (running : List ((ℕ × ℕ) × Clock)) (channels : List (Channel Message)) (log : List GateEntry) (kept : IsReplayOf home shards clock flight running channels log) where
+module _ (home shards : ℕ) (clock : Clock) (flight : Option Flight) (running : List ((ℕ × ℕ) × Clock)) (channels : List (Channel Message)) (log : List GateEntry) (kept : IsReplayOf home shards clock flight running channels log) where
   -- there is room for one more event
   pub own_fits : OwnIsFew → length log < 2 ^ 63 → count_of home clock < 2 ^ 64 - 1
   own_fits own few =

@@ -14,7 +14,7 @@ use Rattle.weave_entries.specs.declared.gate_log.GateEntry.{GateEntry}
 use Rattle.weave_entries.specs.declared.gate_log.GateDeed.{GateDeed}
 use Rattle.weave_entries.specs.GateReplay.{Begun, clock_after, clock_of, flight_after, flight_of, running_after, messages_by, to_shard, stamps_by, stamps_of, running_of, addressed_to, channel_of}
 use Rattle.weave_entries.specs.GateRules.{FitsAs}
-use Rattle.gatekeeper.specs.declared.begun.Open.{Open}
+use Rattle.gatekeeper.specs.declared.begun.Flight.{Flight}
 use Rattle.gatekeeper.specs.Opened.{as_begun}
 use Rattle.gatekeeper.specs.Gates.{HaveBits, IsReplayOf}
 use Rattle.gatekeeper.specs.Running.{same_program, HoldsPrograms}
@@ -47,7 +47,7 @@ pub no_bits : HaveBits []
 no_bits stamp has = absurd (has_none stamp has)
 
 -- each field goes on as the entry says
-pub keeps_on : (home shards : ℕ) (clock : Clock) (flight : Option Open) (running : List ((ℕ × ℕ) × Clock)) (channels : List (Channel Message)) (log : List GateEntry) (author : ℕ) (deed : GateDeed) (next : Clock) (flying : Option Open) (run : List ((ℕ × ℕ) × Clock)) (sent : List (Channel Message)) (longer : List GateEntry) → IsReplayOf home shards clock flight running channels log → FitsAs home shards log author deed → HaveBits (stamps_by deed) → longer ≡ log ++ record { author = author; deed = deed } ∷ [] → next ≡ clock_after home clock deed → option_map as_begun flying ≡ flight_after (option_map as_begun flight) author deed → HoldsPrograms run (running_after (running_of log) author deed) → length sent ≡ shards → ((shard : ℕ) (channel : Channel Message) → slice_get sent shard ≡ Some channel → channel.sent ≡ channel_of shard log ++ map (λ (addressed : Addressed). addressed.message) (to_shard shard (messages_by deed))) → IsReplayOf home shards next flying run sent longer
+pub keeps_on : (home shards : ℕ) (clock : Clock) (flight : Option Flight) (running : List ((ℕ × ℕ) × Clock)) (channels : List (Channel Message)) (log : List GateEntry) (author : ℕ) (deed : GateDeed) (next : Clock) (flying : Option Flight) (run : List ((ℕ × ℕ) × Clock)) (sent : List (Channel Message)) (longer : List GateEntry) → IsReplayOf home shards clock flight running channels log → FitsAs home shards log author deed → HaveBits (stamps_by deed) → longer ≡ log ++ record { author = author; deed = deed } ∷ [] → next ≡ clock_after home clock deed → option_map as_begun flying ≡ flight_after (option_map as_begun flight) author deed → HoldsPrograms run (running_after (running_of log) author deed) → length sent ≡ shards → ((shard : ℕ) (channel : Channel Message) → slice_get sent shard ≡ Some channel → channel.sent ≡ channel_of shard log ++ map (λ (addressed : Addressed). addressed.message) (to_shard shard (messages_by deed))) → IsReplayOf home shards next flying run sent longer
 keeps_on home shards clock flight running channels log author deed next flying run sent longer kept fits bits longer_is next_is flying_is run_is all_sent sent_is =
     let entry : GateEntry = record { author = author; deed = deed } in
     subst (λ (l : List GateEntry). IsReplayOf home shards next flying run sent l) (sym longer_is) (record {
@@ -66,13 +66,13 @@ keeps_on home shards clock flight running channels log author deed next flying r
     })
 
 -- and where it sends nothing, the channels stay
-pub keeps_still : (home shards : ℕ) (clock : Clock) (flight : Option Open) (running : List ((ℕ × ℕ) × Clock)) (channels : List (Channel Message)) (log : List GateEntry) (author : ℕ) (deed : GateDeed) (next : Clock) (flying : Option Open) (run : List ((ℕ × ℕ) × Clock)) (longer : List GateEntry) → IsReplayOf home shards clock flight running channels log → FitsAs home shards log author deed → HaveBits (stamps_by deed) → messages_by deed ≡ [] → longer ≡ log ++ record { author = author; deed = deed } ∷ [] → next ≡ clock_after home clock deed → option_map as_begun flying ≡ flight_after (option_map as_begun flight) author deed → HoldsPrograms run (running_after (running_of log) author deed) → IsReplayOf home shards next flying run channels longer
+pub keeps_still : (home shards : ℕ) (clock : Clock) (flight : Option Flight) (running : List ((ℕ × ℕ) × Clock)) (channels : List (Channel Message)) (log : List GateEntry) (author : ℕ) (deed : GateDeed) (next : Clock) (flying : Option Flight) (run : List ((ℕ × ℕ) × Clock)) (longer : List GateEntry) → IsReplayOf home shards clock flight running channels log → FitsAs home shards log author deed → HaveBits (stamps_by deed) → messages_by deed ≡ [] → longer ≡ log ++ record { author = author; deed = deed } ∷ [] → next ≡ clock_after home clock deed → option_map as_begun flying ≡ flight_after (option_map as_begun flight) author deed → HoldsPrograms run (running_after (running_of log) author deed) → IsReplayOf home shards next flying run channels longer
 keeps_still home shards clock flight running channels log author deed next flying run longer kept fits bits nothing longer_is next_is flying_is run_is =
     keeps_on home shards clock flight running channels log author deed next flying run channels longer kept fits bits longer_is next_is flying_is run_is kept.all_channels
     (λ shard channel at. kept.channels_are shard channel at ∙ sym (append-nil (channel_of shard log)) ∙ ap (λ (ms : List Addressed). channel_of shard log ++ map (λ (addressed : Addressed). addressed.message) (to_shard shard ms)) (sym nothing))
 
 -- the programs may stand in another table, and the log in another place
-pub keeps_programs : (home shards : ℕ) (clock : Clock) (flight : Option Open) (running : List ((ℕ × ℕ) × Clock)) (channels : List (Channel Message)) (log : List GateEntry) (run : List ((ℕ × ℕ) × Clock)) (same : List GateEntry) → IsReplayOf home shards clock flight running channels log → HoldsPrograms run (running_of log) → same ≡ log → IsReplayOf home shards clock flight run channels same
+pub keeps_programs : (home shards : ℕ) (clock : Clock) (flight : Option Flight) (running : List ((ℕ × ℕ) × Clock)) (channels : List (Channel Message)) (log : List GateEntry) (run : List ((ℕ × ℕ) × Clock)) (same : List GateEntry) → IsReplayOf home shards clock flight running channels log → HoldsPrograms run (running_of log) → same ≡ log → IsReplayOf home shards clock flight run channels same
 keeps_programs home shards clock flight running channels log run same kept holds is =
     subst (λ (l : List GateEntry). IsReplayOf home shards clock flight run channels l) (sym is) (record {
       clock_is = kept.clock_is;

@@ -21,7 +21,7 @@ use Rattle.weave_entries.specs.declared.gate_log.GateEntry.{GateEntry}
 use Rattle.weave_entries.specs.GateReplay.{Begun, next_stamp, clock_of, flight_of, running_of, to_shard, channel_of, next_number, low_mark}
 use Rattle.weave_entries.specs.Sending.{keeps as keeps_of, parts_for, shards_named, message_to, messages_of, IsCountsOf}
 use Rattle.weave_entries.specs.GateRules.{IsGateLog, Sends}
-use Rattle.gatekeeper.specs.declared.begun.Open.{Open}
+use Rattle.gatekeeper.specs.declared.begun.Flight.{Flight}
 use Rattle.gatekeeper.specs.Opened.{as_begun}
 use Rattle.gatekeeper.specs.Gates.{IsReplayOf}
 use Rattle.gatekeeper.specs.Messages.{sent_on, sent_at, made_for, with_parted, messages_made, HasRoomAt, KeepsSent, CanGo, CanAllGo, AreSent}
@@ -83,7 +83,7 @@ FlightIsAfter = (home shards shard : ℕ) (log : List GateEntry) → home < 8 �
 pub read_sent : (channels : List (Channel Message)) (shard : ℕ) (channel : Channel Message) → shard < length channels → channel ≡ get_or channels shard channel → channel.sent ≡ sent_at shard channels
 read_sent channels shard channel within is = ap sent_on (sym (slice_get-get_or channels shard channel within ∙ ap Some (sym is)))
 
-module _ (home shards : ℕ) (clock : Clock) (flight : Option Open) (running : List ((ℕ × ℕ) × Clock)) (channels : List (Channel Message)) (log : List GateEntry) (kept : IsReplayOf home shards clock flight running channels log) where
+module _ (home shards : ℕ) (clock : Clock) (flight : Option Flight) (running : List ((ℕ × ℕ) × Clock)) (channels : List (Channel Message)) (log : List GateEntry) (kept : IsReplayOf home shards clock flight running channels log) where
   -- the channels are those of the log, and beyond the last shard nothing was sent
   pub sent_is : SendsNoneBeyond → (shard : ℕ) → sent_at shard channels ≡ channel_of shard log
   sent_is none shard =
@@ -98,7 +98,7 @@ module _ (home shards : ℕ) (clock : Clock) (flight : Option Open) (running : L
       ]
 
   -- the messages that are made are those of the rule
-  pub made_is : SendsNoneBeyond → (one : Open) (low : Clock) (ops : List Op) (verdict : Verdict) → low ≡ low_mark one.stamp (running_of log) → messages_made channels shards one low ops verdict ≡ messages_of shards log (as_begun one) ops verdict
+  pub made_is : SendsNoneBeyond → (one : Flight) (low : Clock) (ops : List Op) (verdict : Verdict) → low ≡ low_mark one.stamp (running_of log) → messages_made channels shards one low ops verdict ≡ messages_of shards log (as_begun one) ops verdict
   made_is none one low ops (Committed number answers counts) low_is =
       map_same (made_for channels shards one low ops counts) (message_to shards log (as_begun one) ops counts)
       (λ shard i. record {
@@ -133,7 +133,7 @@ module _ (home shards : ℕ) (clock : Clock) (flight : Option Open) (running : L
       subst (λ (s : Stamp). IsTrue (stamp_before message.stamp s)) (sym (is ∙ ap (next_stamp home) kept.clock_is)) (after home shards shard log kept.home_is kept.rules message has))
 
   -- the messages of the transaction in flight can go, each to a shard of its own
-  module _ (after : FlightIsAfter) (one : Open) (flies : flight ≡ Some one) (now : List (Channel Message)) (keeps : KeepsSent channels now) (room : (shard : ℕ) → shard < length channels → HasRoomAt now shard) (ops : List Op) (counts : List Counted) where
+  module _ (after : FlightIsAfter) (one : Flight) (flies : flight ≡ Some one) (now : List (Channel Message)) (keeps : KeepsSent channels now) (room : (shard : ℕ) → shard < length channels → HasRoomAt now shard) (ops : List Op) (counts : List Counted) where
     one_can_go : (shard : ℕ) → shard < shards → CanGo now shard one.stamp
     one_can_go shard within =
         let long = kept.all_channels in
@@ -149,7 +149,7 @@ module _ (home shards : ℕ) (clock : Clock) (flight : Option Open) (running : L
           | inr fails ↦ rw fails (all_from p (first + 1) count (omega arith))
         ]
 
-  pub all_can_go : FlightIsAfter → (one : Open) → flight ≡ Some one → (now : List (Channel Message)) → KeepsSent channels now → ((shard : ℕ) → shard < length channels → HasRoomAt now shard) → (ops : List Op) (verdict : Verdict) → CanAllGo now (messages_of shards log (as_begun one) ops verdict)
+  pub all_can_go : FlightIsAfter → (one : Flight) → flight ≡ Some one → (now : List (Channel Message)) → KeepsSent channels now → ((shard : ℕ) → shard < length channels → HasRoomAt now shard) → (ops : List Op) (verdict : Verdict) → CanAllGo now (messages_of shards log (as_begun one) ops verdict)
   all_can_go after one flies now keeps room ops (Committed number answers counts) = all_from after one flies now keeps room ops counts (λ shard. list_any (keeps_of shards shard) counts) 0 shards (omega arith)
   all_can_go after one flies now keeps room ops (Conflict vertex newer) = tt
   all_can_go after one flies now keeps room ops (Refused op reason at) = tt
@@ -171,11 +171,11 @@ module _ (home shards : ℕ) (clock : Clock) (flight : Option Open) (running : L
       ap (λ (c : Option (Channel Message)). length (sent_on c) + 1) room.at ∙ ap (λ ms. length ms + 1) (was.2 ∙ kept.channels_are shard was.0 was.1)
 
   -- the transaction in flight is that of the log
-  pub flight_told : (one : Open) → flight ≡ Some one → flight_of log ≡ Some (as_begun one)
+  pub flight_told : (one : Flight) → flight ≡ Some one → flight_of log ≡ Some (as_begun one)
   flight_told one flies = sym kept.flight_is ∙ ap (option_map as_begun) flies
 
   -- its sending is right
-  pub sends_fit : (one : Open) → flight ≡ Some one → (author : ℕ) → one.author ≡ author → (ops : List Op) (verdict : Verdict) → IsCountsOf ops verdict → (messages : List Addressed) → messages ≡ messages_of shards log (as_begun one) ops verdict → Sends shards log author one.request messages
+  pub sends_fit : (one : Flight) → flight ≡ Some one → (author : ℕ) → one.author ≡ author → (ops : List Op) (verdict : Verdict) → IsCountsOf ops verdict → (messages : List Addressed) → messages ≡ messages_of shards log (as_begun one) ops verdict → Sends shards log author one.request messages
   sends_fit one flies author author_is ops verdict counts messages is =
       let begun : ℕ → Begun = λ a. record { author = a; request = one.request; stamp = one.stamp } in
       record {

@@ -16,7 +16,7 @@ use Rattle.weave_entries.specs.GateRules.{IsGateLog}
 use Rattle.shard_queue.specs.Sent.{Channel}
 use Rattle.gatekeeper.specs.Opened.{as_begun}
 use Rattle.gatekeeper.specs.Running.{HoldsPrograms}
-use Rattle.gatekeeper.specs.declared.begun.Open.{Open}
+use Rattle.gatekeeper.specs.declared.begun.Flight.{Flight}
 
 -- whose gatekeeper it is, of how many gatekeepers and for how many shards, its log, and for how many more entries there is room
 pub record GateView : Type 0 where
@@ -61,7 +61,7 @@ abbrev pub HaveBits : List Stamp → Type 0
 HaveBits stamps = (stamp : Stamp) → Contains stamps stamp → IsTrue (has_64_bits stamp.clock)
 
 -- the fields are what the replay of the log gives
-pub record IsReplayOf (home shards : ℕ) (clock : Clock) (flight : Option Open) (running : List ((ℕ × ℕ) × Clock)) (channels : List (Channel Message)) (log : List GateEntry) : Type 0 where
+pub record IsReplayOf (home shards : ℕ) (clock : Clock) (flight : Option Flight) (running : List ((ℕ × ℕ) × Clock)) (channels : List (Channel Message)) (log : List GateEntry) : Type 0 where
   pub clock_is : clock ≡ clock_of home log
   pub flight_is : option_map as_begun flight ≡ flight_of log
   pub running_is : HoldsPrograms running (running_of log)

@@ -12,7 +12,7 @@ use Rattle.weave_entries.specs.declared.verdict.Verdict.{Verdict}
 use Rattle.weave_entries.specs.declared.verdict.Verdict.TheVariants.{Committed, Conflict, Refused}
 use Rattle.weave_entries.specs.GateReplay.{to_shard}
 use Rattle.weave_entries.specs.Sending.{parts_for, shards_named}
-use Rattle.gatekeeper.specs.declared.begun.Open.{Open}
+use Rattle.gatekeeper.specs.declared.begun.Flight.{Flight}
 
 -- what was sent to a shard
 abbrev pub sent_on : Option (Channel Message) → List Message
@@ -24,7 +24,7 @@ abbrev pub sent_at : ℕ → List (Channel Message) → List Message
 sent_at shard channels = sent_on (slice_get channels shard)
 
 -- the message of a transaction to a shard, with the next number of the channel
-abbrev pub made_for : List (Channel Message) → ℕ → Open → Clock → List Op → List Counted → ℕ → Addressed
+abbrev pub made_for : List (Channel Message) → ℕ → Flight → Clock → List Op → List Counted → ℕ → Addressed
 made_for channels shards flight low ops counts shard = record {
   shard = shard;
   number = length (sent_at shard channels) + 1;
@@ -42,7 +42,7 @@ with_parted addressed [] messages = messages
 with_parted addressed (part ∷ parts) messages = messages ++ addressed ∷ []
 
 -- the messages of a transaction by its verdict
-abbrev pub messages_made : List (Channel Message) → ℕ → Open → Clock → List Op → Verdict → List Addressed
+abbrev pub messages_made : List (Channel Message) → ℕ → Flight → Clock → List Op → Verdict → List Addressed
 messages_made channels shards flight low ops (Committed number answers counts) = map (made_for channels shards flight low ops counts) (shards_named shards counts)
 messages_made channels shards flight low ops (Conflict vertex newer) = []
 messages_made channels shards flight low ops (Refused op reason at) = []

@@ -1,7 +1,7 @@
 -- What was begun at a gatekeeper and has not ended, as the replay of the log tells it.
 use Rattle.weave_entries.specs.GateReplay.{Begun}
-use Rattle.gatekeeper.specs.declared.begun.Open.{Open}
+use Rattle.gatekeeper.specs.declared.begun.Flight.{Flight}
 
 -- who began which request, and its stamp
-abbrev pub as_begun : Open → Begun
+abbrev pub as_begun : Flight → Begun
 as_begun one = record { author = one.author; request = one.request; stamp = one.stamp }

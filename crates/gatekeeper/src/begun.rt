@@ -9,7 +9,7 @@ use vector_stamp::{Clock, Stamp};
 
 /// A transaction in flight: who began which request, and its stamp.
 #[derive(Clone, Copy)]
-pub struct Open {
+pub struct Flight {
     pub author: u32,
     pub request: u32,
     pub stamp: Stamp,

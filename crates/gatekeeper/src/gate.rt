@@ -1,17 +1,18 @@
 //! A gatekeeper.
 ghost use Rattle.std.specs.Prelude.{◌≡◌, ◌≤◌, ◌<◌, ◌+◌, ◌∷◌, ◌++◌, [], not, is_some, is_none, IsTrue, IfOk, IfErr, OnOk, OnErr, option_copied, vec_len, vec_capacity};
 ghost use Rattle.std.specs.List.{list_any};
-ghost use Rattle.std.specs.Option.{ForSome};
-ghost use Rattle.vector_stamp.specs.Order.{count_of, stamp_before};
+ghost use Rattle.std.specs.Option.{ForSome, option_map};
+ghost use Rattle.vector_stamp.specs.Order.{count_of, has_64_bits, stamp_before};
 ghost use Rattle.vector_stamp.specs.Clocks.{counts_no_more};
 ghost use Rattle.shard_queue.specs.Sent.{sent_as};
 ghost use Rattle.weave_entries.specs.GateReplay.{is_begun, stamps_of, begun_stamp, next_stamp, next_number, clock_of, flight_of, running_of, channel_of, low_mark};
 ghost use Rattle.weave_entries.specs.GateRules.{IsGateLog};
 ghost use Rattle.weave_entries.specs.Sending.{IsCountsOf};
 ghost use Rattle.gatekeeper.specs.Answers.{IsRefusedWhere};
+ghost use Rattle.gatekeeper.specs.Opened.{as_begun};
 ghost use Rattle.gatekeeper.specs.Gates.{Adds, IsNew, HasRoom, SendsFlight, HaveBits};
 
-use crate::begun::{Open, begin, hear};
+use crate::begun::{Flight, begin, hear};
 use crate::fault::GateFault;
 use crate::running::{Programs, end, is_running, low_mark, start};
 use crate::sending::{empty_channels, make_all_room, make_room, messages_of, send_all, send_one};
@@ -32,7 +33,7 @@ pub struct Gate {
     gates: u32,
     shards: u32,
     clock: Clock,
-    flight: Option<Open>,
+    flight: Option<Flight>,
     running: Programs,
     channels: Vec<Outbox<Message>>,
     log: Vec<GateEntry>,
@@ -100,6 +101,7 @@ impl Gate {
         ensures after { IfOk result (λ stamp. ForSome last (λ heard.
             IsTrue (counts_no_more self.old.home (clock_of self.old.home self.old.log) heard.clock)
             → IsTrue (stamp_before heard stamp))) }
+        ensures bits { IfOk result (λ stamp. IsTrue (has_64_bits stamp.clock)) }
         ensures busy { IsRefusedWhere GateFault.Busy (is_some (flight_of self.old.log)) result }
         ensures refused { OnErr result (self.new ≡ self.old) }
     {
@@ -111,7 +113,7 @@ impl Gate {
         }
         self.log.reserve(1)?;
         let stamp = begin(&mut self.clock, self.home, last);
-        self.flight = Some(Open {
+        self.flight = Some(Flight {
             author,
             request,
             stamp,
@@ -134,6 +136,7 @@ impl Gate {
         ensures after { IfOk result (λ stamp. ForSome last (λ heard.
             IsTrue (counts_no_more self.old.home (clock_of self.old.home self.old.log) heard.clock)
             → IsTrue (stamp_before heard stamp))) }
+        ensures bits { IfOk result (λ stamp. IsTrue (has_64_bits stamp.clock)) }
         ensures refused { OnErr result (self.new ≡ self.old) }
     {
         counts_are_few();
@@ -289,6 +292,13 @@ impl Gate {
             return None;
         };
         channel.get(number)
+    }
+
+    /// The transaction in flight, if there is one.
+    pub fn flight(&self) -> Option<Flight>
+        ensures { option_map as_begun result ≡ flight_of self.now.log }
+    {
+        self.flight
     }
 
     /// The log: all that was done, in order.

@@ -13,5 +13,6 @@ mod sending;
 #[cfg(test)]
 mod tests;
 
+pub use begun::Flight;
 pub use fault::GateFault;
 pub use gate::Gate;

@@ -5,7 +5,7 @@ ghost use Rattle.weave_entries.specs.Sending.{shards_named, IsCountsOf};
 ghost use Rattle.weave_entries.specs.declared.verdict.Counted.{Counted};
 ghost use Rattle.gatekeeper.specs.Messages.{made_for, with_parted, messages_made, CanGo, CanAllGo, HasRoomAt, KeepsSent, IsSentOn, AreSent, sent_at};
 
-use crate::begun::Open;
+use crate::begun::Flight;
 use crate::parts::parts_by_shard;
 use graph_ops::Op;
 use shard_queue::Outbox;
@@ -30,7 +30,7 @@ pub fn messages_of(
     alloc: Global,
     channels: &[Outbox<Message>],
     shards: u32,
-    flight: &Open,
+    flight: &Flight,
     low: Clock,
     ops: &[Op],
     verdict: &Verdict,
@@ -59,7 +59,7 @@ fn commit_messages(
     alloc: Global,
     channels: &[Outbox<Message>],
     shards: u32,
-    flight: &Open,
+    flight: &Flight,
     low: Clock,
     ops: &[Op],
     counts: &[Counted],

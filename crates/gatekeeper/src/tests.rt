@@ -132,6 +132,9 @@ fn begins_after_the_last_stamp(rt: HostRuntime) {
     let mut gate = Gate::new(alloc, 0, 2, 1).expect(&rt, "no gatekeeper");
     let first = gate.begin_tx(alloc, 1, 0, Some(other_stamp(0, 0, 7)));
     assert!(rt; first == Ok(stamp(1, 7)));
+    let flight = gate.flight().expect(&rt, "no transaction in flight");
+    assert_eq!(rt; (flight.author, flight.request), (1, 0));
+    assert_eq!(rt; flight.stamp, stamp(1, 7));
     let second = gate.begin_program(alloc, 2, 1, Some(other_stamp(0, 1, 9)));
     assert!(rt; second == Ok(stamp(2, 9)));
     let raised = gate
