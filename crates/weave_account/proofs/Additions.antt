@@ -1,4 +1,5 @@
--- Where a judge adds a pair for an event, no earlier place has that event. It belongs into the crate of stamps, beside the laws of settling.
+-- Where a judge adds a pair for an event, no earlier place has that event. It belongs into the crate of stamps,
+-- beside the laws of settling.
 use Rattle.std.proofs.Common.{◌≡◌, ℕ, zero, suc, ◌+◌, ◌<◌, Bool, true, false, cond, List, [], ◌∷◌, ◌++◌, Contains, IsTrue, Some, inl, inr, refl, sym, ap, subst, arith}
 use Rattle.std.specs.Prelude.{slice_get}
 use Rattle.std.proofs.lemmas.Bool.{both_ways}
@@ -20,12 +21,16 @@ module _ (laws : LowerLaws) where
   grows pairs more a b h = (laws.decided (pairs ++ more) a b).0 (more-precedes pairs more a b ((laws.decided pairs a b).1 h))
 
   -- for an event that already precedes nothing is added
-  never-added : (n : ℕ) (pairs : List Given) (events : List Stamp) (later event : Stamp) (place : ℕ) → IsTrue (precedes pairs event later) → ¬ Contains (additions_from n pairs events later) (place, event)
+  never-added : (n : ℕ) (pairs : List Given) (events : List Stamp) (later event : Stamp) (place : ℕ)
+      → IsTrue (precedes pairs event later) → ¬ Contains (additions_from n pairs events later) (place, event)
   never-added n pairs [] later event place before h = has_none (place, event) h
-  never-added n pairs (first ∷ events) later event place before h = at (precedes pairs first later) refl h (λ more then. never-added (suc n) more events later event place then)
+  never-added n pairs (first ∷ events) later event place before h =
+      at (precedes pairs first later) refl h (λ more then. never-added (suc n) more events later event place then)
     where
-      at : (b : Bool) → precedes pairs first later ≡ b → Contains (cond b (additions_from (suc n) pairs events later) ((n, first) ∷ additions_from (suc n) (pairs ++ (first, later) ∷ []) events later)) (place, event)
-          → ((more : List Given) → IsTrue (precedes more event later) → ¬ Contains (additions_from (suc n) more events later) (place, event)) → ⊥
+      at : (b : Bool) → precedes pairs first later ≡ b
+          → Contains (cond b (additions_from (suc n) pairs events later) ((n, first) ∷ additions_from (suc n) (pairs ++ (first, later) ∷ []) events later)) (place, event)
+          → ((more : List Given) → IsTrue (precedes more event later) → ¬ Contains (additions_from (suc n) more events later) (place, event))
+          → ⊥
       at true e h rest = rest pairs before h
       at false e h rest = elim (has_read (n, first) (additions_from (suc n) (pairs ++ (first, later) ∷ []) events later) (place, event) h) [
         | inl same ↦ (let is : first ≡ event = ap (λ (k : ℕ × Stamp). k.1) same in both_ways _ e (subst (λ s. IsTrue (precedes pairs s later)) (sym is) before))
@@ -33,23 +38,28 @@ module _ (laws : LowerLaws) where
       ]
 
   -- so it is added for at its first place
-  pub first-place : (n : ℕ) (pairs : List Given) (events : List Stamp) (later event : Stamp) (place q : ℕ) → Contains (additions_from n pairs events later) (place, event) → slice_get events q ≡ Some event → n + q < place → ⊥
+  pub first-place : (n : ℕ) (pairs : List Given) (events : List Stamp) (later event : Stamp) (place q : ℕ)
+      → Contains (additions_from n pairs events later) (place, event) → slice_get events q ≡ Some event → n + q < place → ⊥
   first-place n pairs [] later event place q h e less = cc
   first-place n pairs (first ∷ events) later event place zero h e less = at (precedes pairs first later) refl h
     where
       is : first ≡ event
       is = cc
 
-      at : (b : Bool) → precedes pairs first later ≡ b → Contains (cond b (additions_from (suc n) pairs events later) ((n, first) ∷ additions_from (suc n) (pairs ++ (first, later) ∷ []) events later)) (place, event) → ⊥
+      at : (b : Bool) → precedes pairs first later ≡ b
+          → Contains (cond b (additions_from (suc n) pairs events later) ((n, first) ∷ additions_from (suc n) (pairs ++ (first, later) ∷ []) events later)) (place, event)
+          → ⊥
       at true f h = never-added (suc n) pairs events later event place (subst (λ s. IsTrue (precedes pairs s later)) is f) h
       at false f h = elim (has_read (n, first) (additions_from (suc n) (pairs ++ (first, later) ∷ []) events later) (place, event) h) [
         | inl same ↦ (let here : n ≡ place = ap (λ (k : ℕ × Stamp). k.0) same in absurd (omega (arith, here, less)))
         | inr more ↦ never-added (suc n) (pairs ++ (first, later) ∷ []) events later event place
             (subst (λ s. IsTrue (precedes (pairs ++ (first, later) ∷ []) s later)) is ((laws.decided (pairs ++ (first, later) ∷ []) first later).0 (ByPair first later (has_last pairs (first, later))))) more
       ]
-  first-place n pairs (first ∷ events) later event place (suc q) h e less = at (precedes pairs first later) h (λ more g. first-place (suc n) more events later event place q g e (omega (arith, less)))
+  first-place n pairs (first ∷ events) later event place (suc q) h e less =
+      at (precedes pairs first later) h (λ more g. first-place (suc n) more events later event place q g e (omega (arith, less)))
     where
-      at : (b : Bool) → Contains (cond b (additions_from (suc n) pairs events later) ((n, first) ∷ additions_from (suc n) (pairs ++ (first, later) ∷ []) events later)) (place, event)
+      at : (b : Bool)
+          → Contains (cond b (additions_from (suc n) pairs events later) ((n, first) ∷ additions_from (suc n) (pairs ++ (first, later) ∷ []) events later)) (place, event)
           → ((more : List Given) → Contains (additions_from (suc n) more events later) (place, event) → ⊥) → ⊥
       at true h rest = rest pairs h
       at false h rest = elim (has_read (n, first) (additions_from (suc n) (pairs ++ (first, later) ∷ []) events later) (place, event) h) [

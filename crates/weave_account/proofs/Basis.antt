@@ -4,7 +4,7 @@ use Rattle.program_defs.specs.declared.script.Script.{Script}
 use Rattle.weave_account.specs.declared.account.Account.{Account}
 use Rattle.weave_account.specs.Account.{pairs_in}
 use Rattle.weave_account.specs.IsAccount.{IsAccount}
-use Rattle.weave_account.specs.Limits.{IsWithinLimits}
+use Rattle.program_defs.specs.Limits.{IsWithinLimits}
 use Rattle.weave_account.specs.LowerLaws.{LowerLaws}
 
 -- an account of a script within its limits
@@ -12,6 +12,11 @@ pub record Basis (script : Script) (account : Account) : Type 0 where
   pub laws : LowerLaws
   pub limits : IsWithinLimits script
   pub is : IsAccount script account
+
+-- so it is given by a law's premises
+pub based : {script : Script} {account : Account} → LowerLaws → IsWithinLimits script → IsAccount script account
+    → Basis script account
+based laws limits is = record { laws = laws; limits = limits; is = is }
 
 -- nothing precedes itself
 pub acyclic : (script : Script) (account : Account) → Basis script account → IsAcyclic (pairs_in account)

@@ -1,39 +1,49 @@
 -- The stamps of all begun requests are coherent.
-use Rattle.std.proofs.Common.{◌≡◌, ◌<◌, map, Contains, sym, ap, subst, ◌∙◌}
+use Rattle.std.proofs.Common.{◌≡◌, ℕ, ◌<◌, ◌≤◌, length, map, Contains, sym, ap, subst, arith}
 use Rattle.vector_stamp.specs.declared.clock.EventId.{EventId}
 use Rattle.vector_stamp.specs.declared.clock.Stamp.{Stamp}
 use Rattle.vector_stamp.specs.Coherence.{AreCoherent}
 use Rattle.program_defs.specs.declared.script.Script.{Script}
-use Rattle.weave_entries.specs.GateReplay.{Begun, stamps_of}
+use Rattle.weave_entries.specs.declared.gate_log.GateEntry.{GateEntry}
+use Rattle.weave_entries.specs.GateReplay.{Begun, begun_by, begun_in, stamps_of}
+use Rattle.weave_entries.specs.GateRules.{IsGateLog}
 use Rattle.weave_account.specs.declared.account.Account.{Account}
 use Rattle.weave_account.specs.Account.{gate_log, all_begun}
-use Rattle.weave_account.proofs.Members.{map-has}
-use Rattle.weave_account.proofs.Replying.{begun-rightly, home-below}
+use Rattle.weave_account.specs.LowerLaws.{LowerLaws}
+use Rattle.proof_base.proofs.Images.{flat-has, map-has, within-list}
+use Rattle.weave_account.proofs.Replying.{place-of}
 use Rattle.weave_account.proofs.Basis.{Basis}
 
-module _ (script : Script) (account : Account) (basis : Basis script account) where
+-- As far as the logs of the gatekeepers were seen
+
+module _ (laws : LowerLaws) (shards : ℕ) (account : Account) (few : length account.gates ≤ 8) (logs : (home : ℕ) → IsGateLog home shards (gate_log account home)) where
   -- where a begun stamp is
-  pub record IsStampAt (stamp : Stamp) : Type 0 where
-    pub below : stamp.home < 8
-    pub all : AreCoherent (stamps_of (gate_log account stamp.home))
-    pub has : Contains (stamps_of (gate_log account stamp.home)) stamp
+  record IsStampAt (stamp : Stamp) : Type 0 where
+    below : stamp.home < 8
+    all : AreCoherent (stamps_of (gate_log account stamp.home))
+    has : Contains (stamps_of (gate_log account stamp.home)) stamp
 
   stamp-at : (stamp : Stamp) → Contains (map (λ (b : Begun). b.stamp) (all_begun account)) stamp → IsStampAt stamp
   stamp-at stamp h =
       let image = map-has (λ (b : Begun). b.stamp) (all_begun account) stamp h in
-      let right = begun-rightly script account basis image.of image.has in
-      let home-is : right.home ≡ stamp.home = sym (ap (λ (s : Stamp). s.home) (right.rule).stamp_is) ∙ ap (λ (s : Stamp). s.home) image.is in
-      let below = home-below script account basis right.home image.of right.there in
-      let all = basis.laws.coherent right.home script.shards (gate_log account right.home) below (basis.is.gatekeepers.logs right.home) in
+      let log = flat-has begun_in account.gates image.of image.has in
+      let home = place-of account.gates log.0 log.1.0 in
+      let there : Contains (begun_in (gate_log account home.0)) image.of = subst (λ l. Contains (begun_in l) image.of) (sym home.1) log.1.1 in
+      let entry = flat-has (λ (e : GateEntry). begun_by e.author e.deed) (gate_log account home.0) image.of there in
+      let within = within-list account.gates home.0 entry.0 entry.1.0 in
+      let below : home.0 < 8 = omega (arith, within, few) in
+      let own : Contains (stamps_of (gate_log account home.0)) stamp =
+      subst (λ s. Contains (stamps_of (gate_log account home.0)) s) image.is (laws.own_stamp (gate_log account home.0) image.of there) in
+      let home-is : home.0 ≡ stamp.home = sym (laws.stamps_home home.0 shards (gate_log account home.0) below (logs home.0) stamp own) in
       record {
         below = subst (λ n. n < 8) home-is below;
-        all = subst (λ n. AreCoherent (stamps_of (gate_log account n))) home-is all;
-        has = subst (λ n. Contains (stamps_of (gate_log account n)) stamp) home-is (subst (λ s. Contains (stamps_of (gate_log account right.home)) s) image.is (basis.laws.own_stamp (gate_log account right.home) image.of right.there));
+        all = subst (λ n. AreCoherent (stamps_of (gate_log account n))) home-is (laws.coherent home.0 shards (gate_log account home.0) below (logs home.0));
+        has = subst (λ n. Contains (stamps_of (gate_log account n)) stamp) home-is own;
       }
 
   -- the stamps of all begun requests are coherent
-  pub begun-coherent : AreCoherent (map (λ (b : Begun). b.stamp) (all_begun account))
-  begun-coherent =
+  pub seen-coherent : AreCoherent (map (λ (b : Begun). b.stamp) (all_begun account))
+  seen-coherent =
       record {
         homes = λ a ha. (stamp-at a ha).below;
         one_of_id = λ a b ha hb same.
@@ -46,3 +56,13 @@ module _ (script : Script) (account : Account) (basis : Basis script account) wh
             let y = stamp-at b hb in
             x.all.by_ids a b x.has (subst (λ n. Contains (stamps_of (gate_log account n)) b) (sym home) y.has) home before;
       }
+
+-- In an account
+
+-- so it is in an account
+pub begun-coherent : (script : Script) (account : Account) → Basis script account
+    → AreCoherent (map (λ (b : Begun). b.stamp) (all_begun account))
+begun-coherent script account basis =
+    let as-many = basis.is.gatekeepers.as_many in
+    let few = basis.limits.few_gates in
+    seen-coherent basis.laws script.shards account (omega (arith, as-many, few)) basis.is.gatekeepers.logs

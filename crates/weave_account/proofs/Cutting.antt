@@ -1,8 +1,9 @@
--- An order that keeps precedence, cut at one request: the commits at a vertex that are listed before the request are those that precede it, in the order of their numbers.
+-- An order that keeps precedence, cut at one request: the commits at a vertex that are listed before the request are
+-- those that precede it, in the order of their numbers.
 use Rattle.std.proofs.Common.{◌≡◌, ◌≢◌, ℕ, Bool, List, [], ◌∷◌, ◌++◌, IsTrue, ◌⊎◌, inl, inr, refl, sym, ap, subst, ◌∙◌}
 use Rattle.std.specs.List.{filter}
 use Rattle.report_rules.specs.Lookups.{is_in}
-use Rattle.weave_account.proofs.SortedLists.{IsSorted, in-head, in-tail, in-cases, in-append_left, in-append_right, in-append_cases, in-filter, filter-in, sorted-filter, sorted-left, sorted-at, one-list}
+use Rattle.proof_base.proofs.Numbers.{IsSorted, in-head, in-tail, in-cases, in-append_left, in-append_right, in-append_cases, in-filter, filter-in, sorted-filter, sorted-left, sorted-at, one-list}
 
 -- the later one is another request, and doesn't precede the earlier one
 abbrev pub IsNotAfter : (ℕ → ℕ → Type 0) → ℕ → ℕ → Type 0
@@ -25,7 +26,8 @@ module _ (P : ℕ → ℕ → Type 0) (not-both : (a b : ℕ) → P a b → P b 
       ]
 
   -- what an order that keeps precedence lists of a sorted list is sorted
-  sorted-among : (xs ys : List ℕ) → IsSorted P xs → ((n : ℕ) → IsTrue (is_in n ys) → IsTrue (is_in n xs)) → IsSorted (IsNotAfter P) ys → IsSorted P ys
+  sorted-among : (xs ys : List ℕ) → IsSorted P xs → ((n : ℕ) → IsTrue (is_in n ys) → IsTrue (is_in n xs))
+      → IsSorted (IsNotAfter P) ys → IsSorted P ys
   sorted-among xs [] s among t = tt
   sorted-among xs (y ∷ ys) s among t = (
     λ n h. elim (either xs y n s (among y (in-head y ys)) (among n (in-tail n y ys h))) [
@@ -39,7 +41,8 @@ module _ (P : ℕ → ℕ → Type 0) (not-both : (a b : ℕ) → P a b → P b 
   module _ (test : ℕ → Bool) (commits order : List ℕ) (sorted : IsSorted P (filter test commits)) (keeps : IsSorted (IsNotAfter P) order)
       (listed : (n : ℕ) → IsTrue (is_in n commits) → IsTrue (is_in n order))
       (committed : (n : ℕ) → IsTrue (is_in n order) → IsTrue (test n) → IsTrue (is_in n commits)) where
-    -- with c at its place in the order, and the commits that pass the test parted into those that precede c and the others
+    -- with c at its place in the order, and the commits that pass the test parted into those that precede c and the
+    -- others
     pub cut : (c : ℕ) (before after first rest : List ℕ) → order ≡ before ++ c ∷ after → filter test commits ≡ first ++ rest
         → ((n : ℕ) → IsTrue (is_in n first) → P n c) → ((n : ℕ) → IsTrue (is_in n rest) → (n ≡ c) ⊎ P c n)
         → filter test before ≡ first

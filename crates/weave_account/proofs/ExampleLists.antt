@@ -1,8 +1,9 @@
 -- Short lists of worked accounts: what is said of each entry, of each element, of each two.
-use Rattle.std.proofs.Common.{zero, suc, List, [], ◌∷◌, Contains, AllPairs, inl, inr, subst, arith}
+use Rattle.std.proofs.Common.{◌≡◌, ℕ, zero, suc, List, [], ◌∷◌, Contains, AllPairs, get_or, inl, inr, refl, subst, arith}
+use Rattle.std.specs.Prelude.{replicate}
 use Rattle.std.specs.List.{AllByRecursion}
 use Rattle.proof_base.proofs.Entries.{each_none, each_push}
-use Rattle.proof_base.proofs.Members.{has_none, has_read, only}
+use Rattle.proof_base.proofs.Members.{has_head, has_none, has_read, only}
 use Rattle.proof_base.proofs.Ordered.{pairs_cons}
 use Rattle.weave_entries.specs.Logs.{AtEachEntry}
 
@@ -24,8 +25,24 @@ module _ {E : Type 0} (P : List E → E → Type 0) where
   four a b c d pa pb pc pd = each_push P (a ∷ b ∷ c ∷ []) d (three a b c pa pb pc) pd
 
   -- a log of five
-  pub five : (a b c d e : E) → P [] a → P (a ∷ []) b → P (a ∷ b ∷ []) c → P (a ∷ b ∷ c ∷ []) d → P (a ∷ b ∷ c ∷ d ∷ []) e → AtEachEntry P (a ∷ b ∷ c ∷ d ∷ e ∷ [])
+  pub five : (a b c d e : E) → P [] a → P (a ∷ []) b → P (a ∷ b ∷ []) c → P (a ∷ b ∷ c ∷ []) d → P (a ∷ b ∷ c ∷ d ∷ []) e
+      → AtEachEntry P (a ∷ b ∷ c ∷ d ∷ e ∷ [])
   five a b c d e pa pb pc pd pe = each_push P (a ∷ b ∷ c ∷ d ∷ []) e (four a b c d pa pb pc pd) pe
+
+  -- a log of six
+  pub six : (a b c d e f : E) → P [] a → P (a ∷ []) b → P (a ∷ b ∷ []) c → P (a ∷ b ∷ c ∷ []) d → P (a ∷ b ∷ c ∷ d ∷ []) e
+      → P (a ∷ b ∷ c ∷ d ∷ e ∷ []) f → AtEachEntry P (a ∷ b ∷ c ∷ d ∷ e ∷ f ∷ [])
+  six a b c d e f pa pb pc pd pe pf = each_push P (a ∷ b ∷ c ∷ d ∷ e ∷ []) f (five a b c d e pa pb pc pd pe) pf
+
+-- a list of one has its element
+pub in-one : {A : Type 0} (x : A) → Contains (x ∷ []) x
+in-one x = has_head x []
+
+-- each count of a list of zeros is 0
+pub zeros : (n home : ℕ) → get_or {A = ℕ} (replicate n 0) home 0 ≡ 0
+zeros zero home = refl
+zeros (suc n) zero = refl
+zeros (suc n) (suc home) = zeros n home
 
 -- what is so of each element in turn is so of each member
 pub of-each : {A : Type 0} (P : A → Type 0) (xs : List A) → AllByRecursion P xs → (x : A) → Contains xs x → P x

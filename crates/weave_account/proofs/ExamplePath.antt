@@ -1,8 +1,9 @@
--- A worked account: a conflict through a path. The last transaction is before the first by its stamp, and the oracle put the first before the second; so the last one precedes the second, and conflicts with it.
+-- A worked account: a conflict through a path. The last transaction is before the first by its stamp, and the oracle
+-- put the first before the second; so the last one precedes the second, and conflicts with it.
 use Rattle.std.proofs.Common.{◌≡◌, ◌≢◌, ℕ, zero, suc, ◌<◌, ◌≤◌, false, List, [], ◌∷◌, get_or, Contains, IsTrue, Some, None, inl, refl, sym, ap, subst, arith}
 use Rattle.std.specs.Prelude.{codes}
 use Rattle.std.specs.Option.{ForSome}
-use Rattle.proof_base.proofs.Members.{find_has, has_head, has_none}
+use Rattle.proof_base.proofs.Members.{find_has, has_none}
 use Rattle.vector_stamp.specs.declared.clock.Clock.{Clock}
 use Rattle.vector_stamp.specs.declared.clock.Stamp.{Stamp}
 use Rattle.vector_stamp.specs.Order.{count_of, id_of}
@@ -16,7 +17,6 @@ use Rattle.weave_entries.specs.declared.gate_log.GateDeed.TheVariants.{BeganTx, 
 use Rattle.weave_entries.specs.declared.message.Message.{Message}
 use Rattle.weave_entries.specs.declared.store_log.StoreEntry.{StoreEntry}
 use Rattle.weave_entries.specs.declared.store_log.StoreDeed.TheVariants.{Judged}
-use Rattle.weave_entries.specs.declared.shard_log.ShardEntry.{ShardEntry}
 use Rattle.weave_entries.specs.declared.session_log.SessionEntry.{SessionEntry}
 use Rattle.weave_entries.specs.declared.session_log.SessionDeed.TheVariants as session
 use Rattle.weave_entries.specs.declared.verdict.Verdict.TheVariants.{Committed, Conflict}
@@ -37,9 +37,9 @@ use Rattle.weave_entries.specs.GateReplay.{Begun, ticks_of}
 use Rattle.weave_account.specs.Clocks.{IsKnown}
 use Rattle.weave_account.specs.Sessions.{requests_of_session, RepliesAs}
 use Rattle.weave_account.specs.IsAccount.{IsAccount}
-use Rattle.weave_account.specs.Store.{Judges, InTurn}
+use Rattle.weave_account.specs.Store.{AreJudgements, Judges, InTurn}
 use Rattle.weave_account.specs.Channels.{SendsAs}
-use Rattle.weave_account.specs.Shards.{ShardFitsAs}
+use Rattle.weave_account.specs.Shards.{AreShardDeeds}
 use Rattle.weave_account.specs.Programs.{ReadsInTurn}
 use Rattle.weave_entries.specs.SessionReplay.{FitsSession, session_of, session_stamp_of}
 use Rattle.program_defs.specs.declared.program.Program.{Program}
@@ -52,7 +52,7 @@ use Rattle.weave_account.specs.Account.{is_ended, reads_of}
 use Rattle.weave_account.specs.Oracle.{HasItsEntry, IsAskedByCommit}
 use Rattle.weave_entries.specs.OracleReplay.{settled_entry}
 use Rattle.weave_entries.specs.declared.oracle_log.OracleEntry.{OracleEntry}
-use Rattle.weave_account.proofs.ExampleLists.{one, two, three, of-each, pairs-three}
+use Rattle.weave_account.proofs.ExampleLists.{in-one, of-each, one, pairs-three, three, two, zeros}
 use Rattle.weave_entries.specs.GateReplay.{clocks_in}
 use Rattle.weave_account.specs.PairsByPlace.{placed_pairs}
 use Rattle.graph_ops.specs.declared.op.Op.{Op}
@@ -100,7 +100,7 @@ tz = record { name = codes "z"; session = 2; gate = 2; work = Change z-ops }
 abbrev pub script : Script
 script = record { gates = 3; shards = 1; requests = tx ∷ ty ∷ tz ∷ []; phases = []; steps = None }
 
-abbrev read-u : Got
+abbrev pub read-u : Got
 read-u = record { op = 1; state = Some (record { props = []; edges = [] }) }
 
 abbrev x-verdict : Verdict
@@ -113,7 +113,8 @@ abbrev x-message : Message
 x-message = record { request = Some 0; stamp = x; low = clock 1 0 1; parts = record { vertex = u; before = 0; ops = x-ops } ∷ [] }
 
 abbrev y-message : Message
-y-message = record { request = Some 1; stamp = y; low = clock 0 1 0; parts = record { vertex = u; before = 1; ops = Get u ∷ [] } ∷ record { vertex = v; before = 0; ops = Create v ∷ [] } ∷ [] }
+y-message =
+    record { request = Some 1; stamp = y; low = clock 0 1 0; parts = record { vertex = u; before = 1; ops = Get u ∷ [] } ∷ record { vertex = v; before = 0; ops = Create v ∷ [] } ∷ [] }
 
 abbrev hears-z : GateEntry
 hears-z = record { author = 0; deed = Heard (clock 0 0 1) }
@@ -136,13 +137,13 @@ begins-z = record { author = 0; deed = BeganTx 2 z }
 abbrev sends-z : GateEntry
 sends-z = record { author = 0; deed = Sent 2 [] }
 
-abbrev judges-x : StoreEntry
+abbrev pub judges-x : StoreEntry
 judges-x = record { author = 0; deed = Judged 0 x x-ops [] x-verdict }
 
-abbrev judges-y : StoreEntry
+abbrev pub judges-y : StoreEntry
 judges-y = record { author = 0; deed = Judged 1 y y-ops (u ∷ []) y-verdict }
 
-abbrev judges-z : StoreEntry
+abbrev pub judges-z : StoreEntry
 judges-z = record { author = 0; deed = Judged 2 z z-ops (v ∷ []) (Conflict v 1) }
 
 abbrev settles : OracleEntry
@@ -159,9 +160,6 @@ account = record {
   shards = [] ∷ [];
   sessions = (session-entry 0 x ∷ []) ∷ (session-entry 1 y ∷ []) ∷ (session-entry 2 z ∷ []) ∷ [];
 }
-
-in-one : {A : Type 0} (x : A) → Contains (x ∷ []) x
-in-one x = has_head x []
 
 -- Gatekeepers
 
@@ -181,17 +179,31 @@ fits (suc (suc zero)) =
     (record { alone = refl; begun = record { last = None; eight = λ x e. cc; is = refl } })
     (record { stamp = z; flight = refl; ops = z-ops; verdict = Conflict v 1; counts = tt; messages_are = refl })
 
-begins : (home : ℕ) → AtEachEntry (λ before (entry : GateEntry). BeginsAs script account home before entry.deed) (gate_log account home)
+begins : (home : ℕ)
+    → AtEachEntry (λ before (entry : GateEntry). BeginsAs script account home before entry.deed) (gate_log account home)
 begins (suc (suc (suc home))) = each_none _
-begins zero = three (λ before (entry : GateEntry). BeginsAs script account 0 before entry.deed) hears-z begins-x sends-x tt (record { own = refl; small = refl; stamp_is = refl; hears_no_more = λ x e. cc }) tt
-begins (suc zero) = two (λ before (entry : GateEntry). BeginsAs script account 1 before entry.deed) begins-y sends-y (record { own = refl; small = refl; stamp_is = refl; hears_no_more = λ x e. cc }) tt
-begins (suc (suc zero)) = two (λ before (entry : GateEntry). BeginsAs script account 2 before entry.deed) begins-z sends-z (record { own = refl; small = refl; stamp_is = refl; hears_no_more = λ x e. cc }) tt
+begins zero =
+    three (λ before (entry : GateEntry). BeginsAs script account 0 before entry.deed) hears-z begins-x sends-x tt
+    (record { own = refl; small = refl; stamp_is = refl; hears_no_more = λ x e. cc }) tt
+begins (suc zero) =
+    two (λ before (entry : GateEntry). BeginsAs script account 1 before entry.deed) begins-y sends-y
+    (record { own = refl; small = refl; stamp_is = refl; hears_no_more = λ x e. cc }) tt
+begins (suc (suc zero)) =
+    two (λ before (entry : GateEntry). BeginsAs script account 2 before entry.deed) begins-z sends-z
+    (record { own = refl; small = refl; stamp_is = refl; hears_no_more = λ x e. cc }) tt
 
-sends : (home : ℕ) → AtEachEntry (λ before (entry : GateEntry). SendsAs account 1 before entry.author entry.deed) (gate_log account home)
+sends : (home : ℕ)
+    → AtEachEntry (λ before (entry : GateEntry). SendsAs account 1 before entry.author entry.deed) (gate_log account home)
 sends (suc (suc (suc home))) = each_none _
-sends zero = three (λ before (entry : GateEntry). SendsAs account 1 before entry.author entry.deed) hears-z begins-x sends-x tt tt (record { judged = judged_by 0 judges-x.deed; is_judged = (0, omega arith, refl); request_is = refl; author_is = refl; messages_are = refl })
-sends (suc zero) = two (λ before (entry : GateEntry). SendsAs account 1 before entry.author entry.deed) begins-y sends-y tt (record { judged = judged_by 0 judges-y.deed; is_judged = (1, omega arith, refl); request_is = refl; author_is = refl; messages_are = refl })
-sends (suc (suc zero)) = two (λ before (entry : GateEntry). SendsAs account 1 before entry.author entry.deed) begins-z sends-z tt (record { judged = judged_by 0 judges-z.deed; is_judged = (2, omega arith, refl); request_is = refl; author_is = refl; messages_are = refl })
+sends zero =
+    three (λ before (entry : GateEntry). SendsAs account 1 before entry.author entry.deed) hears-z begins-x sends-x tt tt
+    (record { judged = judged_by 0 judges-x.deed; is_judged = (0, omega arith, refl); request_is = refl; messages_are = refl })
+sends (suc zero) =
+    two (λ before (entry : GateEntry). SendsAs account 1 before entry.author entry.deed) begins-y sends-y tt
+    (record { judged = judged_by 0 judges-y.deed; is_judged = (1, omega arith, refl); request_is = refl; messages_are = refl })
+sends (suc (suc zero)) =
+    two (λ before (entry : GateEntry). SendsAs account 1 before entry.author entry.deed) begins-z sends-z tt
+    (record { judged = judged_by 0 judges-z.deed; is_judged = (2, omega arith, refl); request_is = refl; messages_are = refl })
 
 hears : (home : ℕ) → AtEachEntry (λ before (entry : GateEntry). HearsAs home before entry.deed) (gate_log account home)
 hears (suc (suc (suc home))) = each_none _
@@ -214,14 +226,15 @@ commit-x = record { request = 0; stamp = x; ops = x-ops }
 abbrev commit-y : Commit
 commit-y = record { request = 1; stamp = y; ops = y-ops }
 
-judges : AtEachEntry (λ before (entry : StoreEntry). Judges script account before (judged_by entry.author entry.deed)) account.store
+judges : AreJudgements script account account.store
 judges =
     three (λ before (entry : StoreEntry). Judges script account before (judged_by entry.author entry.deed)) judges-x judges-y judges-z
     (record { home = 0; begun = in-one _; work = refl; asked = refl; verdict = record { number_is = refl; graph = _; passes = refl; counts_are = refl; after_last = λ w h l e. cc } })
     (record { home = 1; begun = in-one _; work = refl; asked = refl; verdict = record { number_is = refl; graph = _; passes = refl; counts_are = refl; after_last = after } })
     (record { home = 2; begun = in-one _; work = refl; asked = refl; verdict = record { named = refl; last = commit-y; last_is = refl; newer_is = refl; precedes = z-first } })
   where
-    after : (w : Name) → IsTrue (is_among (u ∷ v ∷ []) w) → ForSome (last_naming w (commit-x ∷ [])) (λ (last : Commit). Precedence account last.stamp y)
+    after : (w : Name) → IsTrue (is_among (u ∷ v ∷ []) w)
+        → ForSome (last_naming w (commit-x ∷ [])) (λ (last : Commit). Precedence account last.stamp y)
     after w named l e =
         let found = find_has (names_vertex w) (commit-x ∷ []) l e in
         let is = only commit-x l found.0 in
@@ -252,7 +265,8 @@ asked entry h = subst (λ (e : OracleEntry). IsAskedByCommit account (settled_en
 placed : placed_pairs account ≡ record { vertex = u; earlier = 0; later = 1 } ∷ []
 placed = refl
 
-none-marked : (shard : ℕ) (visit : Visit) → Contains (visits_of (shard_log account shard)) visit → IsTrue visit.settled → HasItsEntry account (shard_log account shard) visit
+none-marked : (shard : ℕ) (visit : Visit) → Contains (visits_of (shard_log account shard)) visit → IsTrue visit.settled
+    → HasItsEntry account (shard_log account shard) visit
 none-marked zero visit h marked = absurd (has_none visit h)
 none-marked (suc shard) visit h marked = absurd (has_none visit h)
 
@@ -264,41 +278,47 @@ all-change (suc zero) request e = let same : ty ≡ request = cc in ap (λ (q : 
 all-change (suc (suc zero)) request e = let same : tz ≡ request = cc in ap (λ (q : Request). is_look q.work) (sym same)
 all-change (suc (suc (suc r))) request e = cc
 
-finished-replied : (r : ℕ) (request : Request) → request_at script r ≡ Some request → IsTrue (is_look request.work) → IsTrue (is_ended account r) → IsTrue (has_reply_in r (session_log account request.session))
+finished-replied : (r : ℕ) (request : Request) → request_at script r ≡ Some request → IsTrue (is_look request.work)
+    → IsTrue (is_ended account r) → IsTrue (has_reply_in r (session_log account request.session))
 finished-replied r request e look done = absurd (both_ways _ (all-change r request e) look)
 
-no-program : (r : ℕ) (request : Request) (program : Program) → request_at script r ≡ Some request → request.work ≡ Look program → ReadsInTurn (reads_of account r) program (IsTrue (is_ended account r))
+no-program : (r : ℕ) (request : Request) (program : Program) → request_at script r ≡ Some request → request.work ≡ Look program
+    → ReadsInTurn (reads_of account r) program (IsTrue (is_ended account r))
 no-program r request program e w = absurd (both_ways _ (all-change r request e) (ap is_look w))
 
 -- Sessions
 
-session-fits : (number : ℕ) → AtEachEntry (λ before (entry : SessionEntry). (entry.author ≡ number) × FitsSession (session_of (requests_of_session script number) before) entry.deed) (session_log account number)
+session-fits : (number : ℕ)
+    → AtEachEntry (λ before (entry : SessionEntry). (entry.author ≡ number) × FitsSession (session_of (requests_of_session script number) before) entry.deed) (session_log account number)
 session-fits (suc (suc (suc number))) = each_none _
-session-fits zero = one (λ before (entry : SessionEntry). (entry.author ≡ 0) × FitsSession (session_of (requests_of_session script 0) before) entry.deed) (session-entry 0 x) (refl, record { replied = refl; next = refl; rises = λ x e. cc })
-session-fits (suc zero) = one (λ before (entry : SessionEntry). (entry.author ≡ 1) × FitsSession (session_of (requests_of_session script 1) before) entry.deed) (session-entry 1 y) (refl, record { replied = refl; next = refl; rises = λ x e. cc })
-session-fits (suc (suc zero)) = one (λ before (entry : SessionEntry). (entry.author ≡ 2) × FitsSession (session_of (requests_of_session script 2) before) entry.deed) (session-entry 2 z) (refl, record { replied = refl; next = refl; rises = λ x e. cc })
+session-fits zero =
+    one (λ before (entry : SessionEntry). (entry.author ≡ 0) × FitsSession (session_of (requests_of_session script 0) before) entry.deed)
+    (session-entry 0 x) (refl, record { replied = refl; next = refl; rises = λ x e. cc })
+session-fits (suc zero) =
+    one (λ before (entry : SessionEntry). (entry.author ≡ 1) × FitsSession (session_of (requests_of_session script 1) before) entry.deed)
+    (session-entry 1 y) (refl, record { replied = refl; next = refl; rises = λ x e. cc })
+session-fits (suc (suc zero)) =
+    one (λ before (entry : SessionEntry). (entry.author ≡ 2) × FitsSession (session_of (requests_of_session script 2) before) entry.deed)
+    (session-entry 2 z) (refl, record { replied = refl; next = refl; rises = λ x e. cc })
 
-session-replies : (number : ℕ) → AtEachEntry (λ before (entry : SessionEntry). RepliesAs account entry.deed) (session_log account number)
+session-replies : (number : ℕ)
+    → AtEachEntry (λ before (entry : SessionEntry). RepliesAs account entry.deed) (session_log account number)
 session-replies (suc (suc (suc number))) = each_none _
 session-replies zero = one (λ before (entry : SessionEntry). RepliesAs account entry.deed) (session-entry 0 x) tt
 session-replies (suc zero) = one (λ before (entry : SessionEntry). RepliesAs account entry.deed) (session-entry 1 y) tt
 session-replies (suc (suc zero)) = one (λ before (entry : SessionEntry). RepliesAs account entry.deed) (session-entry 2 z) tt
 
-session-stamps : (r : ℕ) (request : Request) → request_at script r ≡ Some request → session_stamp_of r (session_log account request.session) ≡ stamp_of account r
-session-stamps zero request e = let same : tx ≡ request = cc in subst (λ (q : Request). session_stamp_of 0 (session_log account q.session) ≡ stamp_of account 0) same refl
-session-stamps (suc zero) request e = let same : ty ≡ request = cc in subst (λ (q : Request). session_stamp_of 1 (session_log account q.session) ≡ stamp_of account 1) same refl
-session-stamps (suc (suc zero)) request e = let same : tz ≡ request = cc in subst (λ (q : Request). session_stamp_of 2 (session_log account q.session) ≡ stamp_of account 2) same refl
+session-stamps : (r : ℕ) (request : Request) → request_at script r ≡ Some request
+    → session_stamp_of r (session_log account request.session) ≡ stamp_of account r
+session-stamps zero request e =
+    let same : tx ≡ request = cc in subst (λ (q : Request). session_stamp_of 0 (session_log account q.session) ≡ stamp_of account 0) same refl
+session-stamps (suc zero) request e =
+    let same : ty ≡ request = cc in subst (λ (q : Request). session_stamp_of 1 (session_log account q.session) ≡ stamp_of account 1) same refl
+session-stamps (suc (suc zero)) request e =
+    let same : tz ≡ request = cc in subst (λ (q : Request). session_stamp_of 2 (session_log account q.session) ≡ stamp_of account 2) same refl
 session-stamps (suc (suc (suc r))) request e = cc
 
 -- Clocks
-
-zeros : (home : ℕ) → get_or {A = ℕ} (0 ∷ 0 ∷ 0 ∷ 0 ∷ 0 ∷ []) home 0 ≡ 0
-zeros zero = refl
-zeros (suc zero) = refl
-zeros (suc (suc zero)) = refl
-zeros (suc (suc (suc zero))) = refl
-zeros (suc (suc (suc (suc zero)))) = refl
-zeros (suc (suc (suc (suc (suc home))))) = refl
 
 clock-known : (a b c : ℕ) → a ≤ 1 → b ≤ 1 → c ≤ 1 → IsKnown account (clock a b c)
 clock-known a b c la lb lc = record { eight = refl; counts = at; raised = λ differ. absurd (differ refl) }
@@ -307,21 +327,26 @@ clock-known a b c la lb lc = record { eight = refl; counts = at; raised = λ dif
     at zero = la
     at (suc zero) = lb
     at (suc (suc zero)) = lc
-    at (suc (suc (suc home))) = let e : count_of (suc (suc (suc home))) (clock a b c) ≡ 0 = zeros home in omega (arith, e)
+    at (suc (suc (suc home))) = let e : count_of (suc (suc (suc home))) (clock a b c) ≡ 0 = zeros 5 home in omega (arith, e)
 
 known : (home : ℕ) (c : Clock) → Contains (clocks_in (gate_log account home)) c → IsKnown account c
 known (suc (suc (suc home))) c h = absurd (has_none c h)
-known zero c h = of-each (IsKnown account) (clock 0 0 1 ∷ clock 1 0 1 ∷ clock 1 0 1 ∷ clock 1 0 1 ∷ []) (clock-known 0 0 1 (omega arith) (omega arith) (omega arith), (first, (first, (first, tt)))) c h
+known zero c h =
+    of-each (IsKnown account) (clock 0 0 1 ∷ clock 1 0 1 ∷ clock 1 0 1 ∷ clock 1 0 1 ∷ [])
+    (clock-known 0 0 1 (omega arith) (omega arith) (omega arith), (first, (first, (first, tt)))) c h
   where
     first : IsKnown account (clock 1 0 1)
     first = clock-known 1 0 1 (omega arith) (omega arith) (omega arith)
-known (suc zero) c h = of-each (IsKnown account) (clock 0 1 0 ∷ clock 0 1 0 ∷ clock 0 1 0 ∷ []) (second, (second, (second, tt))) c h
+known (suc zero) c h =
+    of-each (IsKnown account) (clock 0 1 0 ∷ clock 0 1 0 ∷ clock 0 1 0 ∷ []) (second, (second, (second, tt))) c h
   where
     second : IsKnown account (clock 0 1 0)
     second = clock-known 0 1 0 (omega arith) (omega arith) (omega arith)
-known (suc (suc zero)) c h = of-each (IsKnown account) (clock 0 0 1 ∷ []) (clock-known 0 0 1 (omega arith) (omega arith) (omega arith), tt) c h
+known (suc (suc zero)) c h =
+    of-each (IsKnown account) (clock 0 0 1 ∷ []) (clock-known 0 0 1 (omega arith) (omega arith) (omega arith), tt) c h
 
-deeds : (shard : ℕ) → AtEachEntry (λ before (entry : ShardEntry). ShardFitsAs script account shard before entry.deed) (shard_log account shard)
+deeds : (shard : ℕ)
+    → AreShardDeeds script account shard (shard_log account shard)
 deeds zero = each_none _
 deeds (suc shard) = each_none _
 

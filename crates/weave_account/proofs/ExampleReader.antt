@@ -1,7 +1,8 @@
--- A worked account: a transaction creates v and is sent, a program of the same session begins, an empty message follows, and the program reads v.
-use Rattle.std.proofs.Common.{◌≡◌, ◌≢◌, ℕ, zero, suc, ◌≤◌, false, [], ◌∷◌, get_or, Contains, IsTrue, Some, None, refl, ap, subst, ◌∙◌, arith}
+-- A worked account: a transaction creates v and is sent, a program of the same session begins, an empty message
+-- follows, and the program reads v. The shard then collects below the low mark of the empty message.
+use Rattle.std.proofs.Common.{◌≡◌, ◌≢◌, ℕ, zero, suc, ◌≤◌, false, [], ◌∷◌, Contains, IsTrue, Some, None, refl, ap, subst, ◌∙◌, arith}
 use Rattle.std.specs.Prelude.{codes}
-use Rattle.proof_base.proofs.Members.{has_head, has_none}
+use Rattle.proof_base.proofs.Members.{has_none}
 use Rattle.vector_stamp.specs.declared.clock.Clock.{Clock}
 use Rattle.vector_stamp.specs.declared.clock.Stamp.{Stamp}
 use Rattle.vector_stamp.specs.Order.{count_of, stamp_before}
@@ -21,7 +22,7 @@ use Rattle.weave_entries.specs.declared.message.Message.{Message}
 use Rattle.weave_entries.specs.declared.store_log.StoreEntry.{StoreEntry}
 use Rattle.weave_entries.specs.declared.store_log.StoreDeed.TheVariants.{Judged}
 use Rattle.weave_entries.specs.declared.shard_log.ShardEntry.{ShardEntry}
-use Rattle.weave_entries.specs.declared.shard_log.ShardDeed.TheVariants.{Arrived, Applied, Visited}
+use Rattle.weave_entries.specs.declared.shard_log.ShardDeed.TheVariants.{Arrived, Applied, Visited, Collected}
 use Rattle.weave_entries.specs.declared.session_log.SessionEntry.{SessionEntry}
 use Rattle.weave_entries.specs.declared.session_log.SessionDeed.TheVariants as session
 use Rattle.weave_entries.specs.declared.verdict.Verdict.TheVariants.{Committed}
@@ -34,9 +35,9 @@ use Rattle.weave_account.specs.Gatekeepers.{BeginsAs}
 use Rattle.weave_account.specs.Clocks.{IsKnown}
 use Rattle.weave_account.specs.Sessions.{requests_of_session, RepliesAs}
 use Rattle.weave_account.specs.IsAccount.{IsAccount}
-use Rattle.weave_account.specs.Store.{Judges, InTurn}
+use Rattle.weave_account.specs.Store.{AreJudgements, InTurn}
 use Rattle.weave_account.specs.Channels.{SendsAs}
-use Rattle.weave_account.specs.Shards.{ShardFitsAs}
+use Rattle.weave_account.specs.Shards.{AreShardDeeds, ShardFitsAs}
 use Rattle.weave_account.specs.Programs.{ReadsInTurn}
 use Rattle.weave_entries.specs.SessionReplay.{FitsSession, session_of, session_stamp_of}
 use Rattle.weave_entries.specs.StoreReplay.{Judgement, judged_by}
@@ -49,7 +50,7 @@ use Rattle.weave_entries.specs.SessionReplay.{has_reply_in}
 use Rattle.weave_entries.specs.ShardReplay.{Visit, visits_of}
 use Rattle.weave_account.specs.Account.{is_ended, reads_of}
 use Rattle.weave_account.specs.Oracle.{HasItsEntry}
-use Rattle.weave_account.proofs.ExampleLists.{four, five, of-each, pairs-one, pairs-two}
+use Rattle.weave_account.proofs.ExampleLists.{five, four, in-one, of-each, pairs-one, pairs-two, six, zeros}
 use Rattle.weave_entries.specs.GateReplay.{clocks_in}
 use Rattle.std.proofs.Common.{sym}
 
@@ -72,7 +73,8 @@ script = record {
 }
 
 abbrev pub sent : Message
-sent = record { request = Some 0; stamp = stamp 1; low = clock 1; parts = record { vertex = v; before = 0; ops = Create v ∷ [] } ∷ [] }
+sent =
+    record { request = Some 0; stamp = stamp 1; low = clock 1; parts = record { vertex = v; before = 0; ops = Create v ∷ [] } ∷ [] }
 
 abbrev pub empty : Message
 empty = record { request = None; stamp = stamp 3; low = clock 2; parts = [] }
@@ -93,7 +95,8 @@ abbrev pub g5 : GateEntry
 g5 = record { author = 0; deed = Finished 1 }
 
 abbrev pub judged : StoreEntry
-judged = record { author = 0; deed = Judged 0 (stamp 1) (Create v ∷ []) [] (Committed 1 [] (record { vertex = v; before = 0 } ∷ [])) }
+judged =
+    record { author = 0; deed = Judged 0 (stamp 1) (Create v ∷ []) [] (Committed 1 [] (record { vertex = v; before = 0 } ∷ [])) }
 
 abbrev pub s1 : ShardEntry
 s1 = record { author = 0; deed = Arrived 0 1 sent }
@@ -106,6 +109,12 @@ s3 = record { author = 0; deed = Arrived 0 2 empty }
 
 abbrev pub s4 : ShardEntry
 s4 = record { author = 0; deed = Visited 1 (stamp 2) v 1 false }
+
+abbrev pub s5 : ShardEntry
+s5 = record { author = 0; deed = Applied 0 2 }
+
+abbrev pub s6 : ShardEntry
+s6 = record { author = 0; deed = Collected (Some (clock 2)) }
 
 abbrev pub b1 : SessionEntry
 b1 = record { author = 0; deed = session.Begun 0 (stamp 1) }
@@ -124,12 +133,9 @@ account = record {
   gates = (g1 ∷ g2 ∷ g3 ∷ g4 ∷ g5 ∷ []) ∷ [];
   store = judged ∷ [];
   oracle = [];
-  shards = (s1 ∷ s2 ∷ s3 ∷ s4 ∷ []) ∷ [];
+  shards = (s1 ∷ s2 ∷ s3 ∷ s4 ∷ s5 ∷ s6 ∷ []) ∷ [];
   sessions = (b1 ∷ b2 ∷ b3 ∷ b4 ∷ []) ∷ [];
 }
-
-in-one : {A : Type 0} (x : A) → Contains (x ∷ []) x
-in-one x = has_head x []
 
 -- Each log of gatekeeper 0
 
@@ -143,7 +149,8 @@ fits zero =
     (record { alone = refl; shard_is = omega arith; stamp_is = refl; number_is = refl; low_is = refl })
     refl
 
-begins : (home : ℕ) → AtEachEntry (λ before (entry : GateEntry). BeginsAs script account home before entry.deed) (gate_log account home)
+begins : (home : ℕ)
+    → AtEachEntry (λ before (entry : GateEntry). BeginsAs script account home before entry.deed) (gate_log account home)
 begins (suc home) = each_none _
 begins zero =
     five (λ before (entry : GateEntry). BeginsAs script account 0 before entry.deed) g1 g2 g3 g4 g5
@@ -153,19 +160,20 @@ begins zero =
     tt
     tt
 
-sends : (home : ℕ) → AtEachEntry (λ before (entry : GateEntry). SendsAs account 1 before entry.author entry.deed) (gate_log account home)
+sends : (home : ℕ)
+    → AtEachEntry (λ before (entry : GateEntry). SendsAs account 1 before entry.author entry.deed) (gate_log account home)
 sends (suc home) = each_none _
 sends zero =
     five (λ before (entry : GateEntry). SendsAs account 1 before entry.author entry.deed) g1 g2 g3 g4 g5
     tt
-    (record { judged = judged_by 0 judged.deed; is_judged = in-one _; request_is = refl; author_is = refl; messages_are = refl })
+    (record { judged = judged_by 0 judged.deed; is_judged = in-one _; request_is = refl; messages_are = refl })
     tt
     tt
     tt
 
 -- The store
 
-judges : AtEachEntry (λ before (entry : StoreEntry). Judges script account before (judged_by entry.author entry.deed)) account.store
+judges : AreJudgements script account account.store
 judges =
     each_push _ [] judged (each_none _)
     (record {
@@ -181,10 +189,11 @@ judges =
 two-sent : Contains (addressed_to 0 (gate_log account 0)) (record { shard = 0; number = 2; message = empty })
 two-sent = (1, omega arith, refl)
 
-deeds : (shard : ℕ) → AtEachEntry (λ before (entry : ShardEntry). ShardFitsAs script account shard before entry.deed) (shard_log account shard)
+deeds : (shard : ℕ)
+    → AreShardDeeds script account shard (shard_log account shard)
 deeds (suc shard) = each_none _
 deeds zero =
-    four (λ before (entry : ShardEntry). ShardFitsAs script account 0 before entry.deed) s1 s2 s3 s4
+    six (λ before (entry : ShardEntry). ShardFitsAs script account 0 before entry.deed) s1 s2 s3 s4 s5 s6
     (record { sent = (0, omega arith, refl); new = refl })
     (record { number_is = refl; message = sent; head = refl; in_turn = refl })
     (record { sent = two-sent; new = refl })
@@ -198,10 +207,13 @@ deeds zero =
       after_seen = λ some u e. (let same : record { stamp = stamp 1; ops = Create v ∷ [] } ≡ u = cc in subst (λ (k : Update). Precedence account k.stamp (stamp 2)) same (ByStamps (stamp 1) (stamp 2) refl));
       before_skipped = λ u e. cc;
     })
+    (record { number_is = refl; message = empty; head = refl; in_turn = refl })
+    refl
 
 -- The sessions
 
-session-fits : (number : ℕ) → AtEachEntry (λ before (entry : SessionEntry). (entry.author ≡ number) × FitsSession (session_of (requests_of_session script number) before) entry.deed) (session_log account number)
+session-fits : (number : ℕ)
+    → AtEachEntry (λ before (entry : SessionEntry). (entry.author ≡ number) × FitsSession (session_of (requests_of_session script number) before) entry.deed) (session_log account number)
 session-fits (suc number) = each_none _
 session-fits zero =
     four (λ before (entry : SessionEntry). (entry.author ≡ 0) × FitsSession (session_of (requests_of_session script 0) before) entry.deed) b1 b2 b3 b4
@@ -210,33 +222,27 @@ session-fits zero =
     (refl, record { replied = refl; next = refl; rises = λ x e. (let same : stamp 1 ≡ x = cc in subst (λ (s : Stamp). IsTrue (stamp_before s (stamp 2))) same refl) })
     (refl, record { waits = refl; last = refl })
 
-session-replies : (number : ℕ) → AtEachEntry (λ before (entry : SessionEntry). RepliesAs account entry.deed) (session_log account number)
+session-replies : (number : ℕ)
+    → AtEachEntry (λ before (entry : SessionEntry). RepliesAs account entry.deed) (session_log account number)
 session-replies (suc number) = each_none _
 session-replies zero = four (λ before (entry : SessionEntry). RepliesAs account entry.deed) b1 b2 b3 b4 tt refl tt refl
 
-session-stamps : (r : ℕ) (request : Request) → request_at script r ≡ Some request → session_stamp_of r (session_log account request.session) ≡ stamp_of account r
-session-stamps zero request e = let same : record { name = codes "t1"; session = 0; gate = 0; work = Change (Create v ∷ []) } ≡ request = cc in subst (λ (q : Request). session_stamp_of 0 (session_log account q.session) ≡ stamp_of account 0) same refl
-session-stamps (suc zero) request e = let same : record { name = codes "p"; session = 0; gate = 0; work = Look (Show v) } ≡ request = cc in subst (λ (q : Request). session_stamp_of 1 (session_log account q.session) ≡ stamp_of account 1) same refl
+session-stamps : (r : ℕ) (request : Request) → request_at script r ≡ Some request
+    → session_stamp_of r (session_log account request.session) ≡ stamp_of account r
+session-stamps zero request e =
+    let same : record { name = codes "t1"; session = 0; gate = 0; work = Change (Create v ∷ []) } ≡ request = cc in subst (λ (q : Request). session_stamp_of 0 (session_log account q.session) ≡ stamp_of account 0) same refl
+session-stamps (suc zero) request e =
+    let same : record { name = codes "p"; session = 0; gate = 0; work = Look (Show v) } ≡ request = cc in subst (λ (q : Request). session_stamp_of 1 (session_log account q.session) ≡ stamp_of account 1) same refl
 session-stamps (suc (suc r)) request e = cc
 
 -- Clocks
-
-zeros : (home : ℕ) → get_or {A = ℕ} (0 ∷ 0 ∷ 0 ∷ 0 ∷ 0 ∷ 0 ∷ 0 ∷ []) home 0 ≡ 0
-zeros zero = refl
-zeros (suc zero) = refl
-zeros (suc (suc zero)) = refl
-zeros (suc (suc (suc zero))) = refl
-zeros (suc (suc (suc (suc zero)))) = refl
-zeros (suc (suc (suc (suc (suc zero))))) = refl
-zeros (suc (suc (suc (suc (suc (suc zero)))))) = refl
-zeros (suc (suc (suc (suc (suc (suc (suc home))))))) = refl
 
 clock-known : (n : ℕ) → n ≤ 3 → IsKnown account (clock n)
 clock-known n le = record { eight = refl; counts = at; raised = λ differ. absurd (differ refl) }
   where
     at : (home : ℕ) → count_of home (clock n) ≤ ticks_of 0 (gate_log account home)
     at zero = le
-    at (suc home) = let e : count_of (suc home) (clock n) ≡ 0 = zeros home in omega (arith, e)
+    at (suc home) = let e : count_of (suc home) (clock n) ≡ 0 = zeros 7 home in omega (arith, e)
 
 known : (home : ℕ) (c : Clock) → Contains (clocks_in (gate_log account home)) c → IsKnown account c
 known (suc home) c h = absurd (has_none c h)
@@ -250,7 +256,8 @@ hears zero = five (λ before (entry : GateEntry). HearsAs 0 before entry.deed) g
 
 -- Programs
 
-reads-in-turn : (r : ℕ) (request : Request) (program : Program) → request_at script r ≡ Some request → request.work ≡ Look program → ReadsInTurn (reads_of account r) program (IsTrue (is_ended account r))
+reads-in-turn : (r : ℕ) (request : Request) (program : Program) → request_at script r ≡ Some request → request.work ≡ Look program
+    → ReadsInTurn (reads_of account r) program (IsTrue (is_ended account r))
 reads-in-turn zero request program e w =
     let same : record { name = codes "t1"; session = 0; gate = 0; work = Change (Create v ∷ []) } ≡ request = cc in
     let clash : Change (Create v ∷ []) ≡ Look program = ap (λ (q : Request). q.work) same ∙ w in cc
@@ -267,13 +274,18 @@ reads-in-turn (suc (suc r)) request program e w = cc
 
 -- The visit is not marked, and the program has its reply
 
-none-marked : (shard : ℕ) (visit : Visit) → Contains (visits_of (shard_log account shard)) visit → IsTrue visit.settled → HasItsEntry account (shard_log account shard) visit
-none-marked zero visit h marked = let same = only (record { author = 0; request = 1; stamp = stamp 2; vertex = v; updates = 1; settled = false }) visit h in let clash : IsTrue false = subst (λ (w : Visit). IsTrue w.settled) (sym same) marked in cc
+none-marked : (shard : ℕ) (visit : Visit) → Contains (visits_of (shard_log account shard)) visit → IsTrue visit.settled
+    → HasItsEntry account (shard_log account shard) visit
+none-marked zero visit h marked =
+    let same = only (record { author = 0; request = 1; stamp = stamp 2; vertex = v; updates = 1; settled = false }) visit h in let clash : IsTrue false = subst (λ (w : Visit). IsTrue w.settled) (sym same) marked in cc
 none-marked (suc shard) visit h marked = absurd (has_none visit h)
 
-finished-replied : (r : ℕ) (request : Request) → request_at script r ≡ Some request → IsTrue (is_look request.work) → IsTrue (is_ended account r) → IsTrue (has_reply_in r (session_log account request.session))
-finished-replied zero request e look done = let same : record { name = codes "t1"; session = 0; gate = 0; work = Change (Create v ∷ []) } ≡ request = cc in let clash : IsTrue (is_look (Change (Create v ∷ []))) = subst (λ (q : Request). IsTrue (is_look q.work)) (sym same) look in cc
-finished-replied (suc zero) request e look done = let same : record { name = codes "p"; session = 0; gate = 0; work = Look (Show v) } ≡ request = cc in subst (λ (q : Request). IsTrue (has_reply_in 1 (session_log account q.session))) same refl
+finished-replied : (r : ℕ) (request : Request) → request_at script r ≡ Some request → IsTrue (is_look request.work)
+    → IsTrue (is_ended account r) → IsTrue (has_reply_in r (session_log account request.session))
+finished-replied zero request e look done =
+    let same : record { name = codes "t1"; session = 0; gate = 0; work = Change (Create v ∷ []) } ≡ request = cc in let clash : IsTrue (is_look (Change (Create v ∷ []))) = subst (λ (q : Request). IsTrue (is_look q.work)) (sym same) look in cc
+finished-replied (suc zero) request e look done =
+    let same : record { name = codes "p"; session = 0; gate = 0; work = Look (Show v) } ≡ request = cc in subst (λ (q : Request). IsTrue (has_reply_in 1 (session_log account q.session))) same refl
 finished-replied (suc (suc r)) request e look done = cc
 
 -- The account

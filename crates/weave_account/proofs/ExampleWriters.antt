@@ -1,8 +1,9 @@
--- A worked account: two transactions at two gatekeepers, unordered by their stamps, on one vertex; the oracle puts the first before the second.
+-- A worked account: two transactions at two gatekeepers, unordered by their stamps, on one vertex; the oracle puts
+-- the first before the second.
 use Rattle.std.proofs.Common.{◌≡◌, ◌≢◌, ℕ, zero, suc, ◌<◌, ◌≤◌, [], ◌∷◌, get_or, Contains, IsTrue, Some, None, inl, inr, refl, sym, ap, subst, ◌∙◌, arith}
 use Rattle.std.specs.Prelude.{codes}
 use Rattle.std.specs.Option.{ForSome}
-use Rattle.proof_base.proofs.Members.{has_head, has_none}
+use Rattle.proof_base.proofs.Members.{has_none}
 use Rattle.vector_stamp.specs.declared.clock.Clock.{Clock}
 use Rattle.vector_stamp.specs.declared.clock.Stamp.{Stamp}
 use Rattle.vector_stamp.specs.Order.{count_of, id_of}
@@ -16,7 +17,6 @@ use Rattle.weave_entries.specs.declared.gate_log.GateDeed.TheVariants.{BeganTx, 
 use Rattle.weave_entries.specs.declared.message.Message.{Message}
 use Rattle.weave_entries.specs.declared.store_log.StoreEntry.{StoreEntry}
 use Rattle.weave_entries.specs.declared.store_log.StoreDeed.TheVariants.{Judged}
-use Rattle.weave_entries.specs.declared.shard_log.ShardEntry.{ShardEntry}
 use Rattle.weave_entries.specs.declared.session_log.SessionEntry.{SessionEntry}
 use Rattle.weave_entries.specs.declared.session_log.SessionDeed.TheVariants as session
 use Rattle.weave_entries.specs.declared.verdict.Verdict.TheVariants.{Committed}
@@ -39,9 +39,9 @@ use Rattle.weave_entries.specs.GateReplay.{Begun, ticks_of}
 use Rattle.weave_account.specs.Clocks.{IsKnown}
 use Rattle.weave_account.specs.Sessions.{requests_of_session, RepliesAs}
 use Rattle.weave_account.specs.IsAccount.{IsAccount}
-use Rattle.weave_account.specs.Store.{Judges, InTurn}
+use Rattle.weave_account.specs.Store.{AreJudgements, Judges, InTurn}
 use Rattle.weave_account.specs.Channels.{SendsAs}
-use Rattle.weave_account.specs.Shards.{ShardFitsAs}
+use Rattle.weave_account.specs.Shards.{AreShardDeeds}
 use Rattle.weave_account.specs.Programs.{ReadsInTurn}
 use Rattle.weave_entries.specs.SessionReplay.{FitsSession, session_of, session_stamp_of}
 use Rattle.program_defs.specs.declared.program.Program.{Program}
@@ -54,7 +54,7 @@ use Rattle.weave_account.specs.Account.{is_ended, reads_of}
 use Rattle.weave_account.specs.Oracle.{HasItsEntry, IsAskedByCommit}
 use Rattle.weave_entries.specs.OracleReplay.{settled_entry}
 use Rattle.weave_entries.specs.declared.oracle_log.OracleEntry.{OracleEntry}
-use Rattle.weave_account.proofs.ExampleLists.{one, two, of-each, pairs-two}
+use Rattle.weave_account.proofs.ExampleLists.{in-one, of-each, one, pairs-two, two, zeros}
 use Rattle.weave_entries.specs.GateReplay.{clocks_in}
 use Rattle.weave_account.specs.PairsByPlace.{placed_pairs}
 
@@ -83,7 +83,8 @@ abbrev pub m1 : Message
 m1 = record { request = Some 0; stamp = x; low = clock 1 0; parts = record { vertex = v; before = 0; ops = Create v ∷ [] } ∷ [] }
 
 abbrev pub m2 : Message
-m2 = record { request = Some 1; stamp = y; low = clock 0 1; parts = record { vertex = v; before = 1; ops = Set v (codes "k") (codes "x") ∷ [] } ∷ [] }
+m2 =
+    record { request = Some 1; stamp = y; low = clock 0 1; parts = record { vertex = v; before = 1; ops = Set v (codes "k") (codes "x") ∷ [] } ∷ [] }
 
 abbrev pub g1 : GateEntry
 g1 = record { author = 0; deed = BeganTx 0 x }
@@ -101,7 +102,8 @@ abbrev pub j1 : StoreEntry
 j1 = record { author = 0; deed = Judged 0 x (Create v ∷ []) [] (Committed 1 [] (record { vertex = v; before = 0 } ∷ [])) }
 
 abbrev pub j2 : StoreEntry
-j2 = record { author = 0; deed = Judged 1 y (Set v (codes "k") (codes "x") ∷ []) (v ∷ []) (Committed 2 [] (record { vertex = v; before = 1 } ∷ [])) }
+j2 =
+    record { author = 0; deed = Judged 1 y (Set v (codes "k") (codes "x") ∷ []) (v ∷ []) (Committed 2 [] (record { vertex = v; before = 1 } ∷ [])) }
 
 abbrev pub b1 : SessionEntry
 b1 = record { author = 0; deed = session.Begun 0 x }
@@ -118,9 +120,6 @@ account = record {
   sessions = (b1 ∷ []) ∷ (b2 ∷ []) ∷ [];
 }
 
-in-one : {A : Type 0} (x : A) → Contains (x ∷ []) x
-in-one x = has_head x []
-
 -- Gatekeepers
 
 fits : (home : ℕ) → IsGateLog home 1 (gate_log account home)
@@ -134,15 +133,25 @@ fits (suc zero) =
     (record { alone = refl; begun = record { last = None; eight = λ x e. cc; is = refl } })
     (record { stamp = y; flight = refl; ops = Set v (codes "k") (codes "x") ∷ []; verdict = Committed 2 [] (record { vertex = v; before = 1 } ∷ []); counts = refl; messages_are = refl })
 
-begins : (home : ℕ) → AtEachEntry (λ before (entry : GateEntry). BeginsAs script account home before entry.deed) (gate_log account home)
+begins : (home : ℕ)
+    → AtEachEntry (λ before (entry : GateEntry). BeginsAs script account home before entry.deed) (gate_log account home)
 begins (suc (suc home)) = each_none _
-begins zero = two (λ before (entry : GateEntry). BeginsAs script account 0 before entry.deed) g1 g2 (record { own = refl; small = refl; stamp_is = refl; hears_no_more = λ x e. cc }) tt
-begins (suc zero) = two (λ before (entry : GateEntry). BeginsAs script account 1 before entry.deed) h1 h2 (record { own = refl; small = refl; stamp_is = refl; hears_no_more = λ x e. cc }) tt
+begins zero =
+    two (λ before (entry : GateEntry). BeginsAs script account 0 before entry.deed) g1 g2
+    (record { own = refl; small = refl; stamp_is = refl; hears_no_more = λ x e. cc }) tt
+begins (suc zero) =
+    two (λ before (entry : GateEntry). BeginsAs script account 1 before entry.deed) h1 h2
+    (record { own = refl; small = refl; stamp_is = refl; hears_no_more = λ x e. cc }) tt
 
-sends : (home : ℕ) → AtEachEntry (λ before (entry : GateEntry). SendsAs account 1 before entry.author entry.deed) (gate_log account home)
+sends : (home : ℕ)
+    → AtEachEntry (λ before (entry : GateEntry). SendsAs account 1 before entry.author entry.deed) (gate_log account home)
 sends (suc (suc home)) = each_none _
-sends zero = two (λ before (entry : GateEntry). SendsAs account 1 before entry.author entry.deed) g1 g2 tt (record { judged = judged_by 0 j1.deed; is_judged = (0, omega arith, refl); request_is = refl; author_is = refl; messages_are = refl })
-sends (suc zero) = two (λ before (entry : GateEntry). SendsAs account 1 before entry.author entry.deed) h1 h2 tt (record { judged = judged_by 0 j2.deed; is_judged = (1, omega arith, refl); request_is = refl; author_is = refl; messages_are = refl })
+sends zero =
+    two (λ before (entry : GateEntry). SendsAs account 1 before entry.author entry.deed) g1 g2 tt
+    (record { judged = judged_by 0 j1.deed; is_judged = (0, omega arith, refl); request_is = refl; messages_are = refl })
+sends (suc zero) =
+    two (λ before (entry : GateEntry). SendsAs account 1 before entry.author entry.deed) h1 h2 tt
+    (record { judged = judged_by 0 j2.deed; is_judged = (1, omega arith, refl); request_is = refl; messages_are = refl })
 
 hears : (home : ℕ) → AtEachEntry (λ before (entry : GateEntry). HearsAs home before entry.deed) (gate_log account home)
 hears (suc (suc home)) = each_none _
@@ -154,17 +163,19 @@ hears (suc zero) = two (λ before (entry : GateEntry). HearsAs 1 before entry.de
 settled : Precedence account x y
 settled = ByPair x y (0, omega arith, refl)
 
-judges : AtEachEntry (λ before (entry : StoreEntry). Judges script account before (judged_by entry.author entry.deed)) account.store
+judges : AreJudgements script account account.store
 judges =
     two (λ before (entry : StoreEntry). Judges script account before (judged_by entry.author entry.deed)) j1 j2
     (record { home = 0; begun = in-one _; work = refl; asked = refl; verdict = record { number_is = refl; graph = _; passes = refl; counts_are = refl; after_last = λ w h l e. cc } })
     (record { home = 1; begun = in-one _; work = refl; asked = refl; verdict = record { number_is = refl; graph = _; passes = refl; counts_are = refl; after_last = after } })
   where
-    after : (w : Name) → IsTrue (is_among (v ∷ []) w) → ForSome (last_naming w (record { request = 0; stamp = x; ops = Create v ∷ [] } ∷ [])) (λ (last : Commit). Precedence account last.stamp y)
+    after : (w : Name) → IsTrue (is_among (v ∷ []) w)
+        → ForSome (last_naming w (record { request = 0; stamp = x; ops = Create v ∷ [] } ∷ [])) (λ (last : Commit). Precedence account last.stamp y)
     after w named l e =
         elim (or_cases (same_name v w) _ named) [
           | inl same ↦
-              let at : last_naming v (record { request = 0; stamp = x; ops = Create v ∷ [] } ∷ []) ≡ Some l = subst (λ k. last_naming k (record { request = 0; stamp = x; ops = Create v ∷ [] } ∷ []) ≡ Some l) (sym (one_name v w same)) e in
+              let at : last_naming v (record { request = 0; stamp = x; ops = Create v ∷ [] } ∷ []) ≡ Some l =
+              subst (λ k. last_naming k (record { request = 0; stamp = x; ops = Create v ∷ [] } ∷ []) ≡ Some l) (sym (one_name v w same)) e in
               let is : record { request = 0; stamp = x; ops = Create v ∷ [] } ≡ l = cc in
               subst (λ (c : Commit). Precedence account c.stamp y) is settled
           | inr none ↦ cc
@@ -179,7 +190,8 @@ oracle-log = (record { others = λ i d lt. (λ e. differ i d lt e); permitted = 
     differ zero d lt e = let h : 0 ≡ 1 = ap (λ (id : EventId). id.home) e in absurd (omega (arith, h))
     differ (suc i) d lt e = absurd (omega (arith, lt))
 
-pair-is : IsPairInAccount account (record { vertex = v; earlier = 0; later = 1 }) (x, y)
+-- the oracle's pair, as a pair of requests
+pub pair-is : IsPairInAccount account (record { vertex = v; earlier = 0; later = 1 }) (x, y)
 pair-is = record {
   earlier_is = refl;
   later_is = refl;
@@ -205,42 +217,46 @@ asked entry h = subst (λ (e : OracleEntry). IsAskedByCommit account (settled_en
   earlier_are = refl;
 })
 
-none-marked : (shard : ℕ) (visit : Visit) → Contains (visits_of (shard_log account shard)) visit → IsTrue visit.settled → HasItsEntry account (shard_log account shard) visit
+none-marked : (shard : ℕ) (visit : Visit) → Contains (visits_of (shard_log account shard)) visit → IsTrue visit.settled
+    → HasItsEntry account (shard_log account shard) visit
 none-marked zero visit h marked = absurd (has_none visit h)
 none-marked (suc shard) visit h marked = absurd (has_none visit h)
 
-finished-replied : (r : ℕ) (request : Request) → request_at script r ≡ Some request → IsTrue (is_look request.work) → IsTrue (is_ended account r) → IsTrue (has_reply_in r (session_log account request.session))
-finished-replied zero request e look done = let same : t1 ≡ request = cc in let clash : IsTrue (is_look t1.work) = subst (λ (q : Request). IsTrue (is_look q.work)) (sym same) look in cc
-finished-replied (suc zero) request e look done = let same : t2 ≡ request = cc in let clash : IsTrue (is_look t2.work) = subst (λ (q : Request). IsTrue (is_look q.work)) (sym same) look in cc
+finished-replied : (r : ℕ) (request : Request) → request_at script r ≡ Some request → IsTrue (is_look request.work)
+    → IsTrue (is_ended account r) → IsTrue (has_reply_in r (session_log account request.session))
+finished-replied zero request e look done =
+    let same : t1 ≡ request = cc in let clash : IsTrue (is_look t1.work) = subst (λ (q : Request). IsTrue (is_look q.work)) (sym same) look in cc
+finished-replied (suc zero) request e look done =
+    let same : t2 ≡ request = cc in let clash : IsTrue (is_look t2.work) = subst (λ (q : Request). IsTrue (is_look q.work)) (sym same) look in cc
 finished-replied (suc (suc r)) request e look done = cc
 
 -- Sessions
 
-session-fits : (number : ℕ) → AtEachEntry (λ before (entry : SessionEntry). (entry.author ≡ number) × FitsSession (session_of (requests_of_session script number) before) entry.deed) (session_log account number)
+session-fits : (number : ℕ)
+    → AtEachEntry (λ before (entry : SessionEntry). (entry.author ≡ number) × FitsSession (session_of (requests_of_session script number) before) entry.deed) (session_log account number)
 session-fits (suc (suc number)) = each_none _
-session-fits zero = one (λ before (entry : SessionEntry). (entry.author ≡ 0) × FitsSession (session_of (requests_of_session script 0) before) entry.deed) b1 (refl, record { replied = refl; next = refl; rises = λ x e. cc })
-session-fits (suc zero) = one (λ before (entry : SessionEntry). (entry.author ≡ 1) × FitsSession (session_of (requests_of_session script 1) before) entry.deed) b2 (refl, record { replied = refl; next = refl; rises = λ x e. cc })
+session-fits zero =
+    one (λ before (entry : SessionEntry). (entry.author ≡ 0) × FitsSession (session_of (requests_of_session script 0) before) entry.deed) b1
+    (refl, record { replied = refl; next = refl; rises = λ x e. cc })
+session-fits (suc zero) =
+    one (λ before (entry : SessionEntry). (entry.author ≡ 1) × FitsSession (session_of (requests_of_session script 1) before) entry.deed) b2
+    (refl, record { replied = refl; next = refl; rises = λ x e. cc })
 
-session-replies : (number : ℕ) → AtEachEntry (λ before (entry : SessionEntry). RepliesAs account entry.deed) (session_log account number)
+session-replies : (number : ℕ)
+    → AtEachEntry (λ before (entry : SessionEntry). RepliesAs account entry.deed) (session_log account number)
 session-replies (suc (suc number)) = each_none _
 session-replies zero = one (λ before (entry : SessionEntry). RepliesAs account entry.deed) b1 tt
 session-replies (suc zero) = one (λ before (entry : SessionEntry). RepliesAs account entry.deed) b2 tt
 
-session-stamps : (r : ℕ) (request : Request) → request_at script r ≡ Some request → session_stamp_of r (session_log account request.session) ≡ stamp_of account r
-session-stamps zero request e = let same : t1 ≡ request = cc in subst (λ (q : Request). session_stamp_of 0 (session_log account q.session) ≡ stamp_of account 0) same refl
-session-stamps (suc zero) request e = let same : t2 ≡ request = cc in subst (λ (q : Request). session_stamp_of 1 (session_log account q.session) ≡ stamp_of account 1) same refl
+session-stamps : (r : ℕ) (request : Request) → request_at script r ≡ Some request
+    → session_stamp_of r (session_log account request.session) ≡ stamp_of account r
+session-stamps zero request e =
+    let same : t1 ≡ request = cc in subst (λ (q : Request). session_stamp_of 0 (session_log account q.session) ≡ stamp_of account 0) same refl
+session-stamps (suc zero) request e =
+    let same : t2 ≡ request = cc in subst (λ (q : Request). session_stamp_of 1 (session_log account q.session) ≡ stamp_of account 1) same refl
 session-stamps (suc (suc r)) request e = cc
 
 -- Clocks
-
-zeros : (home : ℕ) → get_or {A = ℕ} (0 ∷ 0 ∷ 0 ∷ 0 ∷ 0 ∷ 0 ∷ []) home 0 ≡ 0
-zeros zero = refl
-zeros (suc zero) = refl
-zeros (suc (suc zero)) = refl
-zeros (suc (suc (suc zero))) = refl
-zeros (suc (suc (suc (suc zero)))) = refl
-zeros (suc (suc (suc (suc (suc zero))))) = refl
-zeros (suc (suc (suc (suc (suc (suc home)))))) = refl
 
 clock-known : (a b : ℕ) → a ≤ 1 → b ≤ 1 → IsKnown account (clock a b)
 clock-known a b la lb = record { eight = refl; counts = at; raised = λ differ. absurd (differ refl) }
@@ -248,7 +264,7 @@ clock-known a b la lb = record { eight = refl; counts = at; raised = λ differ. 
     at : (home : ℕ) → count_of home (clock a b) ≤ ticks_of 0 (gate_log account home)
     at zero = la
     at (suc zero) = lb
-    at (suc (suc home)) = let e : count_of (suc (suc home)) (clock a b) ≡ 0 = zeros home in omega (arith, e)
+    at (suc (suc home)) = let e : count_of (suc (suc home)) (clock a b) ≡ 0 = zeros 6 home in omega (arith, e)
 
 known : (home : ℕ) (c : Clock) → Contains (clocks_in (gate_log account home)) c → IsKnown account c
 known (suc (suc home)) c h = absurd (has_none c h)
@@ -263,12 +279,16 @@ known (suc zero) c h = of-each (IsKnown account) (clock 0 1 ∷ clock 0 1 ∷ cl
 
 -- There is no program
 
-no-program : (r : ℕ) (request : Request) (program : Program) → request_at script r ≡ Some request → request.work ≡ Look program → ReadsInTurn (reads_of account r) program (IsTrue (is_ended account r))
-no-program zero request program e w = let same : t1 ≡ request = cc in let clash : Change (Create v ∷ []) ≡ Look program = ap (λ (q : Request). q.work) same ∙ w in cc
-no-program (suc zero) request program e w = let same : t2 ≡ request = cc in let clash : Change (Set v (codes "k") (codes "x") ∷ []) ≡ Look program = ap (λ (q : Request). q.work) same ∙ w in cc
+no-program : (r : ℕ) (request : Request) (program : Program) → request_at script r ≡ Some request → request.work ≡ Look program
+    → ReadsInTurn (reads_of account r) program (IsTrue (is_ended account r))
+no-program zero request program e w =
+    let same : t1 ≡ request = cc in let clash : Change (Create v ∷ []) ≡ Look program = ap (λ (q : Request). q.work) same ∙ w in cc
+no-program (suc zero) request program e w =
+    let same : t2 ≡ request = cc in let clash : Change (Set v (codes "k") (codes "x") ∷ []) ≡ Look program = ap (λ (q : Request). q.work) same ∙ w in cc
 no-program (suc (suc r)) request program e w = cc
 
-deeds : (shard : ℕ) → AtEachEntry (λ before (entry : ShardEntry). ShardFitsAs script account shard before entry.deed) (shard_log account shard)
+deeds : (shard : ℕ)
+    → AreShardDeeds script account shard (shard_log account shard)
 deeds zero = each_none _
 deeds (suc shard) = each_none _
 

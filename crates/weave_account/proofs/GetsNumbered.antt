@@ -1,4 +1,5 @@
--- A transaction that passes answers each of its `get`s, in order. It belongs into the crate of report rules, as a law beside `AnswersEachGet`.
+-- A transaction that passes answers each of its `get`s, in order. It belongs into the crate of report rules, as a law
+-- beside `AnswersEachGet`.
 use Rattle.std.proofs.Common.{◌≡◌, ℕ, ◌+◌, Bool, true, false, List, [], ◌∷◌, map, refl, ap, Option, Some, None, Ok, Err}
 use Rattle.std.specs.Prelude.{⊤}
 use Rattle.graph_ops.specs.Operations.{State, Outcome, refused_if, on_vertex, on_edge, applied}
@@ -39,7 +40,8 @@ IsNumbered numbers (Ok passed) = map (λ (answer : Got). answer.op) passed.gots 
 IsNumbered numbers (Err stopped) = ⊤
 
 numbered-quiet : (number : ℕ) (v : Name) (graph : PlainGraph) (ops : List Op) (numbers : List ℕ) (out : Outcome)
-    → IsQuiet out → ((left : PlainGraph) → IsNumbered numbers (run (number + 1) ops left)) → IsNumbered numbers (onward number (in_graph v out graph) (λ left. run (number + 1) ops left))
+    → IsQuiet out → ((left : PlainGraph) → IsNumbered numbers (run (number + 1) ops left))
+    → IsNumbered numbers (onward number (in_graph v out graph) (λ left. run (number + 1) ops left))
 numbered-quiet number v graph ops numbers _ (Refuses reason) rest = tt
 numbered-quiet number v graph ops numbers _ (Changes state) rest = none (run (number + 1) ops (with_state v state graph)) (rest _)
   where
@@ -47,12 +49,14 @@ numbered-quiet number v graph ops numbers _ (Changes state) rest = none (run (nu
     none (Ok passed) h = h
     none (Err stopped) h = h
 
-numbered-get : (number : ℕ) (state : State) (numbers : List ℕ) (o : TxOutcome) → IsNumbered numbers o → IsNumbered (number ∷ numbers) (after (record { op = number; state = state } ∷ []) o)
+numbered-get : (number : ℕ) (state : State) (numbers : List ℕ) (o : TxOutcome) → IsNumbered numbers o
+    → IsNumbered (number ∷ numbers) (after (record { op = number; state = state } ∷ []) o)
 numbered-get number state numbers (Ok passed) h = ap (λ ns. number ∷ ns) h
 numbered-get number state numbers (Err stopped) h = h
 
 -- the answers of a transaction are numbered as its `get`s
-pub gets-numbered : (ops : List Op) (number : ℕ) (graph : PlainGraph) → IsNumbered (numbers_of_gets number ops) (run number ops graph)
+pub gets-numbered : (ops : List Op) (number : ℕ) (graph : PlainGraph)
+    → IsNumbered (numbers_of_gets number ops) (run number ops graph)
 gets-numbered [] number graph = refl
 gets-numbered (Get v ∷ ops) number graph = numbered-get number (graph v) _ _ (gets-numbered ops (number + 1) _)
 gets-numbered (Create v ∷ ops) number graph =

@@ -31,7 +31,8 @@ use Rattle.report_rules.specs.declared.report.Pair.{Pair}
 use Rattle.weave_account.specs.Pairs.{IsAddedByCommit, IsAddedByVisit, IsPairInAccount}
 use Rattle.weave_account.proofs.Beginning.{all-in, begun-stamp}
 use Rattle.proof_base.proofs.Members.{find_has, has_read}
-use Rattle.weave_account.proofs.Members.{flat-has}
+use Rattle.proof_base.proofs.Images.{flat-has}
+use Rattle.proof_base.proofs.Numbers.{has-in, in-has}
 use Rattle.weave_account.proofs.Replying.{place-of}
 use Rattle.vector_stamp.specs.Clocks.{counts_no_more}
 use Rattle.program_defs.specs.declared.script.Work.{Work}
@@ -58,7 +59,6 @@ use Rattle.weave_account.specs.Gatekeepers.{BeginsAs}
 use Rattle.weave_account.specs.Oracle.{IsAskedByCommit}
 use Rattle.weave_account.specs.Sessions.{RepliesAs}
 use Rattle.weave_account.proofs.Beginning.{list-there}
-use Rattle.weave_account.proofs.Members.{has-in, in-has}
 use Rattle.proof_base.proofs.Ends.{by_last, count_push}
 use Rattle.std.proofs.lemmas.List.{append-nil}
 
@@ -81,16 +81,20 @@ module _ (script : Script) (account next : Account) (on : GoesOn account next) w
   -- precedence grows
   pub precedence-stays : (a b : Stamp) → Precedence account a b → Precedence next a b
   precedence-stays a b h =
-      let pairs : pairs_in next ≡ pairs_in account ++ pairs_of_log (on.oracle).0 = ap pairs_of_log (on.oracle).1 ∙ flat_map-append (λ (e : OracleEntry). pairs_of_entry (settled_entry e)) account.oracle (on.oracle).0 in
+      let pairs : pairs_in next ≡ pairs_in account ++ pairs_of_log (on.oracle).0 =
+      ap pairs_of_log (on.oracle).1 ∙ flat_map-append (λ (e : OracleEntry). pairs_of_entry (settled_entry e)) account.oracle (on.oracle).0 in
       subst (λ ps. Precedes ps a b) (sym pairs) (more-precedes (pairs_in account) (pairs_of_log (on.oracle).0) a b h)
 
-  gate-has : {B : Type 0} (f : GateEntry → List B) (home : ℕ) (x : B) → Contains (flat_map f (gate_log account home)) x → Contains (flat_map f (gate_log next home)) x
+  gate-has : {B : Type 0} (f : GateEntry → List B) (home : ℕ) (x : B) → Contains (flat_map f (gate_log account home)) x
+      → Contains (flat_map f (gate_log next home)) x
   gate-has f home x h =
       let more = on.gates home in
-      subst (λ xs. Contains xs x) (sym (ap (flat_map f) more.1 ∙ flat_map-append f (gate_log account home) more.0)) (Contains-append_left (flat_map f (gate_log account home)) (flat_map f more.0) x h)
+      subst (λ xs. Contains xs x) (sym (ap (flat_map f) more.1 ∙ flat_map-append f (gate_log account home) more.0))
+      (Contains-append_left (flat_map f (gate_log account home)) (flat_map f more.0) x h)
 
   -- what a gatekeeper's log has, the logs of all have
-  all-stays : {B : Type 0} (f : GateEntry → List B) (x : B) → Contains (flat_map (flat_map f) account.gates) x → Contains (flat_map (flat_map f) next.gates) x
+  all-stays : {B : Type 0} (f : GateEntry → List B) (x : B) → Contains (flat_map (flat_map f) account.gates) x
+      → Contains (flat_map (flat_map f) next.gates) x
   all-stays f x h =
       let log = flat-has (flat_map f) account.gates x h in
       let home = place-of account.gates log.0 log.1.0 in
@@ -100,7 +104,8 @@ module _ (script : Script) (account next : Account) (on : GoesOn account next) w
 
   -- what was ended stays so
   pub ended-stays : (r : ℕ) → IsTrue (is_ended account r) → IsTrue (is_ended next r)
-  ended-stays r done = in-has (flat_map ended_in next.gates) r (all-stays (λ (e : GateEntry). ended_by e.deed) r (has-in (flat_map ended_in account.gates) r done))
+  ended-stays r done =
+      in-has (flat_map ended_in next.gates) r (all-stays (λ (e : GateEntry). ended_by e.deed) r (has-in (flat_map ended_in account.gates) r done))
 
   -- a reply stays right
   pub reply-stays : (deed : SessionDeed) → RepliesAs account deed → RepliesAs next deed
@@ -115,14 +120,18 @@ module _ (script : Script) (account next : Account) (on : GoesOn account next) w
       let entry = any_has (λ (e : GateEntry). raises_to epoch e.deed) log.0 log.2 in
       let home = place-of account.gates log.0 log.1 in
       let more = on.gates home.0 in
-      let later : Contains (gate_log next home.0) entry.0 = subst (λ l. Contains l entry.0) (sym more.1) (Contains-append_left (gate_log account home.0) more.0 entry.0 (subst (λ l. Contains l entry.0) (sym home.1) entry.1)) in
-      any_from (λ (log : List GateEntry). list_any (λ (e : GateEntry). raises_to epoch e.deed) log) next.gates (gate_log next home.0) (list-there next.gates home.0 entry.0 later)
+      let later : Contains (gate_log next home.0) entry.0 =
+      subst (λ l. Contains l entry.0) (sym more.1)
+      (Contains-append_left (gate_log account home.0) more.0 entry.0 (subst (λ l. Contains l entry.0) (sym home.1) entry.1)) in
+      any_from (λ (log : List GateEntry). list_any (λ (e : GateEntry). raises_to epoch e.deed) log) next.gates (gate_log next home.0)
+      (list-there next.gates home.0 entry.0 later)
       (any_from (λ (e : GateEntry). raises_to epoch e.deed) (gate_log next home.0) entry.0 later entry.2)
 
   ticks-grow : (epoch home : ℕ) → ticks_of epoch (gate_log account home) ≤ ticks_of epoch (gate_log next home)
   ticks-grow epoch home =
       let more = on.gates home in
-      let stamps : stamps_of (gate_log next home) ≡ stamps_of (gate_log account home) ++ stamps_of more.0 = ap stamps_of more.1 ∙ flat_map-append (λ (e : GateEntry). stamps_by e.deed) (gate_log account home) more.0 in
+      let stamps : stamps_of (gate_log next home) ≡ stamps_of (gate_log account home) ++ stamps_of more.0 =
+      ap stamps_of more.1 ∙ flat_map-append (λ (e : GateEntry). stamps_by e.deed) (gate_log account home) more.0 in
       let count = count-more (λ (s : Stamp). s.clock.epoch == epoch) (stamps_of (gate_log account home)) (stamps_of more.0) in
       let same = ap (count_by (λ (s : Stamp). s.clock.epoch == epoch)) stamps in
       omega (arith, count, same)
@@ -137,14 +146,17 @@ module _ (script : Script) (account next : Account) (on : GoesOn account next) w
 
   -- Judgements
 
-  verdict-stays : (before : List Commit) (stamp : Stamp) (ops : List Op) (verdict : Verdict) → IsRightVerdict account before stamp ops verdict → IsRightVerdict next before stamp ops verdict
+  verdict-stays : (before : List Commit) (stamp : Stamp) (ops : List Op) (verdict : Verdict)
+      → IsRightVerdict account before stamp ops verdict → IsRightVerdict next before stamp ops verdict
   verdict-stays before stamp ops (Committed number answers counts) right =
       record { number_is = right.number_is; graph = right.graph; passes = right.passes; counts_are = right.counts_are; after_last = λ v named last e. precedence-stays last.stamp stamp (right.after_last v named last e) }
-  verdict-stays before stamp ops (Conflict v newer) right = record { named = right.named; last = right.last; last_is = right.last_is; newer_is = right.newer_is; precedes = precedence-stays stamp (right.last).stamp right.precedes }
+  verdict-stays before stamp ops (Conflict v newer) right =
+      record { named = right.named; last = right.last; last_is = right.last_is; newer_is = right.newer_is; precedes = precedence-stays stamp (right.last).stamp right.precedes }
   verdict-stays before stamp ops (Refused op reason at) right = record { at_is = right.at_is; refused = right.refused }
 
   -- a judgement stays right
-  pub judges-stay : (before : List StoreEntry) (judged : Judgement) → Judges script account before judged → Judges script next before judged
+  pub judges-stay : (before : List StoreEntry) (judged : Judgement) → Judges script account before judged
+      → Judges script next before judged
   judges-stay before judged rule =
       record {
         home = rule.home;
@@ -155,13 +167,13 @@ module _ (script : Script) (account next : Account) (on : GoesOn account next) w
       }
 
   -- so does what was sent
-  pub sends-stay : (before : List GateEntry) (author : ℕ) (deed : GateDeed) → SendsAs account script.shards before author deed → SendsAs next script.shards before author deed
+  pub sends-stay : (before : List GateEntry) (author : ℕ) (deed : GateDeed) → SendsAs account script.shards before author deed
+      → SendsAs next script.shards before author deed
   sends-stay before author (Sent r messages) sends =
       record {
         judged = sends.judged;
         is_judged = subst (λ js. Contains js sends.judged) (sym (ap judgements_of (on.store).1 ∙ map-append (λ (e : StoreEntry). judged_by e.author e.deed) account.store (on.store).0)) (Contains-append_left (judgements_of account.store) (judgements_of (on.store).0) sends.judged sends.is_judged);
         request_is = sends.request_is;
-        author_is = sends.author_is;
         messages_are = sends.messages_are;
       }
   sends-stay before author (BeganTx r stamp) sends = tt
@@ -172,8 +184,10 @@ module _ (script : Script) (account next : Account) (on : GoesOn account next) w
   sends-stay before author (Finished r) sends = tt
 
   -- and what was done at a shard
-  pub shard-stays : (shard : ℕ) (before : List ShardEntry) (deed : ShardDeed) → ShardFitsAs script account shard before deed → ShardFitsAs script next shard before deed
-  shard-stays shard before (Arrived home number message) fits = record { sent = gate-has (λ (e : GateEntry). to_shard shard (messages_by e.deed)) home _ fits.sent; new = fits.new }
+  pub shard-stays : (shard : ℕ) (before : List ShardEntry) (deed : ShardDeed) → ShardFitsAs script account shard before deed
+      → ShardFitsAs script next shard before deed
+  shard-stays shard before (Arrived home number message) fits =
+      record { sent = gate-has (λ (e : GateEntry). to_shard shard (messages_by e.deed)) home _ fits.sent; new = fits.new }
   shard-stays shard before (Applied home number) fits = fits
   shard-stays shard before (Visited r stamp v updates settled) fits =
       record {
@@ -193,7 +207,8 @@ module _ (script : Script) (account next : Account) (on : GoesOn account next) w
   begun-stays b h =
       let log = flat-has begun_in account.gates b h in
       let home = place-of account.gates log.0 log.1.0 in
-      all-in next home.0 b (gate-has (λ (e : GateEntry). tx_by e.author e.deed ++ program_by e.author e.deed) home.0 b (subst (λ l. Contains (begun_in l) b) (sym home.1) log.1.1))
+      all-in next home.0 b
+      (gate-has (λ (e : GateEntry). tx_by e.author e.deed ++ program_by e.author e.deed) home.0 b (subst (λ l. Contains (begun_in l) b) (sym home.1) log.1.1))
 
   -- an oracle's entry that a commit asked for stays so
   pub asked-stays : (settled : SettledEntry) → IsAskedByCommit account settled → IsAskedByCommit next settled
@@ -213,7 +228,8 @@ module _ (script : Script) (account next : Account) (on : GoesOn account next) w
     pub stamp-stays : (r : ℕ) (stamp : Stamp) → stamp_of account r ≡ Some stamp → stamp_of next r ≡ Some stamp
     stamp-stays r stamp e = at (find (λ (b : Begun). b.request == r) (all_begun account)) refl e
       where
-        at : (o : Option Begun) → find (λ (b : Begun). b.request == r) (all_begun account) ≡ o → option_map (λ (b : Begun). b.stamp) o ≡ Some stamp → stamp_of next r ≡ Some stamp
+        at : (o : Option Begun) → find (λ (b : Begun). b.request == r) (all_begun account) ≡ o
+            → option_map (λ (b : Begun). b.stamp) o ≡ Some stamp → stamp_of next r ≡ Some stamp
         at None is e = cc
         at (Some b) is e =
             let found = find_has (λ (b : Begun). b.request == r) (all_begun account) b is in
@@ -230,9 +246,11 @@ module _ (script : Script) (account next : Account) (on : GoesOn account next) w
         }
       where
         by-commit : IsAddedByCommit account pair → IsAddedByCommit next pair
-        by-commit added = record { before = added.before; entry = added.entry; after = added.after ++ (on.store).0; at = (on.store).1 ∙ ap (λ l. l ++ (on.store).0) added.at ∙ append_assoc added.before (added.entry ∷ added.after) (on.store).0; commit = added.commit; commit_is = added.commit_is; later_is = added.later_is; vertex_is = added.vertex_is }
+        by-commit added =
+            record { before = added.before; entry = added.entry; after = added.after ++ (on.store).0; at = (on.store).1 ∙ ap (λ l. l ++ (on.store).0) added.at ∙ append_assoc added.before (added.entry ∷ added.after) (on.store).0; commit = added.commit; commit_is = added.commit_is; later_is = added.later_is; vertex_is = added.vertex_is }
 
-        get-longer : {A : Type 0} (xs ys : List A) (i : ℕ) (P : A → Type 0) → IsSomeAnd (slice_get xs i) P → IsSomeAnd (slice_get (xs ++ ys) i) P
+        get-longer : {A : Type 0} (xs ys : List A) (i : ℕ) (P : A → Type 0) → IsSomeAnd (slice_get xs i) P
+            → IsSomeAnd (slice_get (xs ++ ys) i) P
         get-longer [] ys i P h = absurd h
         get-longer (x ∷ xs) ys zero P h = h
         get-longer (x ∷ xs) ys (suc i) P h = get-longer xs ys i P h
@@ -241,7 +259,9 @@ module _ (script : Script) (account next : Account) (on : GoesOn account next) w
         by-visit added =
             let more = on.shards added.shard in
             let naming : commits_naming pair.vertex (commits_in next) ≡ commits_naming pair.vertex (commits_in account) ++ commits_naming pair.vertex (commits_of (on.store).0) =
-            ap (commits_naming pair.vertex) (ap commits_of (on.store).1 ∙ flat_map-append (λ (e : StoreEntry). commit_by e.deed) account.store (on.store).0) ∙ filter-append (names pair.vertex) (commits_in account) (commits_of (on.store).0) in
+            ap (commits_naming pair.vertex)
+            (ap commits_of (on.store).1 ∙ flat_map-append (λ (e : StoreEntry). commit_by e.deed) account.store (on.store).0)
+            ∙ filter-append (names pair.vertex) (commits_in account) (commits_of (on.store).0) in
             record {
               shard = added.shard;
               visit = added.visit;
@@ -254,10 +274,12 @@ module _ (script : Script) (account next : Account) (on : GoesOn account next) w
             }
 
     -- the stamp that a request's session had last doesn't change once the request is begun
-    last-stays : SessionsRise script account → (r : ℕ) (stamp : Stamp) → stamp_of account r ≡ Some stamp → last_stamp script next r ≡ last_stamp script account r
+    last-stays : SessionsRise script account → (r : ℕ) (stamp : Stamp) → stamp_of account r ≡ Some stamp
+        → last_stamp script next r ≡ last_stamp script account r
     last-stays rise r stamp begun = at (request_before script r) refl
       where
-        at : (o : Option ℕ) → request_before script r ≡ o → option_and_then (stamp_of next) o ≡ option_and_then (stamp_of account) o
+        at : (o : Option ℕ) → request_before script r ≡ o
+            → option_and_then (stamp_of next) o ≡ option_and_then (stamp_of account) o
         at None e = refl
         at (Some q) e =
             let found = find_has (λ other. same_session script other r) (reverse (range_with_len 0 r)) q e in
@@ -267,9 +289,12 @@ module _ (script : Script) (account next : Account) (on : GoesOn account next) w
           where
             in-range : (a n y : ℕ) → Contains (range_with_len a n) y → y < a + n
             in-range a zero y h = absurd (omega (arith, h.1))
-            in-range a (suc n) y h = elim (has_read a (range_with_len (a + 1) n) y h) [ inl same ↦ omega (arith, same) | inr more ↦ (let lt = in-range (a + 1) n y more in omega (arith, lt)) ]
+            in-range a (suc n) y h =
+                elim (has_read a (range_with_len (a + 1) n) y h) [ inl same ↦ omega (arith, same) | inr more ↦ (let lt = in-range (a + 1) n y more in omega (arith, lt)) ]
 
-    own-stays : SessionsRise script account → (is_kind : Work → Bool) (home : ℕ) (before : List GateEntry) (r : ℕ) (stamp : Stamp) → stamp_of account r ≡ Some stamp → BeginsRequest script account is_kind home before r stamp → BeginsRequest script next is_kind home before r stamp
+    own-stays : SessionsRise script account → (is_kind : Work → Bool) (home : ℕ) (before : List GateEntry) (r : ℕ) (stamp : Stamp)
+        → stamp_of account r ≡ Some stamp → BeginsRequest script account is_kind home before r stamp
+        → BeginsRequest script next is_kind home before r stamp
     own-stays rise is_kind home before r stamp begun own =
         let last = last-stays rise r stamp begun in
         record {
@@ -280,9 +305,13 @@ module _ (script : Script) (account next : Account) (on : GoesOn account next) w
         }
 
     -- a begin stays right
-    pub begins-stay : SessionsRise script account → (home : ℕ) (before : List GateEntry) (deed : GateDeed) → ((r : ℕ) (stamp : Stamp) → (deed ≡ BeganTx r stamp) ⊎ (deed ≡ BeganProgram r stamp) → stamp_of account r ≡ Some stamp) → BeginsAs script account home before deed → BeginsAs script next home before deed
-    begins-stay rise home before (BeganTx r stamp) begun begins = own-stays rise is_change home before r stamp (begun r stamp (inl refl)) begins
-    begins-stay rise home before (BeganProgram r stamp) begun begins = own-stays rise is_look home before r stamp (begun r stamp (inr refl)) begins
+    pub begins-stay : SessionsRise script account → (home : ℕ) (before : List GateEntry) (deed : GateDeed)
+        → ((r : ℕ) (stamp : Stamp) → (deed ≡ BeganTx r stamp) ⊎ (deed ≡ BeganProgram r stamp) → stamp_of account r ≡ Some stamp)
+        → BeginsAs script account home before deed → BeginsAs script next home before deed
+    begins-stay rise home before (BeganTx r stamp) begun begins =
+        own-stays rise is_change home before r stamp (begun r stamp (inl refl)) begins
+    begins-stay rise home before (BeganProgram r stamp) begun begins =
+        own-stays rise is_look home before r stamp (begun r stamp (inr refl)) begins
     begins-stay rise home before (Sent r messages) begun begins = tt
     begins-stay rise home before (Nop to number stamp low) begun begins = tt
     begins-stay rise home before (Heard clock) begun begins = tt
@@ -290,12 +319,18 @@ module _ (script : Script) (account next : Account) (on : GoesOn account next) w
     begins-stay rise home before (Finished r) begun begins = tt
 
 -- the begin of an entry has its stamp
-pub entry-begun : (account : Account) → AllPairs (λ (a b : Begun). a.request ≢ b.request) (all_begun account) → (home : ℕ) (before : List GateEntry) (entry : GateEntry) (after : List GateEntry) → gate_log account home ≡ before ++ entry ∷ after
-    → (r : ℕ) (stamp : Stamp) → (entry.deed ≡ BeganTx r stamp) ⊎ (entry.deed ≡ BeganProgram r stamp) → stamp_of account r ≡ Some stamp
+pub entry-begun : (account : Account) → AllPairs (λ (a b : Begun). a.request ≢ b.request) (all_begun account)
+    → (home : ℕ) (before : List GateEntry) (entry : GateEntry) (after : List GateEntry)
+    → gate_log account home ≡ before ++ entry ∷ after
+    → (r : ℕ) (stamp : Stamp) → (entry.deed ≡ BeganTx r stamp) ⊎ (entry.deed ≡ BeganProgram r stamp)
+    → stamp_of account r ≡ Some stamp
 entry-begun account once home before entry after is r stamp which =
     begun-stamp account once (record { author = entry.author; request = r; stamp = stamp }) (all-in account home _ (subst (λ l. Contains (begun_in l) (record { author = entry.author; request = r; stamp = stamp })) (sym is)
     (has_flat (λ (e : GateEntry). begun_by e.author e.deed) (before ++ entry ∷ after) entry _ (has_cut before entry after) (of which))))
   where
-    of : (entry.deed ≡ BeganTx r stamp) ⊎ (entry.deed ≡ BeganProgram r stamp) → Contains (begun_by entry.author entry.deed) (record { author = entry.author; request = r; stamp = stamp })
-    of (inl tx) = subst (λ d. Contains (begun_by entry.author d) (record { author = entry.author; request = r; stamp = stamp })) (sym tx) (has_head _ [])
-    of (inr program) = subst (λ d. Contains (begun_by entry.author d) (record { author = entry.author; request = r; stamp = stamp })) (sym program) (has_head _ [])
+    of : (entry.deed ≡ BeganTx r stamp) ⊎ (entry.deed ≡ BeganProgram r stamp)
+        → Contains (begun_by entry.author entry.deed) (record { author = entry.author; request = r; stamp = stamp })
+    of (inl tx) =
+        subst (λ d. Contains (begun_by entry.author d) (record { author = entry.author; request = r; stamp = stamp })) (sym tx) (has_head _ [])
+    of (inr program) =
+        subst (λ d. Contains (begun_by entry.author d) (record { author = entry.author; request = r; stamp = stamp })) (sym program) (has_head _ [])

@@ -1,7 +1,4 @@
-pub mod SortedLists
-pub mod Members
-pub mod Counting
-pub mod Places
+pub mod SameName
 pub mod Cutting
 pub mod Basis
 pub mod Replaying
@@ -20,6 +17,7 @@ pub mod ConflictsClause
 pub mod NumbersClause
 pub mod Parts
 pub mod Sent
+pub mod Applying
 pub mod Updates
 pub mod Ready
 pub mod Unprocessed
@@ -43,7 +41,11 @@ pub mod ExampleLists
 pub mod ExampleReader
 pub mod ExampleWriters
 pub mod ExamplePath
+pub mod ExampleMarked
+pub mod ExampleRefusal
+pub mod ExampleEpoch
 pub mod WrongLogs
+pub mod WrongHearing
 pub mod Growing
 pub mod Additions
 pub mod PlacedPairs
@@ -53,3 +55,14 @@ pub mod PhasesKept
 pub mod VisitsStay
 pub mod OneReport
 pub mod KnownClocks
+pub mod PairEnds
+pub mod FinalReplies
+pub mod Takable
+pub mod SeenIds
+pub mod Requests
+pub mod InSession
+pub mod BegunElsewhere
+pub mod Ticking
+pub mod Collecting
+pub mod OnTheWay
+pub mod ExampleReports

@@ -33,8 +33,8 @@ use Rattle.weave_account.specs.Store.{Commits, IsRightVerdict, Judges}
 use Rattle.weave_account.specs.Report.{state_by_verdict, state_of_tx, IsStateOfProgram, IsStateOf, IsReplyInAccount, MatchesAccount}
 use Rattle.proof_base.proofs.Members.{cut_at, find_has, has_map}
 use Rattle.proof_base.proofs.Ordered.{find_by_key}
-use Rattle.weave_account.proofs.Members.{map-has}
-use Rattle.weave_account.proofs.SortedLists.{in-head, in-tail}
+use Rattle.proof_base.proofs.Images.{map-has}
+use Rattle.proof_base.proofs.Numbers.{in-head, in-tail}
 use Rattle.weave_account.proofs.Storing.{IsVerdictOf}
 use Rattle.weave_account.proofs.Replies.{reply-number}
 use Rattle.weave_account.proofs.Basis.{Basis}
@@ -58,14 +58,16 @@ pub record StandsInStore (script : Script) (account : Account) (r : ℕ) (ops : 
   pub right : (counts : List Counted) × Commits account (commits_of before) commit.stamp ops number answers counts
 
 -- a verdict that commits makes a commit
-pub commit-here : (author : ℕ) (deed : StoreDeed) (number : ℕ) (answers : List Got) (counts : List Counted) → (judged_by author deed).verdict ≡ verdict.Committed number answers counts
+pub commit-here : (author : ℕ) (deed : StoreDeed) (number : ℕ) (answers : List Got) (counts : List Counted)
+    → (judged_by author deed).verdict ≡ verdict.Committed number answers counts
     → commit_by deed ≡ record { request = (judged_by author deed).request; stamp = (judged_by author deed).stamp; ops = (judged_by author deed).ops } ∷ []
 commit-here author (Judged r stamp ops asked (verdict.Committed n a c)) number answers counts e = refl
 commit-here author (Judged r stamp ops asked (verdict.Conflict v newer)) number answers counts e = cc
 commit-here author (Judged r stamp ops asked (verdict.Refused op reason at)) number answers counts e = cc
 
 -- a verdict that commits has a number, answers and counts
-pub verdict-commits : (v : Verdict) → IsVerdictOf v → (number : ℕ) × (answers : List Got) × (counts : List Counted) × (v ≡ verdict.Committed number answers counts)
+pub verdict-commits : (v : Verdict) → IsVerdictOf v
+    → (number : ℕ) × (answers : List Got) × (counts : List Counted) × (v ≡ verdict.Committed number answers counts)
 verdict-commits (verdict.Committed number answers counts) h = (number, answers, counts, refl)
 verdict-commits (verdict.Conflict v newer) h = absurd h
 verdict-commits (verdict.Refused op reason at) h = absurd h
@@ -98,11 +100,16 @@ module _ (script : Script) (account : Account) (basis : Basis script account) wh
       }
 
   -- a judgement is found by its request
-  pub judgement-found : (entry : StoreEntry) → Contains account.store entry → judgement_of (judged_by entry.author entry.deed).request account.store ≡ Some (judged_by entry.author entry.deed)
-  judgement-found entry h = find_by_key (λ (j : Judgement). j.request) (judgements_of account.store) (judged_by entry.author entry.deed) basis.is.store.once (has_map (λ (e : StoreEntry). judged_by e.author e.deed) account.store entry h)
+  pub judgement-found : (entry : StoreEntry) → Contains account.store entry
+      → judgement_of (judged_by entry.author entry.deed).request account.store ≡ Some (judged_by entry.author entry.deed)
+  judgement-found entry h =
+      find_by_key (λ (j : Judgement). j.request) (judgements_of account.store) (judged_by entry.author entry.deed) basis.is.store.once
+      (has_map (λ (e : StoreEntry). judged_by e.author e.deed) account.store entry h)
 
   -- a request that was judged to commit is a commit of the store
-  pub commit-stands : (r : ℕ) (judged : Judgement) (number : ℕ) (answers : List Got) (counts : List Counted) → judgement_of r account.store ≡ Some judged → judged.verdict ≡ verdict.Committed number answers counts → StandsInStore script account r judged.ops number answers
+  pub commit-stands : (r : ℕ) (judged : Judgement) (number : ℕ) (answers : List Got) (counts : List Counted)
+      → judgement_of r account.store ≡ Some judged → judged.verdict ≡ verdict.Committed number answers counts
+      → StandsInStore script account r judged.ops number answers
   commit-stands r judged number answers counts e is =
       let at = judged-at r judged e in
       let here : commit_by (at.entry).deed ≡ record { request = judged.request; stamp = judged.stamp; ops = judged.ops } ∷ [] =
@@ -152,17 +159,22 @@ pub record IsListedProgram (script : Script) (account : Account) (report : Repor
   pub matched : IsStateOfProgram account r program (Finished answer)
 
 module _ (script : Script) (account : Account) (report : Report) (r : ℕ) (request : Request) (request-is : request_at script r ≡ Some request) (reply : Reply) (reply-is : reply_at report r ≡ Some reply) where
-  listed-verdict : (ops : List Op) → request.work ≡ Change ops → (j : Judgement) → judgement_of r account.store ≡ Some j → (v : Verdict) → j.verdict ≡ v → reply.state ≡ state_by_verdict v → IsTrue (is_committed_or_finished (state_by_verdict v)) → IsListedTx script account report r
+  listed-verdict : (ops : List Op) → request.work ≡ Change ops → (j : Judgement) → judgement_of r account.store ≡ Some j
+      → (v : Verdict) → j.verdict ≡ v → reply.state ≡ state_by_verdict v → IsTrue (is_committed_or_finished (state_by_verdict v))
+      → IsListedTx script account report r
   listed-verdict ops work j e (verdict.Committed number answers counts) is reported h =
       record { request = request; request_is = request-is; ops = ops; work = work; reply = reply; reply_is = reply-is; judged = j; judged_is = e; number = number; answers = answers; state = reported; committed = record { counts = counts; is = is } }
   listed-verdict ops work j e (verdict.Conflict v newer) is reported h = cc
   listed-verdict ops work j e (verdict.Refused op reason at) is reported h = cc
 
-  listed-tx : (ops : List Op) → request.work ≡ Change ops → (o : Option Judgement) → judgement_of r account.store ≡ o → reply.state ≡ state_of_tx o → IsTrue (is_committed_or_finished (state_of_tx o)) → IsListedTx script account report r
+  listed-tx : (ops : List Op) → request.work ≡ Change ops → (o : Option Judgement) → judgement_of r account.store ≡ o
+      → reply.state ≡ state_of_tx o → IsTrue (is_committed_or_finished (state_of_tx o)) → IsListedTx script account report r
   listed-tx ops work None e reported h = cc
   listed-tx ops work (Some j) e reported h = listed-verdict ops work j e j.verdict refl reported h
 
-  listed-program : (program : Program) → request.work ≡ Look program → (state : ReplyState) → reply.state ≡ state → IsStateOfProgram account r program state → IsTrue (is_committed_or_finished state) → IsListedProgram script account report r
+  listed-program : (program : Program) → request.work ≡ Look program → (state : ReplyState) → reply.state ≡ state
+      → IsStateOfProgram account r program state → IsTrue (is_committed_or_finished state)
+      → IsListedProgram script account report r
   listed-program program work (Finished answer) e reported h =
       record { request = request; request_is = request-is; program = program; work = work; reply = reply; reply_is = reply-is; answer = answer; state = e; matched = reported }
   listed-program program work Unbegun e reported h = cc
@@ -171,48 +183,62 @@ module _ (script : Script) (account : Account) (report : Report) (r : ℕ) (requ
   listed-program program work (Conflict v newer) e reported h = cc
   listed-program program work (Refused op reason at) e reported h = cc
 
-  listed-work : (stamp : Option Stamp) (work : Work) → request.work ≡ work → IsStateOf account r stamp work reply.state → IsTrue (is_committed_or_finished reply.state) → IsListedTx script account report r ⊎ IsListedProgram script account report r
-  listed-work None work is reported h = let none : IsTrue (is_committed_or_finished Unbegun) = subst (λ s. IsTrue (is_committed_or_finished s)) reported h in cc
-  listed-work (Some stamp) (Change ops) is reported h = inl (listed-tx ops is (judgement_of r account.store) refl reported (subst (λ s. IsTrue (is_committed_or_finished s)) reported h))
+  listed-work : (stamp : Option Stamp) (work : Work) → request.work ≡ work → IsStateOf account r stamp work reply.state
+      → IsTrue (is_committed_or_finished reply.state)
+      → IsListedTx script account report r ⊎ IsListedProgram script account report r
+  listed-work None work is reported h =
+      let none : IsTrue (is_committed_or_finished Unbegun) = subst (λ s. IsTrue (is_committed_or_finished s)) reported h in cc
+  listed-work (Some stamp) (Change ops) is reported h =
+      inl (listed-tx ops is (judgement_of r account.store) refl reported (subst (λ s. IsTrue (is_committed_or_finished s)) reported h))
   listed-work (Some stamp) (Look program) is reported h = inr (listed-program program is reply.state refl reported h)
 
 module _ (script : Script) (account : Account) (report : Report) (reported : MatchesAccount script account report) where
-  some-reply : (o : Option Reply) → IsTrue (is_some_and (λ (reply : Reply). is_committed_or_finished reply.state) o) → (reply : Reply) × (o ≡ Some reply) × IsTrue (is_committed_or_finished reply.state)
+  some-reply : (o : Option Reply) → IsTrue (is_some_and (λ (reply : Reply). is_committed_or_finished reply.state) o)
+      → (reply : Reply) × (o ≡ Some reply) × IsTrue (is_committed_or_finished reply.state)
   some-reply None h = cc
   some-reply (Some reply) h = (reply, refl, h)
 
-  some-request : (o : Option Request) (P : Request → Type 0) → IsSomeAnd o P → (request : Request) × (o ≡ Some request) × P request
+  some-request : (o : Option Request) (P : Request → Type 0) → IsSomeAnd o P
+      → (request : Request) × (o ≡ Some request) × P request
   some-request None P h = absurd h
   some-request (Some request) P h = (request, refl, h)
 
-  all-in : (replies : List Reply) (i : ℕ) (reply : Reply) → AllByRecursion (IsReplyInAccount script account) replies → slice_get replies i ≡ Some reply → IsReplyInAccount script account reply
+  all-in : (replies : List Reply) (i : ℕ) (reply : Reply) → AllByRecursion (IsReplyInAccount script account) replies
+      → slice_get replies i ≡ Some reply → IsReplyInAccount script account reply
   all-in [] i reply h e = cc
   all-in (first ∷ replies) zero reply h e = let same : first ≡ reply = cc in subst (IsReplyInAccount script account) same h.0
   all-in (first ∷ replies) (suc i) reply h e = all-in replies i reply h.1 e
 
   -- what may be listed is a committed transaction or a finished program
-  pub listed-is : (r : ℕ) → IsTrue (may_be_listed report r) → IsListedTx script account report r ⊎ IsListedProgram script account report r
+  pub listed-is : (r : ℕ) → IsTrue (may_be_listed report r)
+      → IsListedTx script account report r ⊎ IsListedProgram script account report r
   listed-is r h =
       let there = some-reply (reply_at report r) h in
       let number = reply-number script account report reported r there.0 there.1 in
       let matched = all-in report.replies r there.0 reported.replies there.1 in
       let request = some-request (request_at script (there.0).request) _ matched.state_is in
-      listed-work script account report r request.0 (subst (λ k. request_at script k ≡ Some request.0) number request.1) there.0 there.1 (there.0).stamp (request.0).work refl
+      listed-work script account report r request.0 (subst (λ k. request_at script k ≡ Some request.0) number request.1) there.0 there.1
+      (there.0).stamp (request.0).work refl
       (subst (λ k. IsStateOf account k (there.0).stamp (request.0).work (there.0).state) number request.2) there.2
 
   -- a request with a stamp is among those begun
-  pub in-begun : (r : ℕ) (stamp : Stamp) (reply : Reply) → reply_at report r ≡ Some reply → reply.stamp ≡ Some stamp → IsTrue (is_in reply.request (begun_requests report))
+  pub in-begun : (r : ℕ) (stamp : Stamp) (reply : Reply) → reply_at report r ≡ Some reply → reply.stamp ≡ Some stamp
+      → IsTrue (is_in reply.request (begun_requests report))
   in-begun r stamp reply at stamped = from report.replies r at
     where
-      from : (replies : List Reply) (i : ℕ) → slice_get replies i ≡ Some reply → IsTrue (is_in reply.request (filter_map (λ (e : Reply). option_map (λ (s : Stamp). e.request) e.stamp) replies))
+      from : (replies : List Reply) (i : ℕ) → slice_get replies i ≡ Some reply
+          → IsTrue (is_in reply.request (filter_map (λ (e : Reply). option_map (λ (s : Stamp). e.request) e.stamp) replies))
       from [] i e = cc
       from (first ∷ replies) zero e =
           let same : first ≡ reply = cc in
-          subst (λ (k : Reply). IsTrue (is_in reply.request (cons_option (option_map (λ (s : Stamp). k.request) k.stamp) (filter_map (λ (e : Reply). option_map (λ (s : Stamp). e.request) e.stamp) replies)))) (sym same)
+          subst (λ (k : Reply). IsTrue (is_in reply.request (cons_option (option_map (λ (s : Stamp). k.request) k.stamp) (filter_map (λ (e : Reply). option_map (λ (s : Stamp). e.request) e.stamp) replies))))
+          (sym same)
           (subst (λ s. IsTrue (is_in reply.request (cons_option (option_map (λ (s : Stamp). reply.request) s) (filter_map (λ (e : Reply). option_map (λ (s : Stamp). e.request) e.stamp) replies)))) (sym stamped)
           (in-head reply.request _))
       from (first ∷ replies) (suc i) e = more (option_map (λ (s : Stamp). first.request) first.stamp) (from replies i e)
         where
-          more : (o : Option ℕ) → IsTrue (is_in reply.request (filter_map (λ (e : Reply). option_map (λ (s : Stamp). e.request) e.stamp) replies)) → IsTrue (is_in reply.request (cons_option o (filter_map (λ (e : Reply). option_map (λ (s : Stamp). e.request) e.stamp) replies)))
+          more : (o : Option ℕ)
+              → IsTrue (is_in reply.request (filter_map (λ (e : Reply). option_map (λ (s : Stamp). e.request) e.stamp) replies))
+              → IsTrue (is_in reply.request (cons_option o (filter_map (λ (e : Reply). option_map (λ (s : Stamp). e.request) e.stamp) replies)))
           more None h = h
           more (Some n) h = in-tail reply.request n _ h

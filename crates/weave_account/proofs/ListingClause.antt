@@ -1,4 +1,5 @@
--- The clauses on listing and on the order. They rest on the clauses on gatekeepers and sessions, and on the printed order.
+-- The clauses on listing and on the order. They rest on the clauses on gatekeepers and sessions, and on the printed
+-- order.
 use Rattle.std.proofs.Common.{◌≡◌, ℕ, ◌<◌, Bool, not, ◌||◌, ◌&&◌, nat_lt, nat_eq, length, List, [], ◌∷◌, Contains, IsTrue, Option, Some, None, inl, inr, refl, sym, ap, subst, ◌∙◌}
 use Rattle.std.specs.Prelude.{IsSomeAnd, slice_get}
 use Rattle.std.specs.List.{AllByRecursion, list_all, filter_map, cons_option}
@@ -23,9 +24,9 @@ use Rattle.weave_account.specs.Report.{IsStateOf, IsReplyInAccount, MatchesAccou
 use Rattle.weave_account.proofs.Cutting.{IsNotAfter}
 use Rattle.weave_account.proofs.Listed.{in-begun}
 use Rattle.weave_account.proofs.Ordering.{not-both}
-use Rattle.weave_account.proofs.Places.{facts-hold, list-all-from, unless, not-true, of-numbers}
+use Rattle.proof_base.proofs.Numbers.{of-numbers, IsSorted, in-head, in-tail, in-cases, in-append_left, in-append_right, sorted-at}
+use Rattle.proof_base.proofs.Places.{facts-hold, list-all-from, unless, not-true}
 use Rattle.weave_account.proofs.Printing.{order-sorted, order-has, has-order}
-use Rattle.weave_account.proofs.SortedLists.{IsSorted, in-head, in-tail, in-cases, in-append_left, in-append_right, sorted-at}
 use Rattle.weave_account.proofs.Replies.{reply-number, same-precedence}
 use Rattle.proof_base.proofs.Lists.{get-here}
 use Rattle.weave_account.proofs.Basis.{Basis}
@@ -38,7 +39,8 @@ convert e a = subst (λ (X : Type 0). X) e a
 pub session-other : (script : Script) (a b : ℕ) → IsTrue (same_session script a b) → IsTrue (same_session script b a)
 session-other script a b h = at (request_at script a) (request_at script b) h
   where
-    at : (x y : Option Request) → IsTrue (are_both (λ (x : Request) (y : Request). nat_eq x.session y.session) x y) → IsTrue (are_both (λ (x : Request) (y : Request). nat_eq x.session y.session) y x)
+    at : (x y : Option Request) → IsTrue (are_both (λ (x : Request) (y : Request). nat_eq x.session y.session) x y)
+        → IsTrue (are_both (λ (x : Request) (y : Request). nat_eq x.session y.session) y x)
     at None y h = cc
     at (Some x) None h = cc
     at (Some x) (Some y) h = eq-eqb y.session x.session (sym (eqb-true x.session y.session h))
@@ -47,10 +49,13 @@ module _ (script : Script) (account : Account) (basis : Basis script account) (r
   -- Listing
 
   -- what is committed or finished was begun
-  pub final-begun : (reply : Reply) → IsReplyInAccount script account reply → IsTrue (is_committed_or_finished reply.state) → (stamp : Stamp) × (reply.stamp ≡ Some stamp)
+  pub final-begun : (reply : Reply) → IsReplyInAccount script account reply → IsTrue (is_committed_or_finished reply.state)
+      → (stamp : Stamp) × (reply.stamp ≡ Some stamp)
   final-begun reply matched h = at (request_at script reply.request) matched.state_is reply.stamp refl
     where
-      at : (q : Option Request) → IsSomeAnd q (λ (request : Request). IsStateOf account reply.request reply.stamp request.work reply.state) → (s : Option Stamp) → reply.stamp ≡ s → (stamp : Stamp) × (reply.stamp ≡ Some stamp)
+      at : (q : Option Request)
+          → IsSomeAnd q (λ (request : Request). IsStateOf account reply.request reply.stamp request.work reply.state)
+          → (s : Option Stamp) → reply.stamp ≡ s → (stamp : Stamp) × (reply.stamp ≡ Some stamp)
       at q is (Some stamp) e = (stamp, e)
       at None is None e = absurd is
       at (Some request) is None e =
@@ -62,23 +67,28 @@ module _ (script : Script) (account : Account) (basis : Basis script account) (r
   pub reply-here : (reply : Reply) → Contains report.replies reply → reply_at report reply.request ≡ Some reply
   reply-here reply h =
       let place = cut_at report.replies reply h in
-      let at : slice_get report.replies (length place.before) ≡ Some reply = ap (λ xs. slice_get xs (length place.before)) place.is ∙ get-here place.before reply place.after in
+      let at : slice_get report.replies (length place.before) ≡ Some reply =
+      ap (λ xs. slice_get xs (length place.before)) place.is ∙ get-here place.before reply place.after in
       subst (λ n. slice_get report.replies n ≡ Some reply) (sym (reply-number script account report reported _ reply at)) at
 
   -- each reply is right for the account
   pub matches-of : (reply : Reply) → Contains report.replies reply → IsReplyInAccount script account reply
   matches-of reply h = from report.replies reported.replies h
     where
-      from : (replies : List Reply) → AllByRecursion (IsReplyInAccount script account) replies → Contains replies reply → IsReplyInAccount script account reply
+      from : (replies : List Reply) → AllByRecursion (IsReplyInAccount script account) replies → Contains replies reply
+          → IsReplyInAccount script account reply
       from [] all h = absurd (has_none reply h)
-      from (first ∷ replies) all h = elim (has_read first replies reply h) [ inl same ↦ subst (IsReplyInAccount script account) same all.0 | inr more ↦ from replies all.1 more ]
+      from (first ∷ replies) all h =
+          elim (has_read first replies reply h) [ inl same ↦ subst (IsReplyInAccount script account) same all.0 | inr more ↦ from replies all.1 more ]
 
   -- a request among those begun has its stamp
   pub begun-stamped : (n : ℕ) → IsTrue (is_in n (begun_requests report)) → (stamp : Stamp) × (stamp_of account n ≡ Some stamp)
   begun-stamped n h = from report.replies (λ reply there. matches-of reply there) h
     where
-      here : (reply : Reply) → IsReplyInAccount script account reply → (s : Option Stamp) → reply.stamp ≡ s → (rest : List ℕ) → (IsTrue (is_in n rest) → (stamp : Stamp) × (stamp_of account n ≡ Some stamp))
-          → IsTrue (is_in n (cons_option (option_map (λ (stamp : Stamp). reply.request) s) rest)) → (stamp : Stamp) × (stamp_of account n ≡ Some stamp)
+      here : (reply : Reply) → IsReplyInAccount script account reply → (s : Option Stamp) → reply.stamp ≡ s → (rest : List ℕ)
+          → (IsTrue (is_in n rest) → (stamp : Stamp) × (stamp_of account n ≡ Some stamp))
+          → IsTrue (is_in n (cons_option (option_map (λ (stamp : Stamp). reply.request) s) rest))
+          → (stamp : Stamp) × (stamp_of account n ≡ Some stamp)
       here reply matched None e rest more h = more h
       here reply matched (Some stamp) e rest more h =
           elim (in-cases n reply.request rest h) [
@@ -86,9 +96,14 @@ module _ (script : Script) (account : Account) (basis : Basis script account) (r
             | inr later ↦ more later
           ]
 
-      from : (replies : List Reply) → ((reply : Reply) → Contains replies reply → IsReplyInAccount script account reply) → IsTrue (is_in n (filter_map (λ (reply : Reply). option_map (λ (stamp : Stamp). reply.request) reply.stamp) replies)) → (stamp : Stamp) × (stamp_of account n ≡ Some stamp)
+      from : (replies : List Reply) → ((reply : Reply) → Contains replies reply → IsReplyInAccount script account reply)
+          → IsTrue (is_in n (filter_map (λ (reply : Reply). option_map (λ (stamp : Stamp). reply.request) reply.stamp) replies))
+          → (stamp : Stamp) × (stamp_of account n ≡ Some stamp)
       from [] all h = cc
-      from (reply ∷ replies) all h = here reply (all reply (has_head reply replies)) reply.stamp refl (filter_map (λ (reply : Reply). option_map (λ (stamp : Stamp). reply.request) reply.stamp) replies) (from replies (λ e k. all e (has_tail reply replies e k))) h
+      from (reply ∷ replies) all h =
+          here reply (all reply (has_head reply replies)) reply.stamp refl
+          (filter_map (λ (reply : Reply). option_map (λ (stamp : Stamp). reply.request) reply.stamp) replies)
+          (from replies (λ e k. all e (has_tail reply replies e k))) h
 
   module _ (printed : IsPrintedOrder report report.order) where
     -- the clause on listing
@@ -124,7 +139,8 @@ module _ (script : Script) (account : Account) (basis : Basis script account) (r
         numbers-all [] p f = refl
         numbers-all (x ∷ xs) p f = and_from _ _ (f x (in-head x xs)) (numbers-all xs p (λ n h. f n (in-tail n x xs h)))
 
-        turn : (n r : ℕ) → IsTrue (same_session script n r) → IsTrue (is_in n (begun_requests report)) → IsNotAfter (RequestPrecedes report) n r → n < r
+        turn : (n r : ℕ) → IsTrue (same_session script n r) → IsTrue (is_in n (begun_requests report))
+            → IsNotAfter (RequestPrecedes report) n r → n < r
         turn n r same begun first =
             elim (cases_order n r) [
               | inl e ↦ absurd (first.0 e)

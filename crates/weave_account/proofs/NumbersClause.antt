@@ -29,13 +29,13 @@ use Rattle.weave_account.specs.declared.account.Account.{Account}
 use Rattle.weave_account.specs.Account.{commits_in}
 use Rattle.weave_account.specs.Store.{Commits, IsRightVerdict}
 use Rattle.weave_account.specs.Report.{IsReportOfAccount}
-use Rattle.weave_account.proofs.Counting.{IsOnce, no-longer, Apart, First, Same, Second, apart}
+use Rattle.proof_base.proofs.Images.{IsImage, map-has, flat-has}
+use Rattle.proof_base.proofs.Numbers.{has-in, in-head, in-tail}
+use Rattle.proof_base.proofs.Counting.{IsOnce, no-longer, Apart, First, Same, Second, apart}
+use Rattle.proof_base.proofs.Places.{facts-hold, not-true}
 use Rattle.weave_account.proofs.Listed.{IsListedProgram, IsJudgedAt, judged-at, listed-is}
-use Rattle.weave_account.proofs.Members.{IsImage, map-has, has-in, flat-has}
 use Rattle.proof_base.proofs.Ordered.{pairs_head, pairs_tail}
-use Rattle.weave_account.proofs.Places.{facts-hold, not-true}
 use Rattle.weave_account.proofs.Printing.{order-has}
-use Rattle.weave_account.proofs.SortedLists.{in-head, in-tail}
 use Rattle.weave_account.proofs.Storing.{IsVerdictOf, IsCommitOf, requests_of_commits, commit-of}
 use Rattle.weave_account.proofs.Transactions.{known, commits-listed}
 use Rattle.weave_account.proofs.ConflictsClause.{IsVerdictState, verdict-of, reported-committed}
@@ -44,26 +44,33 @@ use Rattle.weave_account.proofs.Basis.{Basis}
 -- the numbers that replies tell, by their requests
 abbrev numbered-requests : List Reply → List ℕ
 numbered-requests [] = []
-numbered-requests (reply ∷ replies) = cond (is_some_and (λ n. true) (number_of reply.state)) (reply.request ∷ numbered-requests replies) (numbered-requests replies)
+numbered-requests (reply ∷ replies) =
+    cond (is_some_and (λ n. true) (number_of reply.state)) (reply.request ∷ numbered-requests replies) (numbered-requests replies)
 
-numbered-length : (replies : List Reply) → length (numbered-requests replies) ≡ length (filter_map (λ (reply : Reply). number_of reply.state) replies)
+numbered-length : (replies : List Reply)
+    → length (numbered-requests replies) ≡ length (filter_map (λ (reply : Reply). number_of reply.state) replies)
 numbered-length [] = refl
 numbered-length (reply ∷ replies) = at (number_of reply.state) (numbered-length replies)
   where
-    at : (o : Option ℕ) → length (numbered-requests replies) ≡ length (filter_map (λ (reply : Reply). number_of reply.state) replies)
+    at : (o : Option ℕ)
+        → length (numbered-requests replies) ≡ length (filter_map (λ (reply : Reply). number_of reply.state) replies)
         → length (cond (is_some_and (λ n. true) o) (reply.request ∷ numbered-requests replies) (numbered-requests replies)) ≡ length (cons_option o (filter_map (λ (reply : Reply). number_of reply.state) replies))
     at None e = e
     at (Some n) e = ap suc e
 
-in-numbered : (replies : List Reply) (i : ℕ) (reply : Reply) (number : ℕ) → slice_get replies i ≡ Some reply → number_of reply.state ≡ Some number → IsTrue (is_in reply.request (numbered-requests replies))
+in-numbered : (replies : List Reply) (i : ℕ) (reply : Reply) (number : ℕ) → slice_get replies i ≡ Some reply
+    → number_of reply.state ≡ Some number → IsTrue (is_in reply.request (numbered-requests replies))
 in-numbered [] i reply number e is = cc
 in-numbered (first ∷ replies) zero reply number e is =
     let same : first ≡ reply = cc in
-    subst (λ (k : Reply). IsTrue (is_in reply.request (cond (is_some_and (λ n. true) (number_of k.state)) (k.request ∷ numbered-requests replies) (numbered-requests replies)))) (sym same)
+    subst (λ (k : Reply). IsTrue (is_in reply.request (cond (is_some_and (λ n. true) (number_of k.state)) (k.request ∷ numbered-requests replies) (numbered-requests replies))))
+    (sym same)
     (subst (λ o. IsTrue (is_in reply.request (cond (is_some_and (λ n. true) o) (reply.request ∷ numbered-requests replies) (numbered-requests replies)))) (sym is) (in-head reply.request _))
-in-numbered (first ∷ replies) (suc i) reply number e is = more (is_some_and (λ n. true) (number_of first.state)) (in-numbered replies i reply number e is)
+in-numbered (first ∷ replies) (suc i) reply number e is =
+    more (is_some_and (λ n. true) (number_of first.state)) (in-numbered replies i reply number e is)
   where
-    more : (b : Bool) → IsTrue (is_in reply.request (numbered-requests replies)) → IsTrue (is_in reply.request (cond b (first.request ∷ numbered-requests replies) (numbered-requests replies)))
+    more : (b : Bool) → IsTrue (is_in reply.request (numbered-requests replies))
+        → IsTrue (is_in reply.request (cond b (first.request ∷ numbered-requests replies) (numbered-requests replies)))
     more true h = in-tail reply.request first.request _ h
     more false h = h
 
@@ -71,16 +78,22 @@ module _ (script : Script) (account : Account) (basis : Basis script account) (r
   -- How many commits there are
 
   -- no request commits twice
-  pub once-from : (log : List StoreEntry) → AllPairs (λ (a b : Judgement). a.request ≢ b.request) (judgements_of log) → IsOnce (requests_of_commits (commits_of log))
+  pub once-from : (log : List StoreEntry) → AllPairs (λ (a b : Judgement). a.request ≢ b.request) (judgements_of log)
+      → IsOnce (requests_of_commits (commits_of log))
   once-from [] pairs = tt
-  once-from (entry ∷ log) pairs = at (commit_by entry.deed) (λ c h. commit-of entry.author entry.deed c h) (few entry.deed) (once-from log (pairs_tail (λ (a b : Judgement). a.request ≢ b.request) _ (judgements_of log) pairs))
+  once-from (entry ∷ log) pairs =
+      at (commit_by entry.deed) (λ c h. commit-of entry.author entry.deed c h) (few entry.deed)
+      (once-from log (pairs_tail (λ (a b : Judgement). a.request ≢ b.request) _ (judgements_of log) pairs))
     where
       few : (deed : StoreDeed) → (commit_by deed ≡ []) ⊎ ((c : Commit) × (commit_by deed ≡ c ∷ []))
       few (Judged r stamp ops asked (verdict.Committed number answers counts)) = inr (_, refl)
       few (Judged r stamp ops asked (verdict.Conflict v newer)) = inl refl
       few (Judged r stamp ops asked (verdict.Refused op reason at)) = inl refl
 
-      at : (cs : List Commit) → ((c : Commit) → Contains (commit_by entry.deed) c → IsCommitOf (judged_by entry.author entry.deed) c) → (commit_by entry.deed ≡ []) ⊎ ((c : Commit) × (commit_by entry.deed ≡ c ∷ [])) → IsOnce (requests_of_commits (commits_of log)) → IsOnce (requests_of_commits (commit_by entry.deed ++ commits_of log))
+      at : (cs : List Commit)
+          → ((c : Commit) → Contains (commit_by entry.deed) c → IsCommitOf (judged_by entry.author entry.deed) c)
+          → (commit_by entry.deed ≡ []) ⊎ ((c : Commit) × (commit_by entry.deed ≡ c ∷ []))
+          → IsOnce (requests_of_commits (commits_of log)) → IsOnce (requests_of_commits (commit_by entry.deed ++ commits_of log))
       at cs of (inl none) rest = subst (λ ys. IsOnce (requests_of_commits (ys ++ commits_of log))) (sym none) rest
       at cs of (inr (c, one)) rest =
           subst (λ ys. IsOnce (requests_of_commits (ys ++ commits_of log))) (sym one) (
@@ -89,7 +102,9 @@ module _ (script : Script) (account : Account) (basis : Basis script account) (r
                 let from = flat-has (λ (e : StoreEntry). commit_by e.deed) log image.of image.has in
                 let is = commit-of (from.0).author (from.0).deed image.of from.1.1 in
                 let here = of c (subst (λ ys. Contains ys c) (sym one) (has_head c [])) in
-                pairs_head (λ (a b : Judgement). a.request ≢ b.request) (judged_by entry.author entry.deed) (judgements_of log) (judged_by (from.0).author (from.0).deed) pairs (has_map (λ (e : StoreEntry). judged_by e.author e.deed) log from.0 from.1.0)
+                pairs_head (λ (a b : Judgement). a.request ≢ b.request) (judged_by entry.author entry.deed) (judgements_of log)
+                (judged_by (from.0).author (from.0).deed) pairs
+                (has_map (λ (e : StoreEntry). judged_by e.author e.deed) log from.0 from.1.0)
                 (here.request ∙ same ∙ sym image.is ∙ sym is.request),
             rest,
           )
@@ -97,12 +112,14 @@ module _ (script : Script) (account : Account) (basis : Basis script account) (r
   -- the report has a number for each commit
   pub as-many-commits : length (commits_in account) ≤ commits report
   as-many-commits =
-      let short = no-longer (requests_of_commits (commits_in account)) (numbered-requests report.replies) (once-from account.store basis.is.store.once) numbered in
+      let short =
+      no-longer (requests_of_commits (commits_in account)) (numbered-requests report.replies) (once-from account.store basis.is.store.once) numbered in
       let long = length-map (commits_in account) (λ (c : Commit). c.request) in
       let all = numbered-length report.replies in
       omega (arith, short, long, all)
     where
-      numbered : (n : ℕ) → IsTrue (is_in n (requests_of_commits (commits_in account))) → IsTrue (is_in n (numbered-requests report.replies))
+      numbered : (n : ℕ) → IsTrue (is_in n (requests_of_commits (commits_in account)))
+          → IsTrue (is_in n (numbered-requests report.replies))
       numbered n h =
           let listed = commits-listed script account basis report reported n h in
           elim (listed-is script account report reported.matches n (order-has report report.order reported.order n listed).1) [
@@ -110,10 +127,13 @@ module _ (script : Script) (account : Account) (basis : Basis script account) (r
             | inr program ↦ absurd (no-program n program (map-has (λ (c : Commit). c.request) (commits_in account) n (has-in _ n h)))
           ]
         where
-          no-program : (n : ℕ) → IsListedProgram script account report n → IsImage (λ (c : Commit). c.request) (commits_in account) n → ⊥
+          no-program : (n : ℕ) → IsListedProgram script account report n
+              → IsImage (λ (c : Commit). c.request) (commits_in account) n → ⊥
           no-program n program image =
               let of = known script account basis report reported image.of image.has in
-              let work = subst (λ q. IsSomeAnd q (λ (request : Request). request.work ≡ Change (image.of).ops)) (ap (request_at script) image.is ∙ program.request_is) of.work in
+              let work =
+              subst (λ q. IsSomeAnd q (λ (request : Request). request.work ≡ Change (image.of).ops))
+              (ap (request_at script) image.is ∙ program.request_is) of.work in
               let clash : Look program.program ≡ Change (image.of).ops = sym program.work ∙ work in
               cc
 
@@ -126,7 +146,8 @@ module _ (script : Script) (account : Account) (basis : Basis script account) (r
     pub number_is : number ≡ length (commits_of at.before) + 1
     pub commits_here : IsVerdictOf judged.verdict
 
-  number-state : (state : ReplyState) (number : ℕ) → number_of state ≡ Some number → (answers : List Got) × (state ≡ Committed number answers)
+  number-state : (state : ReplyState) (number : ℕ) → number_of state ≡ Some number
+      → (answers : List Got) × (state ≡ Committed number answers)
   number-state (Committed n answers) number e = (answers, cc)
   number-state Unbegun number e = cc
   number-state Running number e = cc
@@ -135,39 +156,48 @@ module _ (script : Script) (account : Account) (basis : Basis script account) (r
   number-state (Finished answer) number e = cc
 
   -- a reply with a commit number was judged to commit, after that many commits less one
-  pub numbered-at : (reply : Reply) → Contains report.replies reply → (number : ℕ) → number_of reply.state ≡ Some number → IsNumberedAt reply.request number
+  pub numbered-at : (reply : Reply) → Contains report.replies reply → (number : ℕ) → number_of reply.state ≡ Some number
+      → IsNumberedAt reply.request number
   numbered-at reply h number e =
       let state = number-state reply.state number e in
       let has = verdict-of script account basis report reported reply h (subst IsVerdictState (sym state.1) tt) in
       let verdict-is = reported-committed (has.judged).verdict number state.0 (sym state.1 ∙ has.reported) in
       let place = judged-at script account basis reply.request has.judged has.found in
-      let right : Commits account (commits_of place.before) (has.judged).stamp (has.judged).ops number state.0 verdict-is.0 = subst (λ k. IsRightVerdict account (commits_of place.before) (has.judged).stamp (has.judged).ops k) verdict-is.1 (place.rule).verdict in
+      let right : Commits account (commits_of place.before) (has.judged).stamp (has.judged).ops number state.0 verdict-is.0 =
+      subst (λ k. IsRightVerdict account (commits_of place.before) (has.judged).stamp (has.judged).ops k) verdict-is.1 (place.rule).verdict in
       record { judged = has.judged; at = place; number_is = right.number_is; commits_here = subst IsVerdictOf (sym verdict-is.1) tt }
 
   -- a commit at a place is one more
-  pub one-more-commit : (author : ℕ) (deed : StoreDeed) → IsVerdictOf (judged_by author deed).verdict → (c : Commit) × (commit_by deed ≡ c ∷ [])
+  pub one-more-commit : (author : ℕ) (deed : StoreDeed) → IsVerdictOf (judged_by author deed).verdict
+      → (c : Commit) × (commit_by deed ≡ c ∷ [])
   one-more-commit author (Judged r stamp ops asked (verdict.Committed number answers counts)) h = (_, refl)
   one-more-commit author (Judged r stamp ops asked (verdict.Conflict v newer)) h = absurd h
   one-more-commit author (Judged r stamp ops asked (verdict.Refused op reason at)) h = absurd h
 
   -- a commit is counted from its place on
-  pub count-after : (before : List StoreEntry) (entry : StoreEntry) (rest : List StoreEntry) → IsVerdictOf (judged_by entry.author entry.deed).verdict → length (commits_of before) + 1 ≤ length (commits_of (before ++ entry ∷ rest))
+  pub count-after : (before : List StoreEntry) (entry : StoreEntry) (rest : List StoreEntry)
+      → IsVerdictOf (judged_by entry.author entry.deed).verdict
+      → length (commits_of before) + 1 ≤ length (commits_of (before ++ entry ∷ rest))
   count-after before entry rest is =
       let c = one-more-commit entry.author entry.deed is in
-      let all : commits_of (before ++ entry ∷ rest) ≡ commits_of before ++ (c.0 ∷ commits_of rest) = flat_map-append (λ (e : StoreEntry). commit_by e.deed) before (entry ∷ rest) ∙ ap (λ cs. commits_of before ++ (cs ++ commits_of rest)) c.1 in
+      let all : commits_of (before ++ entry ∷ rest) ≡ commits_of before ++ (c.0 ∷ commits_of rest) =
+      flat_map-append (λ (e : StoreEntry). commit_by e.deed) before (entry ∷ rest) ∙ ap (λ cs. commits_of before ++ (cs ++ commits_of rest)) c.1 in
       let long = ap length all ∙ length-append (commits_of before) (c.0 ∷ commits_of rest) in
       omega (arith, long)
 
   -- the entry at a judgement's place has its verdict
-  pub verdict-at : {r : ℕ} {judged : Judgement} (at : IsJudgedAt script account basis r judged) → IsVerdictOf judged.verdict → IsVerdictOf (judged_by (at.entry).author (at.entry).deed).verdict
+  pub verdict-at : {r : ℕ} {judged : Judgement} (at : IsJudgedAt script account basis r judged) → IsVerdictOf judged.verdict
+      → IsVerdictOf (judged_by (at.entry).author (at.entry).deed).verdict
   verdict-at at is = subst (λ (j : Judgement). IsVerdictOf j.verdict) (sym at.judged_is) is
 
   -- and its request
-  pub request-at : {r : ℕ} {judged : Judgement} (at : IsJudgedAt script account basis r judged) → (judged_by (at.entry).author (at.entry).deed).request ≡ r
+  pub request-at : {r : ℕ} {judged : Judgement} (at : IsJudgedAt script account basis r judged)
+      → (judged_by (at.entry).author (at.entry).deed).request ≡ r
   request-at at = ap (λ (j : Judgement). j.request) at.judged_is ∙ at.request_is
 
   -- of two places in the store one is before the other, or they are one
-  pub places : {r s : ℕ} {j k : Judgement} (at : IsJudgedAt script account basis r j) (by : IsJudgedAt script account basis s k) → Apart at.before at.entry by.before by.entry
+  pub places : {r s : ℕ} {j k : Judgement} (at : IsJudgedAt script account basis r j) (by : IsJudgedAt script account basis s k)
+      → Apart at.before at.entry by.before by.entry
   places at by = apart at.before at.entry at.after by.before by.entry by.after (sym at.is ∙ by.is)
 
   -- two replies with one number are of one request
@@ -191,9 +221,11 @@ module _ (script : Script) (account : Account) (basis : Basis script account) (r
   -- the clause on numbers
   pub numbers : AllHold (numbers_clause report)
   numbers =
-      facts-hold (λ before (reply : Reply). IsTrue (is_number_in_place (commits report) before (number_of reply.state))) report.replies (λ before reply after is. at before reply after is (number_of reply.state) refl)
+      facts-hold (λ before (reply : Reply). IsTrue (is_number_in_place (commits report) before (number_of reply.state))) report.replies
+      (λ before reply after is. at before reply after is (number_of reply.state) refl)
     where
-      at : (before : List Reply) (reply : Reply) (after : List Reply) → report.replies ≡ before ++ reply ∷ after → (o : Option ℕ) → number_of reply.state ≡ o → IsTrue (is_number_in_place (commits report) before o)
+      at : (before : List Reply) (reply : Reply) (after : List Reply) → report.replies ≡ before ++ reply ∷ after → (o : Option ℕ)
+          → number_of reply.state ≡ o → IsTrue (is_number_in_place (commits report) before o)
       at before reply after is None e = refl
       at before reply after is (Some number) e =
           let here : Contains report.replies reply = subst (λ rs. Contains rs reply) (sym is) (has_cut before reply after) in
@@ -207,14 +239,20 @@ module _ (script : Script) (account : Account) (basis : Basis script account) (r
           different : (earlier : Reply) → Contains before earlier → earlier.request ≡ reply.request → ⊥
           different earlier k same =
               let place = cut_at before earlier k in
-              let first : slice_get report.replies (length place.before) ≡ Some earlier = ap (λ rs. slice_get rs (length place.before)) (is ∙ ap (λ b. b ++ reply ∷ after) place.is ∙ append_assoc place.before (earlier ∷ place.after) (reply ∷ after)) ∙ get-here place.before earlier (place.after ++ reply ∷ after) in
-              let second : slice_get report.replies (length before) ≡ Some reply = ap (λ rs. slice_get rs (length before)) is ∙ get-here before reply after in
+              let first : slice_get report.replies (length place.before) ≡ Some earlier =
+              ap (λ rs. slice_get rs (length place.before))
+              (is ∙ ap (λ b. b ++ reply ∷ after) place.is ∙ append_assoc place.before (earlier ∷ place.after) (reply ∷ after))
+              ∙ get-here place.before earlier (place.after ++ reply ∷ after) in
+              let second : slice_get report.replies (length before) ≡ Some reply =
+              ap (λ rs. slice_get rs (length before)) is ∙ get-here before reply after in
               let n1 = reply-number script account report reported.matches (length place.before) earlier first in
               let n2 = reply-number script account report reported.matches (length before) reply second in
               let long = ap length place.is ∙ length-append place.before (earlier ∷ place.after) in
               omega (arith, n1, n2, long, same)
 
-          no-earlier : (rs : List Reply) → ((earlier : Reply) → Contains rs earlier → Contains report.replies earlier) → ((earlier : Reply) → Contains rs earlier → earlier.request ≡ reply.request → ⊥) → IsTrue (list_any (λ (earlier : Reply). is_some_and (λ n. n == number) (number_of earlier.state)) rs) → ⊥
+          no-earlier : (rs : List Reply) → ((earlier : Reply) → Contains rs earlier → Contains report.replies earlier)
+              → ((earlier : Reply) → Contains rs earlier → earlier.request ≡ reply.request → ⊥)
+              → IsTrue (list_any (λ (earlier : Reply). is_some_and (λ n. n == number) (number_of earlier.state)) rs) → ⊥
           no-earlier [] inside other h = cc
           no-earlier (first ∷ rs) inside other h =
               elim (or_cases _ _ h) [
@@ -226,4 +264,5 @@ module _ (script : Script) (account : Account) (basis : Basis script account) (r
               clash None e t = cc
               clash (Some n) e' t =
                   let same : n ≡ number = eqb-true n number t in
-                  other first (has_head first rs) (one-number first.request reply.request number (numbered-at first (inside first (has_head first rs)) number (e' ∙ ap Some same)) (numbered-at reply (subst (λ rs. Contains rs reply) (sym is) (has_cut before reply after)) number e))
+                  other first (has_head first rs)
+                  (one-number first.request reply.request number (numbered-at first (inside first (has_head first rs)) number (e' ∙ ap Some same)) (numbered-at reply (subst (λ rs. Contains rs reply) (sym is) (has_cut before reply after)) number e))

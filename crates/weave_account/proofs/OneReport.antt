@@ -1,4 +1,5 @@
--- The report of an account is one: its replies, its pairs and its order. It rests on the clauses on gatekeepers, the store, the oracle and shards.
+-- The report of an account is one: its replies, its pairs and its order. It rests on the clauses on gatekeepers, the
+-- store, the oracle and shards.
 use Rattle.std.proofs.Common.{◌≡◌, ◌≢◌, ℕ, zero, suc, ◌-◌, ◌<◌, false, List, [], ◌∷◌, ◌++◌, map, take, length, Contains, AllPairs, IsTrue, Option, Some, None, ◌⊎◌, inl, inr, refl, sym, ap, subst, ◌∙◌, arith}
 use Rattle.std.specs.Prelude.{slice_get, IsSomeAnd}
 use Rattle.std.specs.List.{AllByRecursion, filter, flat_map}
@@ -23,7 +24,6 @@ use Rattle.program_defs.specs.declared.script.Work.{Work}
 use Rattle.program_defs.specs.declared.script.Work.TheVariants.{Change, Look}
 use Rattle.weave_entries.specs.declared.shard_log.ShardEntry.{ShardEntry}
 use Rattle.weave_entries.specs.declared.store_log.StoreEntry.{StoreEntry}
-use Rattle.weave_entries.specs.Logs.{AtEachEntry}
 use Rattle.weave_entries.specs.ShardReplay.{Update, Visit, visit_by, visits_of, updates_of}
 use Rattle.weave_entries.specs.StoreReplay.{Commit, judged_by, commit_by, commits_of, commits_naming, names_vertex as names}
 use Rattle.report_rules.specs.declared.report.Pair.{Pair}
@@ -38,12 +38,12 @@ use Rattle.weave_account.specs.Account.{commits_in, is_ended, pairs_in, reads_of
 use Rattle.weave_account.specs.Oracle.{marked_in, seen_last}
 use Rattle.weave_account.specs.Pairs.{first_after, ArePairsOf, IsAddedByCommit, IsAddedByVisit, IsPairInAccount}
 use Rattle.weave_account.specs.Report.{IsReplyInAccount, IsReportOfAccount, IsStateOf, IsStateOfProgram}
-use Rattle.weave_account.specs.Shards.{ShardFitsAs, update_of}
+use Rattle.weave_account.specs.Shards.{AreShardDeeds, update_of}
 use Rattle.weave_account.proofs.Basis.{Basis}
 use Rattle.weave_account.proofs.Beginning.{list-there}
-use Rattle.weave_account.proofs.Counting.{First, Same, Second, apart}
+use Rattle.proof_base.proofs.Images.{flat-has}
+use Rattle.proof_base.proofs.Counting.{First, Same, Second, apart}
 use Rattle.weave_account.proofs.Meeting.{visit-fits}
-use Rattle.weave_account.proofs.Members.{flat-has}
 use Rattle.weave_account.proofs.PhaseOrder.{twice}
 use Rattle.weave_account.proofs.PlacedPairs.{commit-known, get-has, one-request}
 use Rattle.weave_account.proofs.RepliesClause.{begin-of}
@@ -55,10 +55,12 @@ use Rattle.weave_account.proofs.Visiting.{get-take}
 -- Lists
 
 -- what is so of each two images is so of each two by their images
-pairs-of-map : {A B : Type 0} (f : A → B) (R : B → B → Type 0) (xs : List A) → AllPairs R (map f xs) → AllPairs (λ a b. R (f a) (f b)) xs
+pairs-of-map : {A B : Type 0} (f : A → B) (R : B → B → Type 0) (xs : List A) → AllPairs R (map f xs)
+    → AllPairs (λ a b. R (f a) (f b)) xs
 pairs-of-map f R [] pairs = pairs_none (λ a b. R (f a) (f b))
 pairs-of-map f R (x ∷ xs) pairs =
-    pairs_cons (λ a b. R (f a) (f b)) x xs (λ y h. pairs_head R (f x) (map f xs) (f y) pairs (has_map f xs y h)) (pairs-of-map f R xs (pairs_tail R (f x) (map f xs) pairs))
+    pairs_cons (λ a b. R (f a) (f b)) x xs (λ y h. pairs_head R (f x) (map f xs) (f y) pairs (has_map f xs y h))
+    (pairs-of-map f R xs (pairs_tail R (f x) (map f xs) pairs))
 
 -- the last of the first n elements is that before place n
 seen-is : (n : ℕ) (stamps : List Stamp) (s : Stamp) → 0 < n → slice_get stamps (n - 1) ≡ Some s → last_seen n stamps ≡ s ∷ []
@@ -83,7 +85,8 @@ record IsOpen (account : Account) (r : ℕ) (state : ReplyState) : Type 0 where
   ended : is_ended account r ≡ false
   is : state ≡ Running
 
-done-or-open : (account : Account) (r : ℕ) (program : Program) (state : ReplyState) → IsStateOfProgram account r program state → IsDone account r program state ⊎ IsOpen account r state
+done-or-open : (account : Account) (r : ℕ) (program : Program) (state : ReplyState) → IsStateOfProgram account r program state
+    → IsDone account r program state ⊎ IsOpen account r state
 done-or-open account r program (Finished answer) is = inl (record { ended = is.0; answer = answer; is = refl; plain = is.1 })
 done-or-open account r program Unbegun is = inr (record { ended = is.0; is = is.1 })
 done-or-open account r program Running is = inr (record { ended = is.0; is = is.1 })
@@ -92,18 +95,22 @@ done-or-open account r program (Conflict v newer) is = inr (record { ended = is.
 done-or-open account r program (Refused op reason at) is = inr (record { ended = is.0; is = is.1 })
 
 module _ (script : Script) (account : Account) (basis : Basis script account) where
-  one-state : (r : ℕ) (stamp : Option Stamp) (work : Work) (s t : ReplyState) → IsStateOf account r stamp work s → IsStateOf account r stamp work t → s ≡ t
+  one-state : (r : ℕ) (stamp : Option Stamp) (work : Work) (s t : ReplyState) → IsStateOf account r stamp work s
+      → IsStateOf account r stamp work t → s ≡ t
   one-state r None work s t is too = is ∙ sym too
   one-state r (Some stamp) (Change ops) s t is too = is ∙ sym too
-  one-state r (Some stamp) (Look program) s t is too = at (done-or-open account r program s is) (done-or-open account r program t too)
+  one-state r (Some stamp) (Look program) s t is too =
+      at (done-or-open account r program s is) (done-or-open account r program t too)
     where
       at : IsDone account r program s ⊎ IsOpen account r s → IsDone account r program t ⊎ IsOpen account r t → s ≡ t
-      at (inl a) (inl b) = a.is ∙ ap Finished (basis.laws.one_answer (graph_read (reads_of account r)) program a.answer b.answer a.plain b.plain) ∙ sym b.is
+      at (inl a) (inl b) =
+          a.is ∙ ap Finished (basis.laws.one_answer (graph_read (reads_of account r)) program a.answer b.answer a.plain b.plain) ∙ sym b.is
       at (inr a) (inr b) = a.is ∙ sym b.is
       at (inl a) (inr b) = absurd (both_ways _ b.ended a.ended)
       at (inr a) (inl b) = absurd (both_ways _ a.ended b.ended)
 
-  one-reply : (x y : Reply) → x.request ≡ y.request → IsReplyInAccount script account x → IsReplyInAccount script account y → x ≡ y
+  one-reply : (x y : Reply) → x.request ≡ y.request → IsReplyInAccount script account x → IsReplyInAccount script account y
+      → x ≡ y
   one-reply x y request is too =
       let stamp : x.stamp ≡ y.stamp = is.stamp_is ∙ ap (stamp_of account) request ∙ sym too.stamp_is in
       let state : x.state ≡ y.state = at (request_at script x.request) is.state_is
@@ -111,12 +118,14 @@ module _ (script : Script) (account : Account) (basis : Basis script account) wh
       (subst (λ r. IsSomeAnd (request_at script r) (λ (q : Request). IsStateOf account r y.stamp q.work y.state)) (sym request) too.state_is)) in
       λ i. record { request = request i; stamp = stamp i; state = state i }
     where
-      at : (o : Option Request) → IsSomeAnd o (λ (q : Request). IsStateOf account x.request x.stamp q.work x.state) → IsSomeAnd o (λ (q : Request). IsStateOf account x.request x.stamp q.work y.state) → x.state ≡ y.state
+      at : (o : Option Request) → IsSomeAnd o (λ (q : Request). IsStateOf account x.request x.stamp q.work x.state)
+          → IsSomeAnd o (λ (q : Request). IsStateOf account x.request x.stamp q.work y.state) → x.state ≡ y.state
       at None h g = absurd h
       at (Some q) h g = one-state x.request x.stamp q.work x.state y.state h g
 
   -- replies to the same requests are the same
-  one-list : (xs ys : List Reply) → map (λ (reply : Reply). reply.request) xs ≡ map (λ (reply : Reply). reply.request) ys → AllByRecursion (IsReplyInAccount script account) xs → AllByRecursion (IsReplyInAccount script account) ys → xs ≡ ys
+  one-list : (xs ys : List Reply) → map (λ (reply : Reply). reply.request) xs ≡ map (λ (reply : Reply). reply.request) ys
+      → AllByRecursion (IsReplyInAccount script account) xs → AllByRecursion (IsReplyInAccount script account) ys → xs ≡ ys
   one-list [] [] e are too = refl
   one-list [] (y ∷ ys) e are too = cc
   one-list (x ∷ xs) [] e are too = cc
@@ -134,11 +143,13 @@ module _ (script : Script) (account : Account) (basis : Basis script account) wh
       sym a.2 ∙ one-request script account basis a.0 b.0 a.1 b.1 (a.3 ∙ sym b.3) ∙ b.2
 
   -- a commit puts one vertex to a pair
-  by-commits : (p q : Pair) → p.earlier ≡ q.earlier → p.later ≡ q.later → IsAddedByCommit account p → IsAddedByCommit account q → p.vertex ≡ q.vertex
+  by-commits : (p q : Pair) → p.earlier ≡ q.earlier → p.later ≡ q.later → IsAddedByCommit account p → IsAddedByCommit account q
+      → p.vertex ≡ q.vertex
   by-commits p q earlier later a b =
       let of-a = commit-of (a.entry).author (a.entry).deed a.commit (subst (λ cs. Contains cs a.commit) (sym a.commit_is) (has_head a.commit [])) in
       let of-b = commit-of (b.entry).author (b.entry).deed b.commit (subst (λ cs. Contains cs b.commit) (sym b.commit_is) (has_head b.commit [])) in
-      let same : (judged_by (a.entry).author (a.entry).deed).request ≡ (judged_by (b.entry).author (b.entry).deed).request = of-a.request ∙ a.later_is ∙ later ∙ sym (of-b.request ∙ b.later_is) in
+      let same : (judged_by (a.entry).author (a.entry).deed).request ≡ (judged_by (b.entry).author (b.entry).deed).request =
+      of-a.request ∙ a.later_is ∙ later ∙ sym (of-b.request ∙ b.later_is) in
       elim (apart a.before a.entry a.after b.before b.entry b.after (sym a.at ∙ b.at)) [
         | Same before entry ↦
             let found : Some p.vertex ≡ Some q.vertex =
@@ -156,55 +167,71 @@ module _ (script : Script) (account : Account) (basis : Basis script account) wh
   not-both : (p q : Pair) → p.later ≡ q.later → IsAddedByCommit account p → IsAddedByVisit account q → ⊥
   not-both p q later a b =
       let in-commits : Contains (commits_in account) a.commit =
-      subst (λ cs. Contains cs a.commit) (sym (ap commits_of a.at ∙ flat_map-append (λ (e : StoreEntry). commit_by e.deed) a.before (a.entry ∷ a.after) ∙ ap (λ cs. commits_of a.before ++ (cs ++ commits_of a.after)) a.commit_is)) (has_cut (commits_of a.before) a.commit (commits_of a.after)) in
+      subst (λ cs. Contains cs a.commit)
+      (sym (ap commits_of a.at ∙ flat_map-append (λ (e : StoreEntry). commit_by e.deed) a.before (a.entry ∷ a.after) ∙ ap (λ cs. commits_of a.before ++ (cs ++ commits_of a.after)) a.commit_is))
+      (has_cut (commits_of a.before) a.commit (commits_of a.after)) in
       let of = commit-known script account basis a.commit in-commits in
       let has = visit-fits script account basis b.shard b.visit b.visited in
       let program = program-begun script account basis (has.fits).home _ (has.fits).begun in
-      let work : (program.request).work ≡ Change (a.commit).ops = subst (λ o. IsSomeAnd o (λ (q : Request). q.work ≡ Change (a.commit).ops)) (ap (request_at script) (a.later_is ∙ later ∙ sym b.later_is) ∙ program.request_is) of.work in
+      let work : (program.request).work ≡ Change (a.commit).ops =
+      subst (λ o. IsSomeAnd o (λ (q : Request). q.work ≡ Change (a.commit).ops))
+      (ap (request_at script) (a.later_is ∙ later ∙ sym b.later_is) ∙ program.request_is) of.work in
       let clash : Look program.program ≡ Change (a.commit).ops = sym program.work ∙ work in
       cc
 
   -- the marked visits of a log, each with its vertex beside what no other has
   abbrev marks-in : List ShardEntry → List (Name × (ℕ × List Stamp))
-  marks-in log = map (λ (visit : Visit). (visit.vertex, (visit.request, seen_last log visit))) (filter (λ (visit : Visit). visit.settled) (visits_of log))
+  marks-in log =
+      map (λ (visit : Visit). (visit.vertex, (visit.request, seen_last log visit))) (filter (λ (visit : Visit). visit.settled) (visits_of log))
 
-  marks-are : (logs : List (List ShardEntry)) → map (λ (mark : Name × (ℕ × List Stamp)). mark.1) (flat_map marks-in logs) ≡ flat_map marked_in logs
+  marks-are : (logs : List (List ShardEntry))
+      → map (λ (mark : Name × (ℕ × List Stamp)). mark.1) (flat_map marks-in logs) ≡ flat_map marked_in logs
   marks-are [] = refl
   marks-are (log ∷ logs) =
       map-append (λ (mark : Name × (ℕ × List Stamp)). mark.1) (marks-in log) (flat_map marks-in logs)
-      ∙ ap (λ xs. xs ++ map (λ (mark : Name × (ℕ × List Stamp)). mark.1) (flat_map marks-in logs)) (each log (filter (λ (visit : Visit). visit.settled) (visits_of log)))
+      ∙ ap (λ xs. xs ++ map (λ (mark : Name × (ℕ × List Stamp)). mark.1) (flat_map marks-in logs))
+      (each log (filter (λ (visit : Visit). visit.settled) (visits_of log)))
       ∙ ap (λ ys. marked_in log ++ ys) (marks-are logs)
     where
-      each : (log : List ShardEntry) (visits : List Visit) → map (λ (mark : Name × (ℕ × List Stamp)). mark.1) (map (λ (visit : Visit). (visit.vertex, (visit.request, seen_last log visit))) visits) ≡ map (λ (visit : Visit). (visit.request, seen_last log visit)) visits
+      each : (log : List ShardEntry) (visits : List Visit)
+          → map (λ (mark : Name × (ℕ × List Stamp)). mark.1) (map (λ (visit : Visit). (visit.vertex, (visit.request, seen_last log visit))) visits) ≡ map (λ (visit : Visit). (visit.request, seen_last log visit)) visits
       each log [] = refl
       each log (visit ∷ visits) = ap (λ ks. (visit.request, seen_last log visit) ∷ ks) (each log visits)
 
   -- no two of them have that in common
   marks-apart : AllPairs (λ (a b : Name × (ℕ × List Stamp)). a.1 ≢ b.1) (flat_map marks-in account.shards)
-  marks-apart = pairs-of-map (λ (mark : Name × (ℕ × List Stamp)). mark.1) (λ (x y : ℕ × List Stamp). x ≢ y) (flat_map marks-in account.shards) (subst (AllPairs (λ (x y : ℕ × List Stamp). x ≢ y)) (sym (marks-are account.shards)) basis.is.oracle.once)
+  marks-apart =
+      pairs-of-map (λ (mark : Name × (ℕ × List Stamp)). mark.1) (λ (x y : ℕ × List Stamp). x ≢ y) (flat_map marks-in account.shards)
+      (subst (AllPairs (λ (x y : ℕ × List Stamp). x ≢ y)) (sym (marks-are account.shards)) basis.is.oracle.once)
 
   -- what a visit that added a pair saw last is the earlier event
-  saw-earlier : (p : Pair) (given : Given) → stamp_of account p.earlier ≡ Some given.0 → (a : IsAddedByVisit account p) → seen_last (shard_log account a.shard) a.visit ≡ given.0 ∷ []
+  saw-earlier : (p : Pair) (given : Given) → stamp_of account p.earlier ≡ Some given.0 → (a : IsAddedByVisit account p)
+      → seen_last (shard_log account a.shard) a.visit ≡ given.0 ∷ []
   saw-earlier p given earlier a =
       let v = (a.visit).vertex in
       let log = shard_log account a.shard in
       let has = visit-fits script account basis a.shard a.visit a.visited in
       let shown = (shows script account basis a.shard v (has.fits).kept_here log (basis.is.shards.deeds a.shard)).are in
-      let all = grows script account basis a.shard v (has.fits).kept_here has.before has.rest (subst (AtEachEntry (λ before (entry : ShardEntry). ShardFitsAs script account a.shard before entry.deed)) has.is (basis.is.shards.deeds a.shard)) in
+      let all =
+      grows script account basis a.shard v (has.fits).kept_here has.before has.rest
+      (subst (AreShardDeeds script account a.shard) has.is (basis.is.shards.deeds a.shard)) in
       let whole = ap (λ l. length (updates_of v l)) has.is in
       let applied = (has.fits).applied in
       let sees = a.sees in
       at (slice_get (commits_naming p.vertex (commits_in account)) ((a.visit).updates - 1)) refl a.last_is
       (ap (map (λ (u : Update). u.stamp)) shown) (omega (arith, all, whole, applied, sees))
     where
-      at : (o : Option Commit) → slice_get (commits_naming p.vertex (commits_in account)) ((a.visit).updates - 1) ≡ o → IsSomeAnd o (λ (commit : Commit). commit.request ≡ p.earlier)
+      at : (o : Option Commit) → slice_get (commits_naming p.vertex (commits_in account)) ((a.visit).updates - 1) ≡ o
+          → IsSomeAnd o (λ (commit : Commit). commit.request ≡ p.earlier)
           → map (λ (u : Update). u.stamp) (updates_of (a.visit).vertex (shard_log account a.shard)) ≡ map (λ (u : Update). u.stamp) (map (update_of (a.visit).vertex) (take (length (updates_of (a.visit).vertex (shard_log account a.shard))) (commits_naming (a.visit).vertex (commits_in account))))
-          → (a.visit).updates - 1 < length (updates_of (a.visit).vertex (shard_log account a.shard)) → seen_last (shard_log account a.shard) a.visit ≡ given.0 ∷ []
+          → (a.visit).updates - 1 < length (updates_of (a.visit).vertex (shard_log account a.shard))
+          → seen_last (shard_log account a.shard) a.visit ≡ given.0 ∷ []
       at None e h are less = absurd h
       at (Some c) e h are less =
           let v = (a.visit).vertex in
           let naming = commits_naming v (commits_in account) in
-          let there : slice_get naming ((a.visit).updates - 1) ≡ Some c = ap (λ w. slice_get (commits_naming w (commits_in account)) ((a.visit).updates - 1)) a.vertex_is ∙ e in
+          let there : slice_get naming ((a.visit).updates - 1) ≡ Some c =
+          ap (λ w. slice_get (commits_naming w (commits_in account)) ((a.visit).updates - 1)) a.vertex_is ∙ e in
           let in-all = (filter_has (names v) (commits_in account) c (get-has naming ((a.visit).updates - 1) c there)).0 in
           let stamps : Some c.stamp ≡ Some given.0 = sym (commit-known script account basis c in-all).stamp ∙ ap (stamp_of account) h ∙ earlier in
           let same : c.stamp ≡ given.0 = cc in
@@ -212,21 +239,26 @@ module _ (script : Script) (account : Account) (basis : Basis script account) wh
           seen-is (a.visit).updates (map (λ (u : Update). u.stamp) (updates_of v (shard_log account a.shard))) given.0 a.sees
           (ap (λ xs. slice_get xs ((a.visit).updates - 1)) are
           ∙ slice_get-map (λ (u : Update). u.stamp) (map (update_of v) (take many naming)) ((a.visit).updates - 1)
-          ∙ ap (option_map (λ (u : Update). u.stamp)) (slice_get-map (update_of v) (take many naming) ((a.visit).updates - 1) ∙ ap (option_map (update_of v)) (get-take many naming ((a.visit).updates - 1) less ∙ there))
+          ∙ ap (option_map (λ (u : Update). u.stamp))
+          (slice_get-map (update_of v) (take many naming) ((a.visit).updates - 1) ∙ ap (option_map (update_of v)) (get-take many naming ((a.visit).updates - 1) less ∙ there))
           ∙ ap Some same)
 
-  mark-there : (p : Pair) (given : Given) → stamp_of account p.earlier ≡ Some given.0 → (a : IsAddedByVisit account p) → Contains (flat_map marks-in account.shards) (p.vertex, (p.later, given.0 ∷ []))
+  mark-there : (p : Pair) (given : Given) → stamp_of account p.earlier ≡ Some given.0 → (a : IsAddedByVisit account p)
+      → Contains (flat_map marks-in account.shards) (p.vertex, (p.later, given.0 ∷ []))
   mark-there p given earlier a =
       let log = shard_log account a.shard in
       let entry = flat-has (λ (e : ShardEntry). visit_by e.author e.deed) log a.visit a.visited in
       let mark : Contains (marks-in log) ((a.visit).vertex, ((a.visit).request, seen_last log a.visit)) =
-      has_map (λ (visit : Visit). (visit.vertex, (visit.request, seen_last log visit))) (filter (λ (visit : Visit). visit.settled) (visits_of log)) a.visit (has_filter (λ (visit : Visit). visit.settled) (visits_of log) a.visit a.visited a.marked) in
+      has_map (λ (visit : Visit). (visit.vertex, (visit.request, seen_last log visit)))
+      (filter (λ (visit : Visit). visit.settled) (visits_of log)) a.visit
+      (has_filter (λ (visit : Visit). visit.settled) (visits_of log) a.visit a.visited a.marked) in
       has_flat marks-in account.shards log (p.vertex, (p.later, given.0 ∷ [])) (list-there account.shards a.shard entry.0 entry.1.0)
       (subst (λ w. Contains (marks-in log) (w, (p.later, given.0 ∷ []))) a.vertex_is
       (subst (λ r. Contains (marks-in log) ((a.visit).vertex, (r, given.0 ∷ []))) a.later_is
       (subst (λ ss. Contains (marks-in log) ((a.visit).vertex, ((a.visit).request, ss))) (saw-earlier p given earlier a) mark)))
 
-  by-visits : (p q : Pair) (given : Given) → stamp_of account p.earlier ≡ Some given.0 → stamp_of account q.earlier ≡ Some given.0 → p.later ≡ q.later → IsAddedByVisit account p → IsAddedByVisit account q → p.vertex ≡ q.vertex
+  by-visits : (p q : Pair) (given : Given) → stamp_of account p.earlier ≡ Some given.0 → stamp_of account q.earlier ≡ Some given.0
+      → p.later ≡ q.later → IsAddedByVisit account p → IsAddedByVisit account q → p.vertex ≡ q.vertex
   by-visits p q given ep eq later a b =
       elim (pairs_cases (λ (x y : Name × (ℕ × List Stamp)). x.1 ≢ y.1) (flat_map marks-in account.shards) marks-apart (p.vertex, (p.later, given.0 ∷ [])) (q.vertex, (q.later, given.0 ∷ [])) (mark-there p given ep a) (mark-there q given eq b)) [
         | inl same ↦ ap (λ (m : Name × (ℕ × List Stamp)). m.0) same
@@ -241,7 +273,8 @@ module _ (script : Script) (account : Account) (basis : Basis script account) wh
       let vertex : p.vertex ≡ q.vertex = at earlier later is.added too.added in
       λ i. record { vertex = vertex i; earlier = earlier i; later = later i }
     where
-      at : p.earlier ≡ q.earlier → p.later ≡ q.later → IsAddedByCommit account p ⊎ IsAddedByVisit account p → IsAddedByCommit account q ⊎ IsAddedByVisit account q → p.vertex ≡ q.vertex
+      at : p.earlier ≡ q.earlier → p.later ≡ q.later → IsAddedByCommit account p ⊎ IsAddedByVisit account p
+          → IsAddedByCommit account q ⊎ IsAddedByVisit account q → p.vertex ≡ q.vertex
       at earlier later (inl a) (inl b) = by-commits p q earlier later a b
       at earlier later (inr a) (inr b) = by-visits p q given is.earlier_is too.earlier_is later a b
       at earlier later (inl a) (inr b) = absurd (not-both p q later a b)
@@ -253,13 +286,15 @@ module _ (script : Script) (account : Account) (basis : Basis script account) wh
   one-pairs (p ∷ ps) qs [] are too = absurd are
   one-pairs [] qs (g ∷ gs) are too = absurd are
   one-pairs (p ∷ ps) [] (g ∷ gs) are too = absurd too
-  one-pairs (p ∷ ps) (q ∷ qs) (g ∷ gs) are too = ap (λ k. k ∷ ps) (one-pair p q g are.0 too.0) ∙ ap (λ ks. q ∷ ks) (one-pairs ps qs gs are.1 too.1)
+  one-pairs (p ∷ ps) (q ∷ qs) (g ∷ gs) are too =
+      ap (λ k. k ∷ ps) (one-pair p q g are.0 too.0) ∙ ap (λ ks. q ∷ ks) (one-pairs ps qs gs are.1 too.1)
 
   -- The report
 
   module _ (a b : Report) (is : IsReportOfAccount script account a) (too : IsReportOfAccount script account b) where
     pub same-replies : a.replies ≡ b.replies
-    same-replies = one-list a.replies b.replies (is.matches.requests ∙ sym too.matches.requests) is.matches.replies too.matches.replies
+    same-replies =
+        one-list a.replies b.replies (is.matches.requests ∙ sym too.matches.requests) is.matches.replies too.matches.replies
 
     pub same-pairs : a.pairs ≡ b.pairs
     same-pairs = one-pairs a.pairs b.pairs (pairs_in account) is.matches.pairs too.matches.pairs
@@ -272,9 +307,13 @@ module _ (script : Script) (account : Account) (basis : Basis script account) wh
         (plain b b.order too.order)
       where
         -- the printed order depends on replies and pairs alone
-        all-taken : (report : Report) (remaining taken : List ℕ) → TakesAll report remaining taken → TakesAll (record { replies = report.replies; pairs = report.pairs; order = []; answers = [] }) remaining taken
+        all-taken : (report : Report) (remaining taken : List ℕ) → TakesAll report remaining taken
+            → TakesAll (record { replies = report.replies; pairs = report.pairs; order = []; answers = [] }) remaining taken
         all-taken report remaining [] h = h
-        all-taken report remaining (r ∷ taken) h = (record { remains = (h.0).remains; free = (h.0).free; least = (h.0).least }, all-taken report (without_request r remaining) taken h.1)
+        all-taken report remaining (r ∷ taken) h =
+            (record { remains = (h.0).remains; free = (h.0).free; least = (h.0).least }, all-taken report (without_request r remaining) taken h.1)
 
-        plain : (report : Report) (order : List ℕ) → IsPrintedOrder report order → IsPrintedOrder (record { replies = report.replies; pairs = report.pairs; order = []; answers = [] }) order
-        plain report order printed = record { taken = printed.taken; in_turn = all-taken report _ printed.taken printed.in_turn; listed = printed.listed }
+        plain : (report : Report) (order : List ℕ) → IsPrintedOrder report order
+            → IsPrintedOrder (record { replies = report.replies; pairs = report.pairs; order = []; answers = [] }) order
+        plain report order printed =
+            record { taken = printed.taken; in_turn = all-taken report _ printed.taken printed.in_turn; listed = printed.listed }

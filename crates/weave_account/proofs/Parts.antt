@@ -29,7 +29,8 @@ module _ (laws : LowerLaws) (shards shard : ℕ) (v : Name) (here : shard_of v s
   of-vertex parts = filter (λ (part : Part). same_name part.vertex v) parts
 
   -- of the parts for some vertices that for this vertex is one, if it is among them
-  pub parts-here : (ns : List Name) → AllPairs (λ a b. a ≢ b) ns → filter (λ (part : Part). same_name part.vertex v) (map (part_for ops) (filter (keeps shards shard) (map counted ns))) ≡ cond (is_among ns v) (the-part ∷ []) []
+  pub parts-here : (ns : List Name) → AllPairs (λ a b. a ≢ b) ns
+      → filter (λ (part : Part). same_name part.vertex v) (map (part_for ops) (filter (keeps shards shard) (map counted ns))) ≡ cond (is_among ns v) (the-part ∷ []) []
   parts-here [] u = refl
   parts-here (w ∷ ns) u =
       let more = parts-here ns (pairs_tail (λ a b. a ≢ b) w ns u) in
@@ -38,19 +39,23 @@ module _ (laws : LowerLaws) (shards shard : ℕ) (v : Name) (here : shard_of v s
         | inr other ↦ at (keeps shards shard (counted w)) other more
       ]
     where
-      at : (b : Bool) → same_name w v ≡ false → of-vertex (map (part_for ops) (filter (keeps shards shard) (map counted ns))) ≡ cond (is_among ns v) (the-part ∷ []) []
+      at : (b : Bool) → same_name w v ≡ false
+          → of-vertex (map (part_for ops) (filter (keeps shards shard) (map counted ns))) ≡ cond (is_among ns v) (the-part ∷ []) []
           → of-vertex (map (part_for ops) (cond b (counted w ∷ filter (keeps shards shard) (map counted ns)) (filter (keeps shards shard) (map counted ns)))) ≡ cond (same_name w v || is_among ns v) (the-part ∷ []) []
       at false e same = same ∙ ap (λ k. cond (k || is_among ns v) (the-part ∷ []) []) (sym e)
       at true e same =
           ap (λ k. cond k (part_for ops (counted w) ∷ of-vertex (map (part_for ops) (filter (keeps shards shard) (map counted ns)))) (of-vertex (map (part_for ops) (filter (keeps shards shard) (map counted ns))))) e
           ∙ same ∙ ap (λ k. cond (k || is_among ns v) (the-part ∷ []) []) (sym e)
 
-      this : w ≡ v → IsTrue (same_name w v) → of-vertex (map (part_for ops) (filter (keeps shards shard) (map counted ns))) ≡ cond (is_among ns v) (the-part ∷ []) []
+      this : w ≡ v → IsTrue (same_name w v)
+          → of-vertex (map (part_for ops) (filter (keeps shards shard) (map counted ns))) ≡ cond (is_among ns v) (the-part ∷ []) []
           → of-vertex (map (part_for ops) (filter (keeps shards shard) (map counted (w ∷ ns)))) ≡ cond (is_among (w ∷ ns) v) (the-part ∷ []) []
       this is same more =
           let kept : keeps shards shard (counted w) ≡ true = eq-eqb (shard_of w shards) shard (ap (λ k. shard_of k shards) is ∙ here) in
-          let none : is_among ns v ≡ false = false_from_ne_true (is_among ns v) (λ h. pairs_head (λ a b. a ≢ b) w ns v u ((laws.among ns v).0 h) is) in
-          let empty : of-vertex (map (part_for ops) (filter (keeps shards shard) (map counted ns))) ≡ [] = more ∙ ap (λ b. cond b (the-part ∷ []) []) none in
+          let none : is_among ns v ≡ false =
+          false_from_ne_true (is_among ns v) (λ h. pairs_head (λ a b. a ≢ b) w ns v u ((laws.named_among ns v).0 h) is) in
+          let empty : of-vertex (map (part_for ops) (filter (keeps shards shard) (map counted ns))) ≡ [] =
+          more ∙ ap (λ b. cond b (the-part ∷ []) []) none in
           ap (λ b. of-vertex (map (part_for ops) (cond b (counted w ∷ filter (keeps shards shard) (map counted ns)) (filter (keeps shards shard) (map counted ns))))) kept
           ∙ ap (λ k. cond k (part_for ops (counted w) ∷ of-vertex (map (part_for ops) (filter (keeps shards shard) (map counted ns)))) (of-vertex (map (part_for ops) (filter (keeps shards shard) (map counted ns))))) same
           ∙ ap (λ xs. part_for ops (counted w) ∷ xs) empty

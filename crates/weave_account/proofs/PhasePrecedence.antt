@@ -1,4 +1,5 @@
--- No request of a later phase precedes one of an earlier phase. It rests on the clauses on gatekeepers, clocks and the oracle.
+-- No request of a later phase precedes one of an earlier phase. It rests on the clauses on gatekeepers, clocks and
+-- the oracle.
 use Rattle.std.proofs.Common.{◌≡◌, ◌≢◌, ℕ, ◌+◌, ◌<◌, ◌≤◌, ◌==◌, ◌&&◌, Bool, cond, List, [], ◌∷◌, ◌++◌, map, Contains, IsTrue, Option, Some, None, ◌⊎◌, inl, inr, refl, sym, ap, subst, ◌∙◌, append_assoc, arith}
 use Rattle.std.specs.List.{count_by}
 use Rattle.std.proofs.lemmas.Bool.{cases_eq, cases_lt, eq-eqb}
@@ -34,7 +35,7 @@ use Rattle.weave_account.proofs.Basis.{Basis}
 use Rattle.weave_account.proofs.Beginning.{all-in, begun-stamp}
 use Rattle.weave_account.proofs.BegunStamps.{clock-there}
 use Rattle.weave_account.proofs.Growing.{begun-stays, count-more}
-use Rattle.weave_account.proofs.Members.{flat-has, map-has}
+use Rattle.proof_base.proofs.Images.{flat-has, map-has}
 use Rattle.weave_account.proofs.PhaseOrder.{at-end, replied-begun}
 use Rattle.weave_account.proofs.PlacedPairs.{one-request, placed-are}
 use Rattle.weave_account.proofs.RepliesClause.{begin-of}
@@ -47,9 +48,12 @@ record IsEvent (home : ℕ) (before : Clock) (deed : GateDeed) (begun : Begun) :
   clock : clock_after home before deed ≡ begun.stamp.clock
   stamps : stamps_by deed ≡ begun.stamp ∷ []
 
-begin-event : (home author : ℕ) (before : Clock) (deed : GateDeed) (begun : Begun) → Contains (begun_by author deed) begun → IsEvent home before deed begun
-begin-event home author before (BeganTx r stamp) begun h = let same = only _ begun h in record { clock = ap (λ (b : Begun). b.stamp.clock) same; stamps = ap (λ (b : Begun). b.stamp ∷ []) same }
-begin-event home author before (BeganProgram r stamp) begun h = let same = only _ begun h in record { clock = ap (λ (b : Begun). b.stamp.clock) same; stamps = ap (λ (b : Begun). b.stamp ∷ []) same }
+begin-event : (home author : ℕ) (before : Clock) (deed : GateDeed) (begun : Begun) → Contains (begun_by author deed) begun
+    → IsEvent home before deed begun
+begin-event home author before (BeganTx r stamp) begun h =
+    let same = only _ begun h in record { clock = ap (λ (b : Begun). b.stamp.clock) same; stamps = ap (λ (b : Begun). b.stamp ∷ []) same }
+begin-event home author before (BeganProgram r stamp) begun h =
+    let same = only _ begun h in record { clock = ap (λ (b : Begun). b.stamp.clock) same; stamps = ap (λ (b : Begun). b.stamp ∷ []) same }
 begin-event home author before (Sent r messages) begun h = absurd (has_none begun h)
 begin-event home author before (Nop to number stamp low) begun h = absurd (has_none begun h)
 begin-event home author before (Heard clock) begun h = absurd (has_none begun h)
@@ -57,18 +61,24 @@ begin-event home author before (Raised epoch) begun h = absurd (has_none begun h
 begin-event home author before (Finished r) begun h = absurd (has_none begun h)
 
 -- a begin counts one more than the ticks of its epoch before it
-begin-count : (script : Script) (account : Account) (basis : Basis script account) (home : ℕ) (begun : Begun) → Contains (begun_in (gate_log account home)) begun
-    → (before : List GateEntry) (entry : GateEntry) (after : List GateEntry) → gate_log account home ≡ before ++ entry ∷ after → Contains (begun_by entry.author entry.deed) begun
+begin-count : (script : Script) (account : Account) (basis : Basis script account) (home : ℕ) (begun : Begun)
+    → Contains (begun_in (gate_log account home)) begun
+    → (before : List GateEntry) (entry : GateEntry) (after : List GateEntry) → gate_log account home ≡ before ++ entry ∷ after
+    → Contains (begun_by entry.author entry.deed) begun
     → count_of home begun.stamp.clock ≡ ticks_of begun.stamp.clock.epoch before + 1
 begin-count script account basis home begun there before entry after is h =
     let event = begin-event home entry.author (clock_of home before) entry.deed begun h in
     let log = before ++ entry ∷ [] in
     let right : IsGateLog home script.shards log = each_before (λ b (e : GateEntry). FitsAs home script.shards b e.author e.deed) log after
     (subst (IsGateLog home script.shards) (is ∙ sym (append_assoc before (entry ∷ []) after)) (basis.is.gatekeepers.logs home)) in
-    let clock : clock_of home log ≡ begun.stamp.clock = fold-append (λ c (e : GateEntry). clock_after home c e.deed) _ before (entry ∷ []) ∙ event.clock in
-    let counts : count_of home (clock_of home log) ≡ ticks_of (clock_of home log).epoch log = basis.laws.ticks home script.shards log (home-below script account basis home begun there) right in
-    let ticks : count_of home begun.stamp.clock ≡ ticks_of begun.stamp.clock.epoch log = subst (λ (c : Clock). count_of home c ≡ ticks_of c.epoch log) clock counts in
-    let stamps : stamps_of log ≡ stamps_of before ++ begun.stamp ∷ [] = flat_push (λ (e : GateEntry). stamps_by e.deed) before entry ∙ ap (λ ss. stamps_of before ++ ss) event.stamps in
+    let clock : clock_of home log ≡ begun.stamp.clock =
+    fold-append (λ c (e : GateEntry). clock_after home c e.deed) _ before (entry ∷ []) ∙ event.clock in
+    let counts : count_of home (clock_of home log) ≡ ticks_of (clock_of home log).epoch log =
+    basis.laws.ticks home script.shards log (home-below script account basis home begun there) right in
+    let ticks : count_of home begun.stamp.clock ≡ ticks_of begun.stamp.clock.epoch log =
+    subst (λ (c : Clock). count_of home c ≡ ticks_of c.epoch log) clock counts in
+    let stamps : stamps_of log ≡ stamps_of before ++ begun.stamp ∷ [] =
+    flat_push (λ (e : GateEntry). stamps_by e.deed) before entry ∙ ap (λ ss. stamps_of before ++ ss) event.stamps in
     ticks ∙ ap (count_by (λ (s : Stamp). s.clock.epoch == begun.stamp.clock.epoch)) stamps
     ∙ count_push (λ (s : Stamp). s.clock.epoch == begun.stamp.clock.epoch) (stamps_of before) begun.stamp
     ∙ ap (λ b. ticks_of begun.stamp.clock.epoch before + cond b 1 0) (eq-eqb begun.stamp.clock.epoch begun.stamp.clock.epoch refl)
@@ -81,16 +91,21 @@ ticks-front epoch log more =
     omega (arith, stamps, le)
 
 -- the script has each begun request
-request-of : (script : Script) (account : Account) (basis : Basis script account) (b : Begun) → Contains (all_begun account) b → (request : Request) × (request_at script b.request ≡ Some request)
-request-of script account basis b h = let right = begun-rightly script account basis b h in at right.home right.kind (request_at script b.request) refl (right.rule).own
+request-of : (script : Script) (account : Account) (basis : Basis script account) (b : Begun) → Contains (all_begun account) b
+    → (request : Request) × (request_at script b.request ≡ Some request)
+request-of script account basis b h =
+    let right = begun-rightly script account basis b h in at right.home right.kind (request_at script b.request) refl (right.rule).own
   where
-    at : (home : ℕ) (kind : Work → Bool) (o : Option Request) → request_at script b.request ≡ o → IsTrue (is_some_and (λ (request : Request). (request.gate == home) && kind request.work) o) → (request : Request) × (request_at script b.request ≡ Some request)
+    at : (home : ℕ) (kind : Work → Bool) (o : Option Request) → request_at script b.request ≡ o
+        → IsTrue (is_some_and (λ (request : Request). (request.gate == home) && kind request.work) o)
+        → (request : Request) × (request_at script b.request ≡ Some request)
     at home kind None e own = cc
     at home kind (Some request) e own = (request, e)
 
 -- Pairs join begun events
 
-pair-ends : (account : Account) (pairs : List Pair) (givens : List Given) (given : Given) → ArePairsOf account pairs givens → Contains givens given → (pair : Pair) × IsPairInAccount account pair given
+pair-ends : (account : Account) (pairs : List Pair) (givens : List Given) (given : Given) → ArePairsOf account pairs givens
+    → Contains givens given → (pair : Pair) × IsPairInAccount account pair given
 pair-ends account [] [] given are h = absurd (has_none given h)
 pair-ends account [] (first ∷ givens) given are h = absurd are
 pair-ends account (pair ∷ pairs) [] given are h = absurd are
@@ -110,7 +125,8 @@ module _ (script : Script) (account : Account) (basis : Basis script account) wh
       let b = begin-of script account basis r stamp e in
       subst (Contains events) b.3 (has_map (λ (k : Begun). k.stamp) (all_begun account) b.0 b.1)
 
-  joins : JoinsEvents events (pairs_in account)
+  -- each pair of the oracle joins two of them
+  pub joins : JoinsEvents events (pairs_in account)
   joins a b h =
       let pair = pair-ends account (placed_pairs account) (pairs_in account) (a, b) (placed-are script account basis) h in
       (event-of (pair.0).earlier a (pair.1).earlier_is, event-of (pair.0).later b (pair.1).later_is)
@@ -132,10 +148,14 @@ module _ (script : Script) (account : Account) (basis : Basis script account) wh
     begun-by-then : (b : Begun) → Contains (all_begun account) b → phase_of script b.request ≤ phase → Contains (all_begun logs) b
     begun-by-then b h le =
         let request = request-of script account basis b h in
-        let then = replied-begun script logs (at-end script account basis phase logs ends) b.request (request.0).session (ends.replied b.request request.0 request.1 le) in
-        at b then.0 then.1 then.2 (pairs_cases (λ (x y : Begun). x.request ≢ y.request) (all_begun account) basis.is.gatekeepers.once b then.0 h (early then.0 then.1).0)
+        let then =
+        replied-begun script logs (at-end script account basis phase logs ends) b.request (request.0).session
+        (ends.replied b.request request.0 request.1 le) in
+        at b then.0 then.1 then.2
+        (pairs_cases (λ (x y : Begun). x.request ≢ y.request) (all_begun account) basis.is.gatekeepers.once b then.0 h (early then.0 then.1).0)
       where
-        at : (b c : Begun) → Contains (all_begun logs) c → c.request ≡ b.request → (b ≡ c) ⊎ ((b.request ≢ c.request) ⊎ (c.request ≢ b.request)) → Contains (all_begun logs) b
+        at : (b c : Begun) → Contains (all_begun logs) c → c.request ≡ b.request
+            → (b ≡ c) ⊎ ((b.request ≢ c.request) ⊎ (c.request ≢ b.request)) → Contains (all_begun logs) b
         at b c there same (inl is) = subst (Contains (all_begun logs)) (sym is) there
         at b c there same (inr (inl differ)) = absurd (differ (sym same))
         at b c there same (inr (inr differ)) = absurd (differ same)
@@ -144,24 +164,29 @@ module _ (script : Script) (account : Account) (basis : Basis script account) wh
     known-then : (b : Begun) → Contains (all_begun logs) b → IsKnown logs b.stamp.clock × (b.stamp.clock.epoch ≡ 0)
     known-then b h =
         let right = begun-rightly script logs (at-end script account basis phase logs ends) b h in
-        let known = ends.is.clocks.known right.home b.stamp.clock (clock-there (gate_log logs right.home) b right.there) in
+        let known = ends.is_account.clocks.known right.home b.stamp.clock (clock-there (gate_log logs right.home) b right.there) in
         (known, elim (cases_eq b.stamp.clock.epoch 0) [ inl first ↦ first | inr above ↦ absurd (ends.epochs b.stamp.clock.epoch (known.raised above)) ])
 
     -- a late event counts more of its gatekeeper's events than were made by then
-    counts-more : (s : Stamp) → Contains events s → IsLate s → (home : ℕ) × (ticks_of s.clock.epoch (gate_log logs home) < count_of home s.clock)
+    counts-more : (s : Stamp) → Contains events s → IsLate s
+        → (home : ℕ) × (ticks_of s.clock.epoch (gate_log logs home) < count_of home s.clock)
     counts-more s h late =
         let b = begin-at s h in
         let right = begun-rightly script account basis b.0 b.1 in
         let more = (ends.goes_on).gates right.home in
         let parts : Contains (begun_in (gate_log logs right.home) ++ begun_in more.0) b.0 =
-        subst (λ bs. Contains bs b.0) (flat_map-append (λ (e : GateEntry). begun_by e.author e.deed) (gate_log logs right.home) more.0) (subst (λ l. Contains (begun_in l) b.0) more.1 right.there) in
+        subst (λ bs. Contains bs b.0) (flat_map-append (λ (e : GateEntry). begun_by e.author e.deed) (gate_log logs right.home) more.0)
+        (subst (λ l. Contains (begun_in l) b.0) more.1 right.there) in
         elim (Contains-append_cases (begun_in (gate_log logs right.home)) (begun_in more.0) b.0 parts) [
           | inl then ↦ absurd (let le = (early b.0 (all-in logs right.home b.0 then)).1 in let lt = late b.0 b.1 b.2 in omega (arith, le, lt))
           | inr later ↦
               let entry = flat-has (λ (e : GateEntry). begun_by e.author e.deed) more.0 b.0 later in
               let place = cut_at more.0 entry.0 entry.1.0 in
-              let is : gate_log account right.home ≡ (gate_log logs right.home ++ place.before) ++ entry.0 ∷ place.after = more.1 ∙ ap (λ l. gate_log logs right.home ++ l) place.is ∙ sym (append_assoc (gate_log logs right.home) place.before (entry.0 ∷ place.after)) in
-              let count = begin-count script account basis right.home b.0 right.there (gate_log logs right.home ++ place.before) entry.0 place.after is entry.1.1 in
+              let is : gate_log account right.home ≡ (gate_log logs right.home ++ place.before) ++ entry.0 ∷ place.after =
+              more.1 ∙ ap (λ l. gate_log logs right.home ++ l) place.is
+              ∙ sym (append_assoc (gate_log logs right.home) place.before (entry.0 ∷ place.after)) in
+              let count =
+              begin-count script account basis right.home b.0 right.there (gate_log logs right.home ++ place.before) entry.0 place.after is entry.1.1 in
               let grow = ticks-front ((b.0).stamp.clock.epoch) (gate_log logs right.home) place.before in
               (right.home, subst (λ (k : Stamp). ticks_of k.clock.epoch (gate_log logs right.home) < count_of right.home k.clock) b.2 (omega (arith, count, grow)))
         ]
@@ -183,7 +208,9 @@ module _ (script : Script) (account : Account) (basis : Basis script account) wh
               ]
         ]
       where
-        too-many : (s t : Stamp) (home : ℕ) → ticks_of s.clock.epoch (gate_log logs home) < count_of home s.clock → s.clock.epoch ≡ t.clock.epoch → count_of home s.clock ≤ count_of home t.clock → count_of home t.clock ≤ ticks_of t.clock.epoch (gate_log logs home) → ⊥
+        too-many : (s t : Stamp) (home : ℕ) → ticks_of s.clock.epoch (gate_log logs home) < count_of home s.clock
+            → s.clock.epoch ≡ t.clock.epoch → count_of home s.clock ≤ count_of home t.clock
+            → count_of home t.clock ≤ ticks_of t.clock.epoch (gate_log logs home) → ⊥
         too-many s t home more epoch le known =
             let same = ap (λ e. ticks_of e (gate_log logs home)) epoch in
             omega (arith, more, le, known, same)
@@ -207,15 +234,19 @@ module _ (script : Script) (account : Account) (basis : Basis script account) wh
     late-stays _ _ (AmongThrough s t u first second) late = late-stays t u second (late-stays s t first late)
 
 -- no request of a later phase precedes one of an earlier phase
-pub later-never-precedes : (script : Script) (account : Account) (basis : Basis script account) → IsRunByPhases script account → (a b : ℕ) (x y : Stamp) → phase_of script a < phase_of script b
+pub later-never-precedes : (script : Script) (account : Account) (basis : Basis script account) → IsRunByPhases script account
+    → (a b : ℕ) (x y : Stamp) → phase_of script a < phase_of script b
     → stamp_of account a ≡ Some x → stamp_of account b ≡ Some y → ¬ Precedence account y x
 later-never-precedes script account basis run a b x y less ea eb h =
     let phase = phase_of script a in
-    let logs = (run phase).0 in
-    let ends = (run phase).1 in
     let first = begin-of script account basis a x ea in
     let second = begin-of script account basis b y eb in
-    let among = basis.laws.events (events script account basis) (pairs_in account) (joins script account basis) y x (event-of script account basis b y eb) (event-of script account basis a x ea) h in
+    let ended = run phase second.0 second.1 (subst (λ n. phase < phase_of script n) (sym second.2) less) in
+    let logs = ended.0 in
+    let ends = ended.1 in
+    let among =
+    basis.laws.events (events script account basis) (pairs_in account) (joins script account basis) y x
+    (event-of script account basis b y eb) (event-of script account basis a x ea) h in
     let late = late-stays script account basis phase logs ends y x among (λ k there is. (let same : k.request ≡ b = one-request script account basis k second.0 there second.1 (is ∙ sym second.3) ∙ second.2 in subst (λ n. phase < phase_of script n) (sym same) less)) in
     let too-late : phase < phase_of script a = subst (λ n. phase < phase_of script n) first.2 (late first.0 first.1 first.3) in
     omega (arith, too-late)

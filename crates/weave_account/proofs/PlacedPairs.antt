@@ -1,4 +1,5 @@
--- The pairs that are computed from the logs are those of the account. It rests on the clauses on the oracle, the store, gatekeepers and shards, and on "the updates applied are the first commits".
+-- The pairs that are computed from the logs are those of the account. It rests on the clauses on the oracle, the
+-- store, gatekeepers and shards, and on "the updates applied are the first commits".
 use Rattle.std.proofs.Common.{◌≡◌, ◌≢◌, ℕ, zero, suc, ◌-◌, ◌<◌, Bool, true, false, not, cond, ◌==◌, ◌&&◌, ◌||◌, List, [], ◌∷◌, ◌++◌, map, take, length, Contains, IsTrue, Option, Some, None, ◌⊎◌, inl, inr, refl, sym, ap, subst, ◌∙◌, arith}
 use Rattle.std.specs.Prelude.{slice_get, IsSomeAnd, reverse}
 use Rattle.std.specs.List.{find, filter_map, flat_map, cons_option, list_any}
@@ -41,7 +42,7 @@ use Rattle.weave_account.proofs.Additions.{first-place}
 use Rattle.weave_account.proofs.Basis.{Basis}
 use Rattle.weave_account.proofs.Beginning.{all-in, list-there, tx-begun}
 use Rattle.weave_account.proofs.Meeting.{visit-fits, visit-stamp}
-use Rattle.weave_account.proofs.Members.{flat-has, map-has}
+use Rattle.proof_base.proofs.Images.{flat-has, map-has}
 use Rattle.weave_account.proofs.RepliesClause.{begin-of, stamps-apart}
 use Rattle.weave_account.proofs.Replying.{place-of}
 use Rattle.weave_account.proofs.Storing.{IsOfScript, commit-of, of-script}
@@ -65,11 +66,14 @@ get-front (suc n) (y ∷ xs) zero x e = e
 get-front (suc n) (y ∷ xs) (suc i) x e = get-front n xs i x e
 
 -- what is left of `filter_map` comes from a member
-filter_map-from : {A B : Type 0} (f : A → Option B) (xs : List A) (y : B) → Contains (filter_map f xs) y → (x : A) × Contains xs x × (f x ≡ Some y)
+filter_map-from : {A B : Type 0} (f : A → Option B) (xs : List A) (y : B) → Contains (filter_map f xs) y
+    → (x : A) × Contains xs x × (f x ≡ Some y)
 filter_map-from f [] y h = absurd (has_none y h)
 filter_map-from {A = A} {B = B} f (x ∷ xs) y h = at (f x) refl h (filter_map-from f xs y)
   where
-    at : (o : Option B) → f x ≡ o → Contains (cons_option o (filter_map f xs)) y → (Contains (filter_map f xs) y → (z : A) × Contains xs z × (f z ≡ Some y)) → (z : A) × Contains (x ∷ xs) z × (f z ≡ Some y)
+    at : (o : Option B) → f x ≡ o → Contains (cons_option o (filter_map f xs)) y
+        → (Contains (filter_map f xs) y → (z : A) × Contains xs z × (f z ≡ Some y))
+        → (z : A) × Contains (x ∷ xs) z × (f z ≡ Some y)
     at None e g rest = let r = rest g in (r.0, has_tail x xs r.0 r.1, r.2)
     at (Some first) e g rest = elim (has_read first (filter_map f xs) y g) [
       | inl same ↦ (x, has_head x xs, e ∙ ap Some same)
@@ -77,34 +81,44 @@ filter_map-from {A = A} {B = B} f (x ∷ xs) y h = at (f x) refl h (filter_map-f
     ]
 
 -- the first image that passes is that at a place where none before passes
-find-first : {A B : Type 0} (f : A → B) (test : B → Bool) (xs : List A) (p : ℕ) (x : A) → slice_get xs p ≡ Some x → IsTrue (test (f x)) → ((q : ℕ) (y : A) → q < p → slice_get xs q ≡ Some y → ¬ IsTrue (test (f y))) → find test (map f xs) ≡ Some (f x)
+find-first : {A B : Type 0} (f : A → B) (test : B → Bool) (xs : List A) (p : ℕ) (x : A) → slice_get xs p ≡ Some x
+    → IsTrue (test (f x)) → ((q : ℕ) (y : A) → q < p → slice_get xs q ≡ Some y → ¬ IsTrue (test (f y)))
+    → find test (map f xs) ≡ Some (f x)
 find-first f test [] p x e t none = cc
 find-first f test (y ∷ xs) zero x e t none =
     let same : y ≡ x = cc in
     ap (λ b. cond b (Some (f y)) (find test (map f xs))) (ap (λ z. test (f z)) same ∙ t) ∙ ap (λ z. Some (f z)) same
-find-first f test (y ∷ xs) (suc p) x e t none = at (test (f y)) refl (find-first f test xs p x e t (λ q z less there. none (suc q) z (omega (arith, less)) there))
+find-first f test (y ∷ xs) (suc p) x e t none =
+    at (test (f y)) refl (find-first f test xs p x e t (λ q z less there. none (suc q) z (omega (arith, less)) there))
   where
     at : (b : Bool) → test (f y) ≡ b → find test (map f xs) ≡ Some (f x) → cond b (Some (f y)) (find test (map f xs)) ≡ Some (f x)
     at true is rest = absurd (none 0 y (omega arith) refl is)
     at false is rest = rest
 
 -- the last of the first n elements is that before place n
-seen-get : (n : ℕ) (stamps : List Stamp) (s : Stamp) → Contains (last_seen n stamps) s → (0 < n) × (slice_get stamps (n - 1) ≡ Some s)
+seen-get : (n : ℕ) (stamps : List Stamp) (s : Stamp) → Contains (last_seen n stamps) s
+    → (0 < n) × (slice_get stamps (n - 1) ≡ Some s)
 seen-get zero stamps s h = absurd (has_none s h)
 seen-get (suc n) [] s h = absurd (has_none s h)
-seen-get (suc zero) (x ∷ stamps) s h = elim (has_read x [] s h) [ inl same ↦ (omega arith, ap Some same) | inr none ↦ absurd (has_none s none) ]
+seen-get (suc zero) (x ∷ stamps) s h =
+    elim (has_read x [] s h) [ inl same ↦ (omega arith, ap Some same) | inr none ↦ absurd (has_none s none) ]
 seen-get (suc (suc n)) (x ∷ stamps) s h =
     let one : suc (suc n) - 1 ≡ suc n = omega arith in
     let two : suc n - 1 ≡ n = omega arith in
     (omega arith, subst (λ k. slice_get (x ∷ stamps) k ≡ Some s) (sym one) (subst (λ k. slice_get stamps k ≡ Some s) two (seen-get (suc n) stamps s h).1))
 
 -- the last commit that names a vertex, of those that the store looks at
-last-is : (ops : List Op) (commits : List Commit) (last : LastCommit) → Contains (lasts_of ops commits) last → last_naming last.vertex commits ≡ Some last.commit
+last-is : (ops : List Op) (commits : List Commit) (last : LastCommit) → Contains (lasts_of ops commits) last
+    → last_naming last.vertex commits ≡ Some last.commit
 last-is ops commits last h =
-    let from = filter_map-from (λ (v : Name). option_map (λ (commit : Commit). record { vertex = v; commit = commit }) (last_naming v commits)) (named_by ops) last h in
+    let from =
+    filter_map-from (λ (v : Name). option_map (λ (commit : Commit). record { vertex = v; commit = commit }) (last_naming v commits))
+    (named_by ops) last h in
     at from.0 (last_naming from.0 commits) refl from.2
   where
-    at : (v : Name) (o : Option Commit) → last_naming v commits ≡ o → option_map (λ (commit : Commit). record { vertex = v; commit = commit }) o ≡ Some last → last_naming last.vertex commits ≡ Some last.commit
+    at : (v : Name) (o : Option Commit) → last_naming v commits ≡ o
+        → option_map (λ (commit : Commit). record { vertex = v; commit = commit }) o ≡ Some last
+        → last_naming last.vertex commits ≡ Some last.commit
     at v None is e = cc
     at v (Some c) is e =
         let same : record { vertex = v; commit = c } ≡ last = cc in
@@ -119,11 +133,15 @@ record IsFound (shards : List (List ShardEntry)) (earlier later : Stamp) : Type 
   added : IsTrue (added_at earlier later log visit)
   is : vertex_visited shards earlier later ≡ Some visit.vertex
 
-found-visit : (shards : List (List ShardEntry)) (earlier later : Stamp) (log : List ShardEntry) (visit : Visit) → Contains shards log → Contains (visits_of log) visit → IsTrue (added_at earlier later log visit) → IsFound shards earlier later
+found-visit : (shards : List (List ShardEntry)) (earlier later : Stamp) (log : List ShardEntry) (visit : Visit)
+    → Contains shards log → Contains (visits_of log) visit → IsTrue (added_at earlier later log visit)
+    → IsFound shards earlier later
 found-visit [] earlier later log visit h v t = absurd (has_none log h)
-found-visit (first ∷ shards) earlier later log visit h v t = at (find (added_at earlier later first) (visits_of first)) refl (λ more. found-visit shards earlier later log visit more v t)
+found-visit (first ∷ shards) earlier later log visit h v t =
+    at (find (added_at earlier later first) (visits_of first)) refl (λ more. found-visit shards earlier later log visit more v t)
   where
-    at : (o : Option Visit) → find (added_at earlier later first) (visits_of first) ≡ o → (Contains shards log → IsFound shards earlier later) → IsFound (first ∷ shards) earlier later
+    at : (o : Option Visit) → find (added_at earlier later first) (visits_of first) ≡ o
+        → (Contains shards log → IsFound shards earlier later) → IsFound (first ∷ shards) earlier later
     at (Some w) e rest =
         let found = find_has (added_at earlier later first) (visits_of first) w e in
         record { log = first; there = has_head first shards; visit = w; visited = found.0; added = found.1; is = ap (λ o. option_or (option_map (λ (k : Visit). k.vertex) o) (vertex_visited shards earlier later)) e }
@@ -135,7 +153,8 @@ found-visit (first ∷ shards) earlier later log visit h v t = at (find (added_a
     ]
 
 -- Pairs of two lists, one after the other
-are-append : (account : Account) (ps qs : List Pair) (gs hs : List Given) → ArePairsOf account ps gs → ArePairsOf account qs hs → ArePairsOf account (ps ++ qs) (gs ++ hs)
+are-append : (account : Account) (ps qs : List Pair) (gs hs : List Given) → ArePairsOf account ps gs → ArePairsOf account qs hs
+    → ArePairsOf account (ps ++ qs) (gs ++ hs)
 are-append account [] qs [] hs are more = more
 are-append account [] qs (g ∷ gs) hs are more = absurd are
 are-append account (p ∷ ps) qs [] hs are more = absurd are
@@ -159,7 +178,8 @@ module _ (script : Script) (account : Account) (basis : Basis script account) wh
       ]
 
   -- two begun requests with one stamp are one
-  pub one-request : (a b : Begun) → Contains (all_begun account) a → Contains (all_begun account) b → a.stamp ≡ b.stamp → a.request ≡ b.request
+  pub one-request : (a b : Begun) → Contains (all_begun account) a → Contains (all_begun account) b → a.stamp ≡ b.stamp
+      → a.request ≡ b.request
   one-request a b ha hb same =
       elim (cases_eq a.request b.request) [
         | inl is ↦ is
@@ -168,16 +188,21 @@ module _ (script : Script) (account : Account) (basis : Basis script account) wh
 
   -- the request with a stamp
   pub request-is : (r : ℕ) (stamp : Stamp) → stamp_of account r ≡ Some stamp → request_stamped account stamp ≡ Some r
-  request-is r stamp e = at (begin-of script account basis r stamp e) (find (λ (b : Begun). same_stamp b.stamp stamp) (all_begun account)) refl
+  request-is r stamp e =
+      at (begin-of script account basis r stamp e) (find (λ (b : Begun). same_stamp b.stamp stamp) (all_begun account)) refl
     where
-      at : (b : Begun) × Contains (all_begun account) b × (b.request ≡ r) × (b.stamp ≡ stamp) → (o : Option Begun) → find (λ (b : Begun). same_stamp b.stamp stamp) (all_begun account) ≡ o → option_map (λ (b : Begun). b.request) o ≡ Some r
-      at b None is = absurd (find_lacks (λ (k : Begun). same_stamp k.stamp stamp) (all_begun account) b.0 is b.1 ((basis.laws.same (b.0).stamp stamp).1 b.3))
+      at : (b : Begun) × Contains (all_begun account) b × (b.request ≡ r) × (b.stamp ≡ stamp) → (o : Option Begun)
+          → find (λ (b : Begun). same_stamp b.stamp stamp) (all_begun account) ≡ o
+          → option_map (λ (b : Begun). b.request) o ≡ Some r
+      at b None is =
+          absurd (find_lacks (λ (k : Begun). same_stamp k.stamp stamp) (all_begun account) b.0 is b.1 ((basis.laws.same_stamps (b.0).stamp stamp).1 b.3))
       at b (Some k) is =
           let found = find_has (λ (k : Begun). same_stamp k.stamp stamp) (all_begun account) k is in
-          ap Some (one-request k b.0 found.0 b.1 ((basis.laws.same k.stamp stamp).0 found.1 ∙ sym b.3) ∙ b.2)
+          ap Some (one-request k b.0 found.0 b.1 ((basis.laws.same_stamps k.stamp stamp).0 found.1 ∙ sym b.3) ∙ b.2)
 
   -- the begin of a judgement
-  pub judged-begun : (judged : Judgement) → Contains (judgements_of account.store) judged → (b : Begun) × Contains (all_begun account) b × (b.request ≡ judged.request) × (b.stamp ≡ judged.stamp)
+  pub judged-begun : (judged : Judgement) → Contains (judgements_of account.store) judged
+      → (b : Begun) × Contains (all_begun account) b × (b.request ≡ judged.request) × (b.stamp ≡ judged.stamp)
   judged-begun judged h =
       let from = map-has (λ (e : StoreEntry). judged_by e.author e.deed) account.store judged h in
       let place = cut_at account.store from.of from.has in
@@ -185,16 +210,20 @@ module _ (script : Script) (account : Account) (basis : Basis script account) wh
       (_, all-in account rule.home _ (tx-begun (gate_log account rule.home) _ rule.begun), ap (λ (j : Judgement). j.request) from.is, ap (λ (j : Judgement). j.stamp) from.is)
 
   -- the judgement with a stamp
-  judgement-is : (judged : Judgement) → Contains (judgements_of account.store) judged → find (λ (j : Judgement). same_stamp j.stamp judged.stamp) (judgements_of account.store) ≡ Some judged
+  judgement-is : (judged : Judgement) → Contains (judgements_of account.store) judged
+      → find (λ (j : Judgement). same_stamp j.stamp judged.stamp) (judgements_of account.store) ≡ Some judged
   judgement-is judged h = at (find (λ (j : Judgement). same_stamp j.stamp judged.stamp) (judgements_of account.store)) refl
     where
-      at : (o : Option Judgement) → find (λ (j : Judgement). same_stamp j.stamp judged.stamp) (judgements_of account.store) ≡ o → o ≡ Some judged
-      at None is = absurd (find_lacks (λ (j : Judgement). same_stamp j.stamp judged.stamp) (judgements_of account.store) judged is h ((basis.laws.same judged.stamp judged.stamp).1 refl))
+      at : (o : Option Judgement) → find (λ (j : Judgement). same_stamp j.stamp judged.stamp) (judgements_of account.store) ≡ o
+          → o ≡ Some judged
+      at None is =
+          absurd (find_lacks (λ (j : Judgement). same_stamp j.stamp judged.stamp) (judgements_of account.store) judged is h ((basis.laws.same_stamps judged.stamp judged.stamp).1 refl))
       at (Some j) is =
           let found = find_has (λ (j : Judgement). same_stamp j.stamp judged.stamp) (judgements_of account.store) j is in
           let a = judged-begun j found.0 in
           let b = judged-begun judged h in
-          let request : j.request ≡ judged.request = sym a.2 ∙ one-request a.0 b.0 a.1 b.1 (a.3 ∙ (basis.laws.same j.stamp judged.stamp).0 found.1 ∙ sym b.3) ∙ b.2 in
+          let request : j.request ≡ judged.request =
+          sym a.2 ∙ one-request a.0 b.0 a.1 b.1 (a.3 ∙ (basis.laws.same_stamps j.stamp judged.stamp).0 found.1 ∙ sym b.3) ∙ b.2 in
           ap Some (elim (pairs_cases (λ (x y : Judgement). x.request ≢ y.request) (judgements_of account.store) basis.is.store.once j judged found.0 h) [
             | inl same ↦ same
             | inr (inl differ) ↦ absurd (differ request)
@@ -215,32 +244,41 @@ module _ (script : Script) (account : Account) (basis : Basis script account) wh
     pair_is : placed_pair account place (event, settled.later) ≡ Some pair
     right : IsPairInAccount account pair (event, settled.later)
 
-  placed-is : (place : ℕ) (given : Given) (a b : ℕ) (v : Name) → request_stamped account given.0 ≡ Some a → request_stamped account given.1 ≡ Some b
-      → option_or (vertex_asked account.store given.1 place) (vertex_visited account.shards given.0 given.1) ≡ Some v → placed_pair account place given ≡ Some (record { vertex = v; earlier = a; later = b })
+  placed-is : (place : ℕ) (given : Given) (a b : ℕ) (v : Name) → request_stamped account given.0 ≡ Some a
+      → request_stamped account given.1 ≡ Some b
+      → option_or (vertex_asked account.store given.1 place) (vertex_visited account.shards given.0 given.1) ≡ Some v
+      → placed_pair account place given ≡ Some (record { vertex = v; earlier = a; later = b })
   placed-is place given a b v ea eb ev =
       ap (λ o. option_and_then (λ (earlier : ℕ). option_and_then (λ (later : ℕ). option_map (λ (v : Name). record { vertex = v; earlier = earlier; later = later }) (option_or (vertex_asked account.store given.1 place) (vertex_visited account.shards given.0 given.1))) (request_stamped account given.1)) o) ea
       ∙ ap (λ o. option_and_then (λ (later : ℕ). option_map (λ (v : Name). record { vertex = v; earlier = a; later = later }) (option_or (vertex_asked account.store given.1 place) (vertex_visited account.shards given.0 given.1))) o) eb
       ∙ ap (λ o. option_map (λ (v : Name). record { vertex = v; earlier = a; later = b }) o) ev
 
   -- the event for which a pair was added
-  added-event : (pairs : List Given) (settled : SettledEntry) → IsRightEntry pairs settled → (place : ℕ) → Contains settled.places place → (event : Stamp) × Contains (additions_from 0 pairs settled.earlier settled.later) (place, event)
+  added-event : (pairs : List Given) (settled : SettledEntry) → IsRightEntry pairs settled → (place : ℕ)
+      → Contains settled.places place
+      → (event : Stamp) × Contains (additions_from 0 pairs settled.earlier settled.later) (place, event)
   added-event pairs settled right place h =
-      let image = map-has (λ (a : ℕ × Stamp). a.0) (additions_from 0 pairs settled.earlier settled.later) place (subst (λ ps. Contains ps place) right.added h) in
+      let image =
+      map-has (λ (a : ℕ × Stamp). a.0) (additions_from 0 pairs settled.earlier settled.later) place (subst (λ ps. Contains ps place) right.added h) in
       ((image.of).1, subst (λ k. Contains (additions_from 0 pairs settled.earlier settled.later) (k, (image.of).1)) image.is image.has)
 
   -- the last commits that a commit's entry is about
   abbrev pub lasts-at : (settled : SettledEntry) → IsAskedByCommit account settled → List LastCommit
   lasts-at settled asked = asked_of (asked.commit).stamp (lasts_of (asked.commit).ops (commits_of asked.before))
 
-  earlier-known : (before rest : List StoreEntry) → account.store ≡ before ++ rest → (commit : Commit) → Contains (commits_of before) commit → IsOfScript script account commit
+  earlier-known : (before rest : List StoreEntry) → account.store ≡ before ++ rest → (commit : Commit)
+      → Contains (commits_of before) commit → IsOfScript script account commit
   earlier-known before rest is commit h =
-      commit-known commit (subst (λ cs. Contains cs commit) (sym (ap commits_of is ∙ flat_map-append (λ (e : StoreEntry). commit_by e.deed) before rest)) (Contains-append_left (commits_of before) (commits_of rest) commit h))
+      commit-known commit
+      (subst (λ cs. Contains cs commit) (sym (ap commits_of is ∙ flat_map-append (λ (e : StoreEntry). commit_by e.deed) before rest)) (Contains-append_left (commits_of before) (commits_of rest) commit h))
 
   -- a last commit is one of the commits before, with its stamp
-  pub last-known : (settled : SettledEntry) (asked : IsAskedByCommit account settled) (last : LastCommit) → Contains (lasts-at settled asked) last
+  pub last-known : (settled : SettledEntry) (asked : IsAskedByCommit account settled) (last : LastCommit)
+      → Contains (lasts-at settled asked) last
       → (last_naming last.vertex (commits_of asked.before) ≡ Some last.commit) × (stamp_of account (last.commit).request ≡ Some (last.commit).stamp)
   last-known settled asked last h =
-      let parts = filter_has (λ (l : LastCommit). unordered l.commit.stamp (asked.commit).stamp) (lasts_of (asked.commit).ops (commits_of asked.before)) last h in
+      let parts =
+      filter_has (λ (l : LastCommit). unordered l.commit.stamp (asked.commit).stamp) (lasts_of (asked.commit).ops (commits_of asked.before)) last h in
       let is = last-is (asked.commit).ops (commits_of asked.before) last parts.0 in
       let found = find_has (names last.vertex) (reverse (commits_of asked.before)) last.commit is in
       (is, (earlier-known asked.before (asked.entry ∷ asked.after) asked.at last.commit (reverse-has (commits_of asked.before) last.commit found.0)).stamp)
@@ -248,23 +286,35 @@ module _ (script : Script) (account : Account) (basis : Basis script account) wh
   module _ (pairs : List Given) (settled : SettledEntry) (right : IsRightEntry pairs settled) (place : ℕ) (there : Contains settled.places place) where
     -- A commit asked
 
-    commit-placed : (asked : IsAskedByCommit account settled) (event : Stamp) → Contains (additions_from 0 pairs settled.earlier settled.later) (place, event) → slice_get settled.earlier place ≡ Some event
-        → (last : LastCommit) → slice_get (lasts-at settled asked) place ≡ Some last → (last.commit).stamp ≡ event → IsPlaced settled place
+    commit-placed : (asked : IsAskedByCommit account settled) (event : Stamp)
+        → Contains (additions_from 0 pairs settled.earlier settled.later) (place, event)
+        → slice_get settled.earlier place ≡ Some event
+        → (last : LastCommit) → slice_get (lasts-at settled asked) place ≡ Some last → (last.commit).stamp ≡ event
+        → IsPlaced settled place
     commit-placed asked event added in-place last last-at stamp-is =
         let lasts = lasts-at settled asked in
         let judged = judged_by (asked.entry).author (asked.entry).deed in
-        let of = commit-of (asked.entry).author (asked.entry).deed asked.commit (subst (λ cs. Contains cs asked.commit) (sym asked.commit_is) (has_head asked.commit [])) in
-        let in-store : Contains account.store asked.entry = subst (λ l. Contains l asked.entry) (sym asked.at) (has_cut asked.before asked.entry asked.after) in
+        let of =
+        commit-of (asked.entry).author (asked.entry).deed asked.commit
+        (subst (λ cs. Contains cs asked.commit) (sym asked.commit_is) (has_head asked.commit [])) in
+        let in-store : Contains account.store asked.entry =
+        subst (λ l. Contains l asked.entry) (sym asked.at) (has_cut asked.before asked.entry asked.after) in
         let rule = basis.is.store.judges asked.before asked.entry asked.after asked.at in
-        let asked-are : judged.asked ≡ map (λ (l : LastCommit). l.vertex) lasts = rule.asked ∙ ap (λ s. asked_vertices s (lasts_of judged.ops (commits_of asked.before))) of.stamp ∙ ap (λ ops. asked_vertices (asked.commit).stamp (lasts_of ops (commits_of asked.before))) of.ops in
+        let asked-are : judged.asked ≡ map (λ (l : LastCommit). l.vertex) lasts =
+        rule.asked ∙ ap (λ s. asked_vertices s (lasts_of judged.ops (commits_of asked.before))) of.stamp
+        ∙ ap (λ ops. asked_vertices (asked.commit).stamp (lasts_of ops (commits_of asked.before))) of.ops in
         let first = last-known settled asked last (get-has lasts place last last-at) in
         let commit-there : Contains (commits_in account) asked.commit =
-        subst (λ cs. Contains cs asked.commit) (sym (ap commits_of asked.at ∙ flat_map-append (λ (e : StoreEntry). commit_by e.deed) asked.before (asked.entry ∷ asked.after) ∙ ap (λ cs. commits_of asked.before ++ (cs ++ commits_of asked.after)) asked.commit_is)) (has_cut (commits_of asked.before) asked.commit (commits_of asked.after)) in
+        subst (λ cs. Contains cs asked.commit)
+        (sym (ap commits_of asked.at ∙ flat_map-append (λ (e : StoreEntry). commit_by e.deed) asked.before (asked.entry ∷ asked.after) ∙ ap (λ cs. commits_of asked.before ++ (cs ++ commits_of asked.after)) asked.commit_is))
+        (has_cut (commits_of asked.before) asked.commit (commits_of asked.after)) in
         let earlier-is : stamp_of account (last.commit).request ≡ Some event = first.1 ∙ ap Some stamp-is in
-        let later-is : stamp_of account (asked.commit).request ≡ Some settled.later = (commit-known asked.commit commit-there).stamp ∙ ap Some (sym asked.later_is) in
+        let later-is : stamp_of account (asked.commit).request ≡ Some settled.later =
+        (commit-known asked.commit commit-there).stamp ∙ ap Some (sym asked.later_is) in
         let vertex : vertex_asked account.store settled.later place ≡ Some last.vertex =
         ap (λ s. vertex_asked account.store s place) (asked.later_is ∙ sym of.stamp)
-        ∙ ap (option_and_then (λ (j : Judgement). slice_get j.asked place)) (judgement-is judged (has_map (λ (e : StoreEntry). judged_by e.author e.deed) account.store asked.entry in-store))
+        ∙ ap (option_and_then (λ (j : Judgement). slice_get j.asked place))
+        (judgement-is judged (has_map (λ (e : StoreEntry). judged_by e.author e.deed) account.store asked.entry in-store))
         ∙ ap (λ vs. slice_get vs place) asked-are
         ∙ slice_get-map (λ (l : LastCommit). l.vertex) lasts place
         ∙ ap (option_map (λ (l : LastCommit). l.vertex)) last-at in
@@ -287,18 +337,24 @@ module _ (script : Script) (account : Account) (basis : Basis script account) wh
               later_is = refl;
               vertex_is =
                   ap (first_after (commits_of asked.before) (last.commit).request) asked-are
-                  ∙ find-first (λ (l : LastCommit). l.vertex) (λ v. is_some_and (λ (c : Commit). c.request == (last.commit).request) (last_naming v (commits_of asked.before))) lasts place last last-at
+                  ∙ find-first (λ (l : LastCommit). l.vertex)
+                  (λ v. is_some_and (λ (c : Commit). c.request == (last.commit).request) (last_naming v (commits_of asked.before))) lasts place last last-at
                   (subst (λ o. IsTrue (is_some_and (λ (c : Commit). c.request == (last.commit).request) o)) (sym first.0) (eq-eqb (last.commit).request (last.commit).request refl))
                   (λ q l less l-at test. none-before asked event added last stamp-is first.1 q l less l-at test);
             });
           };
         }
       where
-        none-before : (asked : IsAskedByCommit account settled) (event : Stamp) → Contains (additions_from 0 pairs settled.earlier settled.later) (place, event) → (last : LastCommit) → (last.commit).stamp ≡ event → stamp_of account (last.commit).request ≡ Some (last.commit).stamp
-            → (q : ℕ) (l : LastCommit) → q < place → slice_get (lasts-at settled asked) q ≡ Some l → IsTrue (is_some_and (λ (c : Commit). c.request == (last.commit).request) (last_naming l.vertex (commits_of asked.before))) → ⊥
+        none-before : (asked : IsAskedByCommit account settled) (event : Stamp)
+            → Contains (additions_from 0 pairs settled.earlier settled.later) (place, event) → (last : LastCommit)
+            → (last.commit).stamp ≡ event → stamp_of account (last.commit).request ≡ Some (last.commit).stamp
+            → (q : ℕ) (l : LastCommit) → q < place → slice_get (lasts-at settled asked) q ≡ Some l
+            → IsTrue (is_some_and (λ (c : Commit). c.request == (last.commit).request) (last_naming l.vertex (commits_of asked.before)))
+            → ⊥
         none-before asked event added last stamp-is known q l less l-at test =
             let other = last-known settled asked l (get-has (lasts-at settled asked) q l l-at) in
-            let request : (l.commit).request ≡ (last.commit).request = eqb-true _ _ (subst (λ o. IsTrue (is_some_and (λ (c : Commit). c.request == (last.commit).request) o)) other.0 test) in
+            let request : (l.commit).request ≡ (last.commit).request =
+            eqb-true _ _ (subst (λ o. IsTrue (is_some_and (λ (c : Commit). c.request == (last.commit).request) o)) other.0 test) in
             let stamps : Some (l.commit).stamp ≡ Some (last.commit).stamp = sym other.1 ∙ ap (stamp_of account) request ∙ known in
             let same : (l.commit).stamp ≡ (last.commit).stamp = cc in
             first-place basis.laws 0 pairs settled.earlier settled.later event place q added
@@ -306,7 +362,9 @@ module _ (script : Script) (account : Account) (basis : Basis script account) wh
             (omega (arith, less))
 
     by-commit : IsAskedByCommit account settled → IsPlaced settled place
-    by-commit asked = at added.0 added.1 in-place (slice_get (lasts-at settled asked) place) refl (sym (slice_get-map (λ (l : LastCommit). l.commit.stamp) (lasts-at settled asked) place) ∙ ap (λ xs. slice_get xs place) (sym asked.earlier_are) ∙ in-place)
+    by-commit asked =
+        at added.0 added.1 in-place (slice_get (lasts-at settled asked) place) refl
+        (sym (slice_get-map (λ (l : LastCommit). l.commit.stamp) (lasts-at settled asked) place) ∙ ap (λ xs. slice_get xs place) (sym asked.earlier_are) ∙ in-place)
       where
         added : (event : Stamp) × Contains (additions_from 0 pairs settled.earlier settled.later) (place, event)
         added = added-event pairs settled right place there
@@ -314,18 +372,23 @@ module _ (script : Script) (account : Account) (basis : Basis script account) wh
         in-place : slice_get settled.earlier place ≡ Some added.0
         in-place = basis.laws.in_place pairs settled.earlier settled.later place added.0 added.1
 
-        at : (event : Stamp) → Contains (additions_from 0 pairs settled.earlier settled.later) (place, event) → slice_get settled.earlier place ≡ Some event → (o : Option LastCommit) → slice_get (lasts-at settled asked) place ≡ o
+        at : (event : Stamp) → Contains (additions_from 0 pairs settled.earlier settled.later) (place, event)
+            → slice_get settled.earlier place ≡ Some event → (o : Option LastCommit)
+            → slice_get (lasts-at settled asked) place ≡ o
             → option_map (λ (l : LastCommit). l.commit.stamp) o ≡ Some event → IsPlaced settled place
         at event h e None is g = cc
-        at event h e (Some last) is g = let stamp : (last.commit).stamp ≡ event = cc in commit-placed asked event h e last is stamp
+        at event h e (Some last) is g =
+            let stamp : (last.commit).stamp ≡ event = cc in commit-placed asked event h e last is stamp
 
     -- A visit asked
 
     -- no transaction was judged with a program's stamp
-    none-asked : (shard : ℕ) (visit : Visit) → Contains (visits_of (shard_log account shard)) visit → vertex_asked account.store visit.stamp place ≡ None
+    none-asked : (shard : ℕ) (visit : Visit) → Contains (visits_of (shard_log account shard)) visit
+        → vertex_asked account.store visit.stamp place ≡ None
     none-asked shard visit h = at (find (λ (j : Judgement). same_stamp j.stamp visit.stamp) (judgements_of account.store)) refl
       where
-        at : (o : Option Judgement) → find (λ (j : Judgement). same_stamp j.stamp visit.stamp) (judgements_of account.store) ≡ o → option_and_then (λ (j : Judgement). slice_get j.asked place) o ≡ None
+        at : (o : Option Judgement) → find (λ (j : Judgement). same_stamp j.stamp visit.stamp) (judgements_of account.store) ≡ o
+            → option_and_then (λ (j : Judgement). slice_get j.asked place) o ≡ None
         at None is = refl
         at (Some j) is =
             let found = find_has (λ (j : Judgement). same_stamp j.stamp visit.stamp) (judgements_of account.store) j is in
@@ -333,15 +396,21 @@ module _ (script : Script) (account : Account) (basis : Basis script account) wh
             let has = visit-fits script account basis shard visit h in
             let program = program-begun script account basis (has.fits).home _ (has.fits).begun in
             let b = begin-of script account basis visit.request visit.stamp (visit-stamp script account basis shard visit h) in
-            let request : j.request ≡ visit.request = sym a.2 ∙ one-request a.0 b.0 a.1 b.1 (a.3 ∙ (basis.laws.same j.stamp visit.stamp).0 found.1 ∙ sym b.3) ∙ b.2 in
+            let request : j.request ≡ visit.request =
+            sym a.2 ∙ one-request a.0 b.0 a.1 b.1 (a.3 ∙ (basis.laws.same_stamps j.stamp visit.stamp).0 found.1 ∙ sym b.3) ∙ b.2 in
             let from = map-has (λ (e : StoreEntry). judged_by e.author e.deed) account.store j found.0 in
             let cut = cut_at account.store from.of from.has in
-            let work : IsSomeAnd (request_at script j.request) (λ (q : Request). q.work ≡ Change j.ops) = subst (λ (k : Judgement). IsSomeAnd (request_at script k.request) (λ (q : Request). q.work ≡ Change k.ops)) from.is (basis.is.store.judges cut.before from.of cut.after cut.is).work in
-            let change : (program.request).work ≡ Change j.ops = subst (λ q. IsSomeAnd q (λ (q : Request). q.work ≡ Change j.ops)) (ap (request_at script) request ∙ program.request_is) work in
+            let work : IsSomeAnd (request_at script j.request) (λ (q : Request). q.work ≡ Change j.ops) =
+            subst (λ (k : Judgement). IsSomeAnd (request_at script k.request) (λ (q : Request). q.work ≡ Change k.ops)) from.is
+            (basis.is.store.judges cut.before from.of cut.after cut.is).work in
+            let change : (program.request).work ≡ Change j.ops =
+            subst (λ q. IsSomeAnd q (λ (q : Request). q.work ≡ Change j.ops)) (ap (request_at script) request ∙ program.request_is) work in
             let clash : Change j.ops ≡ Look program.program = sym change ∙ program.work in
             cc
 
-    visit-placed : (event : Stamp) → slice_get settled.earlier place ≡ Some event → (visit : Visit) → settled.later ≡ visit.stamp → (shard : ℕ) → Contains (visits_of (shard_log account shard)) visit → IsFound account.shards event settled.later → IsPlaced settled place
+    visit-placed : (event : Stamp) → slice_get settled.earlier place ≡ Some event → (visit : Visit) → settled.later ≡ visit.stamp
+        → (shard : ℕ) → Contains (visits_of (shard_log account shard)) visit → IsFound account.shards event settled.later
+        → IsPlaced settled place
     visit-placed event event-is asked later shard h found =
         let w = found.visit in
         let number = place-of account.shards found.log found.there in
@@ -349,11 +418,13 @@ module _ (script : Script) (account : Account) (basis : Basis script account) wh
         let has = visit-fits script account basis number.0 w visited in
         let parts = and_parts (same_stamp w.stamp settled.later && w.settled) (list_any (same_stamp event) (seen_last found.log w)) found.added in
         let marks = and_parts (same_stamp w.stamp settled.later) w.settled parts.0 in
-        let later-stamp : w.stamp ≡ settled.later = (basis.laws.same w.stamp settled.later).0 marks.0 in
+        let later-stamp : w.stamp ≡ settled.later = (basis.laws.same_stamps w.stamp settled.later).0 marks.0 in
         let seen = any_has (same_stamp event) (seen_last found.log w) parts.1 in
-        let same : event ≡ seen.0 = (basis.laws.same event seen.0).0 seen.2 in
+        let same : event ≡ seen.0 = (basis.laws.same_stamps event seen.0).0 seen.2 in
         let log = shard_log account number.0 in
-        let get = seen-get w.updates (map (λ (u : Update). u.stamp) (updates_of w.vertex log)) event (subst (λ l. Contains (last_seen w.updates (map (λ (u : Update). u.stamp) (updates_of w.vertex l))) event) (sym number.1) (subst (λ s. Contains (seen_last found.log w) s) (sym same) seen.1)) in
+        let get =
+        seen-get w.updates (map (λ (u : Update). u.stamp) (updates_of w.vertex log)) event
+        (subst (λ l. Contains (last_seen w.updates (map (λ (u : Update). u.stamp) (updates_of w.vertex l))) event) (sym number.1) (subst (λ s. Contains (seen_last found.log w) s) (sym same) seen.1)) in
         let shown = (shows script account basis number.0 w.vertex (has.fits).kept_here log (basis.is.shards.deeds number.0)).are in
         let naming = commits_naming w.vertex (commits_in account) in
         commit-seen event event-is w later-stamp marks.1 number.0 visited get.0 found.is (none-asked-later shard asked h later)
@@ -361,20 +432,27 @@ module _ (script : Script) (account : Account) (basis : Basis script account) wh
         (slice_get (take (length (updates_of w.vertex log)) naming) (w.updates - 1)) refl
         (sym (slice_get-map (λ (c : Commit). c.stamp) (take (length (updates_of w.vertex log)) naming) (w.updates - 1)) ∙ sym (ap (λ us. slice_get us (w.updates - 1)) (ap (map (λ (u : Update). u.stamp)) shown ∙ map-map-stamp w.vertex (take (length (updates_of w.vertex log)) naming))) ∙ get.1)
       where
-        map-map-stamp : (v : Name) (cs : List Commit) → map (λ (u : Update). u.stamp) (map (update_of v) cs) ≡ map (λ (c : Commit). c.stamp) cs
+        map-map-stamp : (v : Name) (cs : List Commit)
+            → map (λ (u : Update). u.stamp) (map (update_of v) cs) ≡ map (λ (c : Commit). c.stamp) cs
         map-map-stamp v [] = refl
         map-map-stamp v (c ∷ cs) = ap (λ ss. c.stamp ∷ ss) (map-map-stamp v cs)
 
-        none-asked-later : (shard : ℕ) (visit : Visit) → Contains (visits_of (shard_log account shard)) visit → settled.later ≡ visit.stamp → vertex_asked account.store settled.later place ≡ None
+        none-asked-later : (shard : ℕ) (visit : Visit) → Contains (visits_of (shard_log account shard)) visit
+            → settled.later ≡ visit.stamp → vertex_asked account.store settled.later place ≡ None
         none-asked-later shard visit h later = ap (λ s. vertex_asked account.store s place) later ∙ none-asked shard visit h
 
-        commit-seen : (event : Stamp) → slice_get settled.earlier place ≡ Some event → (w : Visit) → w.stamp ≡ settled.later → IsTrue w.settled → (shard : ℕ) → Contains (visits_of (shard_log account shard)) w → 0 < w.updates
-            → vertex_visited account.shards event settled.later ≡ Some w.vertex → vertex_asked account.store settled.later place ≡ None → stamp_of account w.request ≡ Some w.stamp
-            → (o : Option Commit) → slice_get (take (length (updates_of w.vertex (shard_log account shard))) (commits_naming w.vertex (commits_in account))) (w.updates - 1) ≡ o → option_map (λ (c : Commit). c.stamp) o ≡ Some event → IsPlaced settled place
+        commit-seen : (event : Stamp) → slice_get settled.earlier place ≡ Some event → (w : Visit) → w.stamp ≡ settled.later
+            → IsTrue w.settled → (shard : ℕ) → Contains (visits_of (shard_log account shard)) w → 0 < w.updates
+            → vertex_visited account.shards event settled.later ≡ Some w.vertex
+            → vertex_asked account.store settled.later place ≡ None → stamp_of account w.request ≡ Some w.stamp
+            → (o : Option Commit)
+            → slice_get (take (length (updates_of w.vertex (shard_log account shard))) (commits_naming w.vertex (commits_in account))) (w.updates - 1) ≡ o
+            → option_map (λ (c : Commit). c.stamp) o ≡ Some event → IsPlaced settled place
         commit-seen event event-is w later marked shard visited sees vertex none begun None is e = cc
         commit-seen event event-is w later marked shard visited sees vertex none begun (Some c) is e =
             let naming = commits_naming w.vertex (commits_in account) in
-            let at : slice_get naming (w.updates - 1) ≡ Some c = get-front (length (updates_of w.vertex (shard_log account shard))) naming (w.updates - 1) c is in
+            let at : slice_get naming (w.updates - 1) ≡ Some c =
+            get-front (length (updates_of w.vertex (shard_log account shard))) naming (w.updates - 1) c is in
             let in-all = (filter_has (names w.vertex) (commits_in account) c (get-has naming (w.updates - 1) c at)).0 in
             let c-stamp : c.stamp ≡ event = cc in
             let earlier-is : stamp_of account c.request ≡ Some event = (commit-known c in-all).stamp ∙ ap Some c-stamp in
@@ -406,16 +484,19 @@ module _ (script : Script) (account : Account) (basis : Basis script account) wh
         let added = added-event pairs settled right place there in
         let in-place = basis.laws.in_place pairs settled.earlier settled.later place added.0 added.1 in
         let log = shard_log account asked.shard in
-        let seen : Contains (seen_last log asked.visit) added.0 = subst (λ xs. Contains xs added.0) asked.earlier_is (get-has settled.earlier place added.0 in-place) in
+        let seen : Contains (seen_last log asked.visit) added.0 =
+        subst (λ xs. Contains xs added.0) asked.earlier_is (get-has settled.earlier place added.0 in-place) in
         let entry = flat-has (λ (e : ShardEntry). visit_by e.author e.deed) log asked.visit asked.visited in
         let test : IsTrue (added_at added.0 settled.later log asked.visit) =
-        and_from _ _ (and_from _ _ ((basis.laws.same (asked.visit).stamp settled.later).1 (sym asked.later_is)) asked.marked)
-        (any_from (same_stamp added.0) (seen_last log asked.visit) added.0 seen ((basis.laws.same added.0 added.0).1 refl)) in
+        and_from _ _ (and_from _ _ ((basis.laws.same_stamps (asked.visit).stamp settled.later).1 (sym asked.later_is)) asked.marked)
+        (any_from (same_stamp added.0) (seen_last log asked.visit) added.0 seen ((basis.laws.same_stamps added.0 added.0).1 refl)) in
         visit-placed added.0 in-place asked.visit asked.later_is asked.shard asked.visited
         (found-visit account.shards added.0 settled.later log asked.visit (list-there account.shards asked.shard entry.0 entry.1.0) asked.visited test)
 
   -- each pair of an entry is placed
-  entry-placed : (pairs : List Given) (settled : SettledEntry) → IsRightEntry pairs settled → IsAskedByCommit account settled ⊎ IsAskedByVisit account settled → (place : ℕ) → Contains settled.places place → IsPlaced settled place
+  entry-placed : (pairs : List Given) (settled : SettledEntry) → IsRightEntry pairs settled
+      → IsAskedByCommit account settled ⊎ IsAskedByVisit account settled → (place : ℕ) → Contains settled.places place
+      → IsPlaced settled place
   entry-placed pairs settled right (inl commit) place there = by-commit pairs settled right place there commit
   entry-placed pairs settled right (inr visit) place there = by-visit pairs settled right place there visit
 
@@ -428,12 +509,16 @@ module _ (script : Script) (account : Account) (basis : Basis script account) wh
   places-are settled (place ∷ places) each =
       let here = each place (has_head place places) in
       let rest = places-are settled places (λ k h. each k (has_tail place places k h)) in
-      let pair : option_and_then (λ (event : Stamp). placed_pair account place (event, settled.later)) (slice_get settled.earlier place) ≡ Some here.pair = ap (option_and_then (λ (event : Stamp). placed_pair account place (event, settled.later))) here.event_is ∙ here.pair_is in
-      let given : option_map (λ (event : Stamp). (event, settled.later)) (slice_get settled.earlier place) ≡ Some (here.event, settled.later) = ap (option_map (λ (event : Stamp). (event, settled.later))) here.event_is in
-      subst (λ o. ArePairsOf account (cons_option o (filter_map (λ (place : ℕ). option_and_then (λ (event : Stamp). placed_pair account place (event, settled.later)) (slice_get settled.earlier place)) places)) (filter_map (λ (place : ℕ). option_map (λ (event : Stamp). (event, settled.later)) (slice_get settled.earlier place)) (place ∷ places))) (sym pair)
+      let pair : option_and_then (λ (event : Stamp). placed_pair account place (event, settled.later)) (slice_get settled.earlier place) ≡ Some here.pair =
+      ap (option_and_then (λ (event : Stamp). placed_pair account place (event, settled.later))) here.event_is ∙ here.pair_is in
+      let given : option_map (λ (event : Stamp). (event, settled.later)) (slice_get settled.earlier place) ≡ Some (here.event, settled.later) =
+      ap (option_map (λ (event : Stamp). (event, settled.later))) here.event_is in
+      subst (λ o. ArePairsOf account (cons_option o (filter_map (λ (place : ℕ). option_and_then (λ (event : Stamp). placed_pair account place (event, settled.later)) (slice_get settled.earlier place)) places)) (filter_map (λ (place : ℕ). option_map (λ (event : Stamp). (event, settled.later)) (slice_get settled.earlier place)) (place ∷ places)))
+      (sym pair)
       (subst (λ o. ArePairsOf account (here.pair ∷ filter_map (λ (place : ℕ). option_and_then (λ (event : Stamp). placed_pair account place (event, settled.later)) (slice_get settled.earlier place)) places) (cons_option o (filter_map (λ (place : ℕ). option_map (λ (event : Stamp). (event, settled.later)) (slice_get settled.earlier place)) places))) (sym given) (here.right, rest))
 
-  log-are : (pairs : List Given) (log : List OracleEntry) → IsRightFrom pairs log → ((entry : OracleEntry) → Contains log entry → IsAskedByCommit account (settled_entry entry) ⊎ IsAskedByVisit account (settled_entry entry))
+  log-are : (pairs : List Given) (log : List OracleEntry) → IsRightFrom pairs log
+      → ((entry : OracleEntry) → Contains log entry → IsAskedByCommit account (settled_entry entry) ⊎ IsAskedByVisit account (settled_entry entry))
       → ArePairsOf account (flat_map (λ (entry : OracleEntry). placed_by account (settled_entry entry)) log) (flat_map (λ (entry : OracleEntry). pairs_of_entry (settled_entry entry)) log)
   log-are pairs [] right asked = tt
   log-are pairs (entry ∷ log) right asked =

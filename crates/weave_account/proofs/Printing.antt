@@ -5,7 +5,7 @@ use Rattle.std.proofs.lemmas.Bool.{ne_eqb, eq-eqb, not_from_false, cases_eq}
 use Rattle.report_rules.specs.declared.report.Report.{Report}
 use Rattle.report_rules.specs.PrintedOrder.{begun_requests, without_request, TakesAll, IsPrintedOrder}
 use Rattle.report_rules.specs.Lookups.{is_in, may_be_listed, RequestPrecedes}
-use Rattle.weave_account.proofs.SortedLists.{IsSorted, in-head, in-tail, in-cases, in-filter, filter-in, sorted-filter}
+use Rattle.proof_base.proofs.Numbers.{IsSorted, in-head, in-tail, in-cases, in-filter, filter-in, sorted-filter}
 use Rattle.weave_account.proofs.Cutting.{IsNotAfter}
 
 -- what holds of each holds of one
@@ -17,7 +17,8 @@ without-in : (r n : ℕ) (xs : List ℕ) → IsTrue (is_in n xs) → n ≢ r →
 without-in r n xs h differ = in-filter (λ other. not (other == r)) n xs h (not_from_false _ (ne_eqb n r differ))
 
 in-without : (r n : ℕ) (xs : List ℕ) → IsTrue (is_in n (without_request r xs)) → IsTrue (is_in n xs) × (n ≢ r)
-in-without r n xs h = let parts = filter-in (λ other. not (other == r)) n xs h in (parts.0, λ same. differs (nat_eq n r) (eq-eqb n r same) parts.1)
+in-without r n xs h =
+    let parts = filter-in (λ other. not (other == r)) n xs h in (parts.0, λ same. differs (nat_eq n r) (eq-eqb n r same) parts.1)
   where
     differs : (b : Bool) → IsTrue b → IsTrue (not b) → ⊥
     differs true h g = cc
@@ -25,7 +26,8 @@ in-without r n xs h = let parts = filter-in (λ other. not (other == r)) n xs h 
 
 module _ (report : Report) where
   -- what is taken remained, and all that remained is taken
-  pub taken-in : (taken remaining : List ℕ) (n : ℕ) → TakesAll report remaining taken → IsTrue (is_in n taken) → IsTrue (is_in n remaining)
+  pub taken-in : (taken remaining : List ℕ) (n : ℕ) → TakesAll report remaining taken → IsTrue (is_in n taken)
+      → IsTrue (is_in n remaining)
   taken-in [] remaining n h g = cc
   taken-in (r ∷ taken) remaining n h g =
       elim (in-cases n r taken g) [
@@ -34,7 +36,8 @@ module _ (report : Report) where
       ]
 
   -- each remaining request is taken
-  pub in-taken : (taken remaining : List ℕ) (n : ℕ) → TakesAll report remaining taken → IsTrue (is_in n remaining) → IsTrue (is_in n taken)
+  pub in-taken : (taken remaining : List ℕ) (n : ℕ) → TakesAll report remaining taken → IsTrue (is_in n remaining)
+      → IsTrue (is_in n taken)
   in-taken [] remaining n h g = let none = subst (λ xs. IsTrue (is_in n xs)) h g in cc
   in-taken (r ∷ taken) remaining n h g =
       elim (cases_eq n r) [
@@ -43,7 +46,8 @@ module _ (report : Report) where
       ]
 
   -- each once, and none precedes one taken before it
-  pub taken-sorted : (taken remaining : List ℕ) → TakesAll report remaining taken → IsSorted (IsNotAfter (RequestPrecedes report)) taken
+  pub taken-sorted : (taken remaining : List ℕ) → TakesAll report remaining taken
+      → IsSorted (IsNotAfter (RequestPrecedes report)) taken
   taken-sorted [] remaining h = tt
   taken-sorted (r ∷ taken) remaining h = (
     λ n g. let left = in-without r n remaining (taken-in taken (without_request r remaining) n h.1 g) in
@@ -54,7 +58,9 @@ module _ (report : Report) where
   module _ (order : List ℕ) (printed : IsPrintedOrder report order) where
     -- the order lists each request once, and none precedes one before it
     pub order-sorted : IsSorted (IsNotAfter (RequestPrecedes report)) order
-    order-sorted = subst (IsSorted (IsNotAfter (RequestPrecedes report))) (sym printed.listed) (sorted-filter _ (may_be_listed report) printed.taken (taken-sorted printed.taken _ printed.in_turn))
+    order-sorted =
+        subst (IsSorted (IsNotAfter (RequestPrecedes report))) (sym printed.listed)
+        (sorted-filter _ (may_be_listed report) printed.taken (taken-sorted printed.taken _ printed.in_turn))
 
     -- what it lists was begun and may be listed
     pub order-has : (n : ℕ) → IsTrue (is_in n order) → IsTrue (is_in n (begun_requests report)) × IsTrue (may_be_listed report n)
@@ -64,4 +70,6 @@ module _ (report : Report) where
 
     -- and all that was is listed
     pub has-order : (n : ℕ) → IsTrue (is_in n (begun_requests report)) → IsTrue (may_be_listed report n) → IsTrue (is_in n order)
-    has-order n h g = subst (λ xs. IsTrue (is_in n xs)) (sym printed.listed) (in-filter (may_be_listed report) n printed.taken (in-taken printed.taken _ n printed.in_turn h) g)
+    has-order n h g =
+        subst (λ xs. IsTrue (is_in n xs)) (sym printed.listed)
+        (in-filter (may_be_listed report) n printed.taken (in-taken printed.taken _ n printed.in_turn h) g)

@@ -37,14 +37,18 @@ abbrev pub IsGone : List GateEntry → Option Begun → Begun → Type 0
 IsGone log flight begun = (flight ≡ Some begun) ⊎ WasSent log begun
 
 sent-longer : (log : List GateEntry) (entry : GateEntry) (begun : Begun) → WasSent log begun → WasSent (log ++ entry ∷ []) begun
-sent-longer log entry begun w = record { before = w.before; author = w.author; messages = w.messages; after = w.after ++ entry ∷ []; is = ap (λ l. l ++ entry ∷ []) w.is ∙ append_assoc w.before _ (entry ∷ []) }
+sent-longer log entry begun w =
+    record { before = w.before; author = w.author; messages = w.messages; after = w.after ++ entry ∷ []; is = ap (λ l. l ++ entry ∷ []) w.is ∙ append_assoc w.before _ (entry ∷ []) }
 
 -- the flight after one more entry
-flight-push : (log : List GateEntry) (entry : GateEntry) → flight_of (log ++ entry ∷ []) ≡ flight_after (flight_of log) entry.author entry.deed
+flight-push : (log : List GateEntry) (entry : GateEntry)
+    → flight_of (log ++ entry ∷ []) ≡ flight_after (flight_of log) entry.author entry.deed
 flight-push log entry = fold-append (λ flight (e : GateEntry). flight_after flight e.author e.deed) None log (entry ∷ [])
 
-gone-step : (home shards : ℕ) (log : List GateEntry) (author : ℕ) (deed : GateDeed) → FitsAs home shards log author deed → ((b : Begun) → Contains (txs_of log) b → IsGone log (flight_of log) b)
-    → (b : Begun) → Contains (txs_of log ++ tx_by author deed) b → IsGone (log ++ record { author = author; deed = deed } ∷ []) (flight_after (flight_of log) author deed) b
+gone-step : (home shards : ℕ) (log : List GateEntry) (author : ℕ) (deed : GateDeed) → FitsAs home shards log author deed
+    → ((b : Begun) → Contains (txs_of log) b → IsGone log (flight_of log) b)
+    → (b : Begun) → Contains (txs_of log ++ tx_by author deed) b
+    → IsGone (log ++ record { author = author; deed = deed } ∷ []) (flight_after (flight_of log) author deed) b
 gone-step home shards log author (BeganTx r stamp) fits so-far b h =
     elim (Contains-append_cases (txs_of log) _ b h) [
       | inl before ↦ elim (so-far b before) [
@@ -63,16 +67,23 @@ gone-step home shards log author (Sent r messages) fits so-far b h =
   where
     some-same : (x y : Begun) → Some x ≡ Some y → x ≡ y
     some-same x y e = cc
-gone-step home shards log author (BeganProgram r stamp) fits so-far b h = elim (so-far b (subst (λ xs. Contains xs b) (append-nil (txs_of log)) h)) [ inl flying ↦ inl flying | inr sent ↦ inr (sent-longer log _ b sent) ]
-gone-step home shards log author (Nop shard number stamp low) fits so-far b h = elim (so-far b (subst (λ xs. Contains xs b) (append-nil (txs_of log)) h)) [ inl flying ↦ inl flying | inr sent ↦ inr (sent-longer log _ b sent) ]
-gone-step home shards log author (Heard clock) fits so-far b h = elim (so-far b (subst (λ xs. Contains xs b) (append-nil (txs_of log)) h)) [ inl flying ↦ inl flying | inr sent ↦ inr (sent-longer log _ b sent) ]
-gone-step home shards log author (Raised epoch) fits so-far b h = elim (so-far b (subst (λ xs. Contains xs b) (append-nil (txs_of log)) h)) [ inl flying ↦ inl flying | inr sent ↦ inr (sent-longer log _ b sent) ]
-gone-step home shards log author (Finished r) fits so-far b h = elim (so-far b (subst (λ xs. Contains xs b) (append-nil (txs_of log)) h)) [ inl flying ↦ inl flying | inr sent ↦ inr (sent-longer log _ b sent) ]
+gone-step home shards log author (BeganProgram r stamp) fits so-far b h =
+    elim (so-far b (subst (λ xs. Contains xs b) (append-nil (txs_of log)) h)) [ inl flying ↦ inl flying | inr sent ↦ inr (sent-longer log _ b sent) ]
+gone-step home shards log author (Nop shard number stamp low) fits so-far b h =
+    elim (so-far b (subst (λ xs. Contains xs b) (append-nil (txs_of log)) h)) [ inl flying ↦ inl flying | inr sent ↦ inr (sent-longer log _ b sent) ]
+gone-step home shards log author (Heard clock) fits so-far b h =
+    elim (so-far b (subst (λ xs. Contains xs b) (append-nil (txs_of log)) h)) [ inl flying ↦ inl flying | inr sent ↦ inr (sent-longer log _ b sent) ]
+gone-step home shards log author (Raised epoch) fits so-far b h =
+    elim (so-far b (subst (λ xs. Contains xs b) (append-nil (txs_of log)) h)) [ inl flying ↦ inl flying | inr sent ↦ inr (sent-longer log _ b sent) ]
+gone-step home shards log author (Finished r) fits so-far b h =
+    elim (so-far b (subst (λ xs. Contains xs b) (append-nil (txs_of log)) h)) [ inl flying ↦ inl flying | inr sent ↦ inr (sent-longer log _ b sent) ]
 
 -- a transaction that was begun is in flight, or was sent
-pub gone : (home shards : ℕ) (log : List GateEntry) → IsGateLog home shards log → (b : Begun) → Contains (txs_of log) b → IsGone log (flight_of log) b
+pub gone : (home shards : ℕ) (log : List GateEntry) → IsGateLog home shards log → (b : Begun) → Contains (txs_of log) b
+    → IsGone log (flight_of log) b
 gone home shards =
-    by_entries (λ before (entry : GateEntry). FitsAs home shards before entry.author entry.deed) (λ log. (b : Begun) → Contains (txs_of log) b → IsGone log (flight_of log) b)
+    by_entries (λ before (entry : GateEntry). FitsAs home shards before entry.author entry.deed)
+    (λ log. (b : Begun) → Contains (txs_of log) b → IsGone log (flight_of log) b)
     (λ b h. absurd (has_none b h))
     (λ log entry right fits so-far b h.
     subst (λ (f : Option Begun). IsGone (log ++ entry ∷ []) f b) (sym (flight-push log entry))
@@ -85,7 +96,8 @@ abbrev pub stamps_in : List Addressed → List Stamp
 stamps_in sent = map (λ (m : Message). m.stamp) (map (λ (a : Addressed). a.message) sent)
 
 -- of two elements of a list whose numbers and stamps rise one is before the other, if they aren't one
-pub either-sent : (sent : List Addressed) → AllPairs (λ a b. a < b) (map (λ (a : Addressed). a.number) sent) → AllPairs (λ a b. IsTrue (stamp_before a b)) (stamps_in sent) → (x y : Addressed) → Contains sent x → Contains sent y
+pub either-sent : (sent : List Addressed) → AllPairs (λ a b. a < b) (map (λ (a : Addressed). a.number) sent)
+    → AllPairs (λ a b. IsTrue (stamp_before a b)) (stamps_in sent) → (x y : Addressed) → Contains sent x → Contains sent y
     → (x ≡ y) ⊎ (((x.number < y.number) × IsTrue (stamp_before (x.message).stamp (y.message).stamp)) ⊎ ((y.number < x.number) × IsTrue (stamp_before (y.message).stamp (x.message).stamp)))
 either-sent [] numbers stamps x y h g = absurd (has_none x h)
 either-sent (z ∷ sent) numbers stamps x y h g =
@@ -123,7 +135,8 @@ range-low a n y h =
     omega (arith, at, is)
 
 -- what a member gives is there
-pub filter_map-has : {A B : Type 0} (f : A → Option B) (xs : List A) (x : A) (y : B) → Contains xs x → f x ≡ Some y → Contains (filter_map f xs) y
+pub filter_map-has : {A B : Type 0} (f : A → Option B) (xs : List A) (x : A) (y : B) → Contains xs x → f x ≡ Some y
+    → Contains (filter_map f xs) y
 filter_map-has f [] x y h e = absurd (has_none x h)
 filter_map-has {B = B} f (z ∷ xs) x y h e =
     elim (has_read z xs x h) [
@@ -149,7 +162,8 @@ pub record IsPast (stamp : Stamp) (log : List ShardEntry) (home : ℕ) : Type 0 
   pub within : number ≤ processed_count home log + 1
   pub later : IsTrue (stamp_before stamp message.stamp)
 
-past-some : (stamp : Stamp) (o : Option Message) → IsTrue (is_past stamp o) → (m : Message) × (o ≡ Some m) × IsTrue (stamp_before stamp m.stamp)
+past-some : (stamp : Stamp) (o : Option Message) → IsTrue (is_past stamp o)
+    → (m : Message) × (o ≡ Some m) × IsTrue (stamp_before stamp m.stamp)
 past-some stamp None h = cc
 past-some stamp (Some m) h = (m, refl, h)
 
@@ -163,9 +177,12 @@ has-range a (suc n) y low high =
     ]
 
 -- a shard that is ready has a later message of each gatekeeper
-pub ready-at : (gates : ℕ) (stamp : Stamp) (log : List ShardEntry) (home : ℕ) → home < gates → first_unready gates stamp log ≡ None → IsPast stamp log home
+pub ready-at : (gates : ℕ) (stamp : Stamp) (log : List ShardEntry) (home : ℕ) → home < gates
+    → first_unready gates stamp log ≡ None → IsPast stamp log home
 ready-at gates stamp log home below ready =
-    let is : IsTrue (is_ready_for stamp log home) = not-not (is_ready_for stamp log home) (find_lacks (λ g. not (is_ready_for stamp log g)) (range_with_len 0 gates) home ready (has-range 0 gates home (omega arith) (omega (arith, below)))) in
+    let is : IsTrue (is_ready_for stamp log home) =
+    not-not (is_ready_for stamp log home)
+    (find_lacks (λ g. not (is_ready_for stamp log g)) (range_with_len 0 gates) home ready (has-range 0 gates home (omega arith) (omega (arith, below)))) in
     elim (or_cases (is_past stamp (last_of home log)) (is_past stamp (head_of home log)) is) [
       | inl last ↦ (let m = past-some stamp (last_of home log) last in record { number = processed_count home log; message = m.0; arrived = m.1; within = omega arith; later = m.2 })
       | inr head ↦ (let m = past-some stamp (head_of home log) head in record { number = processed_count home log + 1; message = m.0; arrived = m.1; within = omega arith; later = m.2 })

@@ -1,4 +1,5 @@
--- Requests replayed one after another, vertex by vertex: the state at a vertex is that of the requests that name it, so it depends on these and their order alone.
+-- Requests replayed one after another, vertex by vertex: the state at a vertex is that of the requests that name it,
+-- so it depends on these and their order alone.
 use Rattle.std.proofs.Common.{◌≡◌, ℕ, Bool, true, false, cond, List, [], ◌∷◌, ◌++◌, IsTrue, Option, Some, None, Ok, Err, refl, sym, ap, subst, ◌∙◌}
 use Rattle.std.specs.Prelude.{⊤}
 use Rattle.std.specs.List.{filter}
@@ -50,40 +51,47 @@ Passes graph (Some request) = PassesWork graph request.work
 -- and so do all, one after another
 abbrev pub AllPass : PlainGraph → Script → List ℕ → Type 0
 AllPass graph script [] = ⊤
-AllPass graph script (r ∷ rest) = Passes graph (request_at script r) × AllPass (graph_after graph (request_at script r)) script rest
+AllPass graph script (r ∷ rest) =
+    Passes graph (request_at script r) × AllPass (graph_after graph (request_at script r)) script rest
 
 -- Two lists, one after the other
 
 -- requests pass where the first ones do, and then the others
-pub all-pass-append : (script : Script) (xs ys : List ℕ) (graph : PlainGraph) → AllPass graph script xs → AllPass (graph_after_all graph script xs) script ys → AllPass graph script (xs ++ ys)
+pub all-pass-append : (script : Script) (xs ys : List ℕ) (graph : PlainGraph) → AllPass graph script xs
+    → AllPass (graph_after_all graph script xs) script ys → AllPass graph script (xs ++ ys)
 all-pass-append script [] ys graph g h = h
 all-pass-append script (x ∷ xs) ys graph g h = (g.0, all-pass-append script xs ys (graph_after graph (request_at script x)) g.1 h)
 
 -- the first ones of requests that pass do
-pub all-pass-left : (script : Script) (xs ys : List ℕ) (graph : PlainGraph) → AllPass graph script (xs ++ ys) → AllPass graph script xs
+pub all-pass-left : (script : Script) (xs ys : List ℕ) (graph : PlainGraph) → AllPass graph script (xs ++ ys)
+    → AllPass graph script xs
 all-pass-left script [] ys graph h = tt
 all-pass-left script (x ∷ xs) ys graph h = (h.0, all-pass-left script xs ys (graph_after graph (request_at script x)) h.1)
 
 -- requests leave the graph that the others leave on that of the first ones
-pub after-append : (script : Script) (xs ys : List ℕ) (graph : PlainGraph) → graph_after_all graph script (xs ++ ys) ≡ graph_after_all (graph_after_all graph script xs) script ys
+pub after-append : (script : Script) (xs ys : List ℕ) (graph : PlainGraph)
+    → graph_after_all graph script (xs ++ ys) ≡ graph_after_all (graph_after_all graph script xs) script ys
 after-append script [] ys graph = refl
 after-append script (x ∷ xs) ys graph = after-append script xs ys (graph_after graph (request_at script x))
 
 module _ (laws : LowerLaws) where
   -- One request at one vertex
 
-  work-step : (graph : PlainGraph) (work : Work) (v : Name) → PassesWork graph work → state_after (ops_on v (ops_of work)) (graph v) ≡ graph_after_work graph work v
+  work-step : (graph : PlainGraph) (work : Work) (v : Name) → PassesWork graph work
+      → state_after (ops_on v (ops_of work)) (graph v) ≡ graph_after_work graph work v
   work-step graph (Look program) v passes = refl
   work-step graph (Change ops) v passes =
       let left : graph_left graph (transaction ops graph) ≡ passes.0.graph = ap (graph_left graph) passes.1 in
       sym (laws.leaves ops graph passes.0 passes.1 v) ∙ ap (λ (g : PlainGraph). g v) (sym left)
 
-  request-step : (graph : PlainGraph) (q : Option Request) (v : Name) → Passes graph q → state_after (ops_on v (ops_in q)) (graph v) ≡ graph_after graph q v
+  request-step : (graph : PlainGraph) (q : Option Request) (v : Name) → Passes graph q
+      → state_after (ops_on v (ops_in q)) (graph v) ≡ graph_after graph q v
   request-step graph None v passes = refl
   request-step graph (Some request) v passes = work-step graph request.work v passes
 
   -- the state at a vertex is its history
-  pub history-is : (script : Script) (rs : List ℕ) (graph : PlainGraph) (v : Name) → AllPass graph script rs → history script v rs (graph v) ≡ graph_after_all graph script rs v
+  pub history-is : (script : Script) (rs : List ℕ) (graph : PlainGraph) (v : Name) → AllPass graph script rs
+      → history script v rs (graph v) ≡ graph_after_all graph script rs v
   history-is script [] graph v passes = refl
   history-is script (r ∷ rs) graph v passes =
       ap (history script v rs) (request-step graph (request_at script r) v passes.0)
@@ -95,16 +103,19 @@ module _ (laws : LowerLaws) where
   unnamed-work (Look program) v e = refl
   unnamed-work (Change ops) v e = laws.unnamed ops v (both_ways _ e)
 
-  unnamed : (q : Option Request) (v : Name) → is_some_and (λ (request : Request). work_names v request.work) q ≡ false → ops_on v (ops_in q) ≡ []
+  unnamed : (q : Option Request) (v : Name) → is_some_and (λ (request : Request). work_names v request.work) q ≡ false
+      → ops_on v (ops_in q) ≡ []
   unnamed None v e = refl
   unnamed (Some request) v e = unnamed-work request.work v e
 
   -- a history depends on the requests that name the vertex alone
-  pub history-naming : (script : Script) (v : Name) (rs : List ℕ) (state : State) → history script v rs state ≡ history script v (filter (λ r. names_vertex script r v) rs) state
+  pub history-naming : (script : Script) (v : Name) (rs : List ℕ) (state : State)
+      → history script v rs state ≡ history script v (filter (λ r. names_vertex script r v) rs) state
   history-naming script v [] state = refl
   history-naming script v (r ∷ rs) state = at (names_vertex script r v) refl (history-naming script v rs)
     where
-      at : (b : Bool) → names_vertex script r v ≡ b → ((s : State) → history script v rs s ≡ history script v (filter (λ r. names_vertex script r v) rs) s)
+      at : (b : Bool) → names_vertex script r v ≡ b
+          → ((s : State) → history script v rs s ≡ history script v (filter (λ r. names_vertex script r v) rs) s)
           → history script v (r ∷ rs) state ≡ history script v (cond b (r ∷ filter (λ r. names_vertex script r v) rs) (filter (λ r. names_vertex script r v) rs)) state
       at false e rest = ap (λ ops. history script v rs (state_after ops state)) (unnamed (request_at script r) v e) ∙ rest state
       at true e rest = rest (state_after (ops_on v (ops_in (request_at script r))) state)
@@ -112,7 +123,8 @@ module _ (laws : LowerLaws) where
   -- Two lists of requests
 
   -- with the same requests naming a vertex, in the same order, they leave the same state there
-  pub same-state : (script : Script) (xs ys : List ℕ) (graph : PlainGraph) (v : Name) → AllPass graph script xs → AllPass graph script ys
+  pub same-state : (script : Script) (xs ys : List ℕ) (graph : PlainGraph) (v : Name) → AllPass graph script xs
+      → AllPass graph script ys
       → filter (λ r. names_vertex script r v) xs ≡ filter (λ r. names_vertex script r v) ys
       → graph_after_all graph script xs v ≡ graph_after_all graph script ys v
   same-state script xs ys graph v passes others same =
@@ -129,8 +141,10 @@ abbrev pub PassesWith : PlainGraph → List Op → List Got → Type 0
 PassesWith graph ops gots = (passed : Passed) × (transaction ops graph ≡ Ok passed) × (passed.gots ≡ gots)
 
 -- it then passes with the same answers
-pub pass-alike : LowerLaws → (ops : List Op) (g h : PlainGraph) (gots : List Got) → ((v : Name) → IsTrue (is_among (named_by ops) v) → g v ≡ h v) → PassesWith g ops gots → PassesWith h ops gots
-pass-alike laws ops g h gots alike passes = from (transaction ops h) refl (subst (λ (o : TxOutcome). EndAlike g h o (transaction ops h)) passes.1 (laws.ends_alike ops g h alike))
+pub pass-alike : LowerLaws → (ops : List Op) (g h : PlainGraph) (gots : List Got)
+    → ((v : Name) → IsTrue (is_among (named_by ops) v) → g v ≡ h v) → PassesWith g ops gots → PassesWith h ops gots
+pass-alike laws ops g h gots alike passes =
+    from (transaction ops h) refl (subst (λ (o : TxOutcome). EndAlike g h o (transaction ops h)) passes.1 (laws.ends_alike ops g h alike))
   where
     from : (o : TxOutcome) → transaction ops h ≡ o → EndAlike g h (Ok passes.0) o → PassesWith h ops gots
     from (Ok q) e a = (q, e, sym a.gots ∙ passes.2)

@@ -1,4 +1,5 @@
--- An account's report has a reply for each request, with its stamp, and the oracle's pairs; so what precedes in the report precedes in the account, and the other way round.
+-- An account's report has a reply for each request, with its stamp, and the oracle's pairs; so what precedes in the
+-- report precedes in the account, and the other way round.
 use Rattle.std.proofs.Common.{◌≡◌, ℕ, zero, suc, ◌<◌, List, [], ◌∷◌, length, get_or, Option, Some, None, ◌⊎◌, inl, inr, refl, sym, ap, subst, ◌∙◌, arith, zero-add}
 use Rattle.std.specs.Prelude.{slice_get}
 use Rattle.std.specs.List.{AllByRecursion, filter_map, cons_option, range_with_len}
@@ -50,7 +51,9 @@ pub record HasReply (script : Script) (account : Account) (report : Report) (r :
 module _ (script : Script) (account : Account) (report : Report) (reported : MatchesAccount script account report) where
   -- there are as many replies as requests
   pub as-many : length report.replies ≡ length script.requests
-  as-many = sym (length-map report.replies (λ (reply : Reply). reply.request)) ∙ ap length reported.requests ∙ length-range_with_len 0 (length script.requests)
+  as-many =
+      sym (length-map report.replies (λ (reply : Reply). reply.request)) ∙ ap length reported.requests
+      ∙ length-range_with_len 0 (length script.requests)
 
   -- reply r is of request r
   pub reply-number : (r : ℕ) (reply : Reply) → reply_at report r ≡ Some reply → reply.request ≡ r
@@ -59,8 +62,10 @@ module _ (script : Script) (account : Account) (report : Report) (reported : Mat
       let many = as-many in
       let inside : r < length script.requests = omega (arith, within, many) in
       let long = length-range_with_len 0 (length script.requests) in
-      let there : slice_get (range_with_len 0 (length script.requests)) r ≡ Some (get_or (range_with_len 0 (length script.requests)) r 0) = slice_get-get_or (range_with_len 0 (length script.requests)) r 0 (omega (arith, inside, long)) in
-      let is : get_or (range_with_len 0 (length script.requests)) r 0 ≡ r = get_or-range_with_len 0 (length script.requests) r 0 inside ∙ zero-add r in
+      let there : slice_get (range_with_len 0 (length script.requests)) r ≡ Some (get_or (range_with_len 0 (length script.requests)) r 0) =
+      slice_get-get_or (range_with_len 0 (length script.requests)) r 0 (omega (arith, inside, long)) in
+      let is : get_or (range_with_len 0 (length script.requests)) r 0 ≡ r =
+      get_or-range_with_len 0 (length script.requests) r 0 inside ∙ zero-add r in
       let number : Some reply.request ≡ Some r =
       sym (ap (option_map (λ (reply : Reply). reply.request)) at)
       ∙ sym (slice_get-map (λ (reply : Reply). reply.request) report.replies r)
@@ -96,13 +101,16 @@ module _ (script : Script) (account : Account) (report : Report) (reported : Mat
               | inr past ↦ (let many = as-many in slice_get_past report.replies r (omega (arith, many, past)))
             ]
 
-    pairs-same : (pairs : List Pair) (givens : List Given) → ArePairsOf account pairs givens → filter_map (λ (pair : Pair). given_by (stamp_at report pair.earlier) (stamp_at report pair.later)) pairs ≡ givens
+    pairs-same : (pairs : List Pair) (givens : List Given) → ArePairsOf account pairs givens
+        → filter_map (λ (pair : Pair). given_by (stamp_at report pair.earlier) (stamp_at report pair.later)) pairs ≡ givens
     pairs-same [] [] are = refl
     pairs-same [] (given ∷ givens) are = absurd are
     pairs-same (pair ∷ pairs) [] are = absurd are
     pairs-same (pair ∷ pairs) (given ∷ givens) are =
-        ap (λ s. cons_option (given_by s (stamp_at report pair.later)) (filter_map (λ (pair : Pair). given_by (stamp_at report pair.earlier) (stamp_at report pair.later)) pairs)) (same-stamp pair.earlier ∙ are.0.earlier_is)
-        ∙ ap (λ s. cons_option (given_by (Some given.0) s) (filter_map (λ (pair : Pair). given_by (stamp_at report pair.earlier) (stamp_at report pair.later)) pairs)) (same-stamp pair.later ∙ are.0.later_is)
+        ap (λ s. cons_option (given_by s (stamp_at report pair.later)) (filter_map (λ (pair : Pair). given_by (stamp_at report pair.earlier) (stamp_at report pair.later)) pairs))
+        (same-stamp pair.earlier ∙ are.0.earlier_is)
+        ∙ ap (λ s. cons_option (given_by (Some given.0) s) (filter_map (λ (pair : Pair). given_by (stamp_at report pair.earlier) (stamp_at report pair.later)) pairs))
+        (same-stamp pair.later ∙ are.0.later_is)
         ∙ ap (λ rest. given ∷ rest) (pairs-same pairs givens are.1)
 
     -- the report's pairs are the oracle's

@@ -1,4 +1,5 @@
--- The clause on replies: each has its request's place and its gatekeeper's stamp, stamps of one home are ordered, and sessions begin in turn. It rests on the clauses on gatekeepers and sessions.
+-- The clause on replies: each has its request's place and its gatekeeper's stamp, stamps of one home are ordered, and
+-- sessions begin in turn. It rests on the clauses on gatekeepers and sessions.
 use Rattle.std.proofs.Common.{◌≡◌, ◌≢◌, ℕ, zero, suc, ◌<◌, Bool, ◌==◌, ◌&&◌, List, [], ◌∷◌, ◌++◌, length, get_or, Contains, AllPairs, IsTrue, Option, Some, None, ◌⊎◌, inl, inr, refl, sym, ap, subst, ◌∙◌, arith}
 use Rattle.std.specs.Prelude.{slice_get}
 use Rattle.std.specs.List.{find}
@@ -28,7 +29,7 @@ use Rattle.weave_account.specs.Account.{gate_log, all_begun, stamp_of}
 use Rattle.weave_account.specs.Report.{IsReplyInAccount, MatchesAccount}
 use Rattle.weave_account.proofs.ListingClause.{matches-of}
 use Rattle.proof_base.proofs.Ordered.{pairs_tail, pairs_across}
-use Rattle.weave_account.proofs.Places.{facts-hold, list-all-from, unless}
+use Rattle.proof_base.proofs.Places.{facts-hold, list-all-from, unless}
 use Rattle.weave_account.proofs.Replying.{begun-rightly, home-below}
 use Rattle.weave_account.proofs.Sessions.{pairs-either}
 use Rattle.weave_account.proofs.Replies.{as-many, reply-number}
@@ -42,7 +43,8 @@ abbrev begun-by : GateEntry → List Begun
 begun-by entry = tx_by entry.author entry.deed ++ program_by entry.author entry.deed
 
 -- an entry begins nothing, or one request with its stamp
-few-begun : (author : ℕ) (deed : GateDeed) → (tx_by author deed ++ program_by author deed ≡ []) ⊎ ((b : Begun) × (tx_by author deed ++ program_by author deed ≡ b ∷ []) × Contains (stamps_by deed) b.stamp)
+few-begun : (author : ℕ) (deed : GateDeed)
+    → (tx_by author deed ++ program_by author deed ≡ []) ⊎ ((b : Begun) × (tx_by author deed ++ program_by author deed ≡ b ∷ []) × Contains (stamps_by deed) b.stamp)
 few-begun author (BeganTx r stamp) = inr (_, refl, has_head stamp [])
 few-begun author (BeganProgram r stamp) = inr (_, refl, has_head stamp [])
 few-begun author (Sent r messages) = inl refl
@@ -55,7 +57,8 @@ few-begun author (Finished r) = inl refl
 abbrev pub BeginsFirst : Begun → Begun → Type 0
 BeginsFirst a b = IsTrue (stamp_before a.stamp b.stamp)
 
-pairs-cons : {A : Type 0} (R : A → A → Type 0) (x : A) (xs : List A) → ((y : A) → Contains xs y → R x y) → AllPairs R xs → AllPairs R (x ∷ xs)
+pairs-cons : {A : Type 0} (R : A → A → Type 0) (x : A) (xs : List A) → ((y : A) → Contains xs y → R x y) → AllPairs R xs
+    → AllPairs R (x ∷ xs)
 pairs-cons R x xs heads rest i j d below within = at i j below within
   where
     at : (i j : ℕ) → i < j → j < suc (length xs) → R (get_or (x ∷ xs) i d) (get_or (x ∷ xs) j d)
@@ -64,11 +67,14 @@ pairs-cons R x xs heads rest i j d below within = at i j below within
     at (suc i) zero below within = absurd (omega (arith, below))
     at (suc i) (suc j) below within = rest i j d (omega (arith, below)) (omega (arith, within))
 
-pairs-right : {A : Type 0} (R : A → A → Type 0) (xs ys : List A) → AllPairs R (xs ++ ys) → AllPairs R ys
+-- the second of two lists put together keeps a relation of each two
+pub pairs-right : {A : Type 0} (R : A → A → Type 0) (xs ys : List A) → AllPairs R (xs ++ ys) → AllPairs R ys
 pairs-right R [] ys pairs = pairs
 pairs-right R (x ∷ xs) ys pairs = pairs-right R xs ys (pairs_tail R x (xs ++ ys) pairs)
 
-begins-rise : LowerLaws → (log : List GateEntry) → AllPairs (λ a b. IsTrue (stamp_before a b)) (stamps_of log) → AllPairs BeginsFirst (begun_in log)
+-- the begins of a log whose stamps rise are one before another
+pub begins-rise : LowerLaws → (log : List GateEntry) → AllPairs (λ a b. IsTrue (stamp_before a b)) (stamps_of log)
+    → AllPairs BeginsFirst (begun_in log)
 begins-rise laws [] pairs = λ i j d below within. absurd (omega (arith, within))
 begins-rise laws (entry ∷ log) pairs =
     let rest = begins-rise laws log (pairs-right (λ a b. IsTrue (stamp_before a b)) (stamps_by entry.deed) (stamps_of log) pairs) in
@@ -80,7 +86,8 @@ begins-rise laws (entry ∷ log) pairs =
 
 module _ (script : Script) (account : Account) (basis : Basis script account) where
   -- two begun requests have stamps apart
-  pub stamps-apart : (a b : Begun) → Contains (all_begun account) a → Contains (all_begun account) b → a.request ≢ b.request → IsTrue (are_apart a.stamp b.stamp)
+  pub stamps-apart : (a b : Begun) → Contains (all_begun account) a → Contains (all_begun account) b → a.request ≢ b.request
+      → IsTrue (are_apart a.stamp b.stamp)
   stamps-apart a b ha hb differ =
       let ra = begun-rightly script account basis a ha in
       let rb = begun-rightly script account basis b hb in
@@ -98,19 +105,25 @@ module _ (script : Script) (account : Account) (basis : Basis script account) wh
               | inr (inl first) ↦ basis.laws.irreflexive a.stamp (subst (λ s. IsTrue (stamp_before a.stamp s)) (sym e) first)
               | inr (inr second) ↦ basis.laws.irreflexive a.stamp (subst (λ s. IsTrue (stamp_before s a.stamp)) (sym e) second)
             ] in
-            basis.laws.apart (stamps_of log) a.stamp b.stamp all-coherent (basis.laws.own_stamp log a ra.there) (basis.laws.own_stamp log b in-b) distinct
+            basis.laws.coherent_apart (stamps_of log) a.stamp b.stamp all-coherent (basis.laws.own_stamp log a ra.there)
+            (basis.laws.own_stamp log b in-b) distinct
       ]
 
   -- the begin of a stamp
-  pub begin-of : (r : ℕ) (stamp : Stamp) → stamp_of account r ≡ Some stamp → (b : Begun) × Contains (all_begun account) b × (b.request ≡ r) × (b.stamp ≡ stamp)
+  pub begin-of : (r : ℕ) (stamp : Stamp) → stamp_of account r ≡ Some stamp
+      → (b : Begun) × Contains (all_begun account) b × (b.request ≡ r) × (b.stamp ≡ stamp)
   begin-of r stamp e = at (find (λ (b : Begun). b.request == r) (all_begun account)) refl e
     where
-      at : (o : Option Begun) → find (λ (b : Begun). b.request == r) (all_begun account) ≡ o → option_map (λ (b : Begun). b.stamp) o ≡ Some stamp → (b : Begun) × Contains (all_begun account) b × (b.request ≡ r) × (b.stamp ≡ stamp)
+      at : (o : Option Begun) → find (λ (b : Begun). b.request == r) (all_begun account) ≡ o
+          → option_map (λ (b : Begun). b.stamp) o ≡ Some stamp
+          → (b : Begun) × Contains (all_begun account) b × (b.request ≡ r) × (b.stamp ≡ stamp)
       at None is e = cc
-      at (Some b) is e = let has = find_has (λ (b : Begun). b.request == r) (all_begun account) b is in (b, has.0, eqb-true b.request r has.1, cc)
+      at (Some b) is e =
+          let has = find_has (λ (b : Begun). b.request == r) (all_begun account) b is in (b, has.0, eqb-true b.request r has.1, cc)
 
   module _ (report : Report) (reported : MatchesAccount script account report) where
-    in-place : (before : List Reply) (reply : Reply) (after : List Reply) → report.replies ≡ before ++ reply ∷ after → IsTrue (is_reply_in_place script before reply)
+    in-place : (before : List Reply) (reply : Reply) (after : List Reply) → report.replies ≡ before ++ reply ∷ after
+        → IsTrue (is_reply_in_place script before reply)
     in-place before reply after is =
         let at : slice_get report.replies (length before) ≡ Some reply = ap (λ rs. slice_get rs (length before)) is ∙ get-here before reply after in
         let number = reply-number script account report reported (length before) reply at in
@@ -121,40 +134,53 @@ module _ (script : Script) (account : Account) (basis : Basis script account) wh
         and_from _ _ (and_from _ _ (and_from _ _ (eq-eqb reply.request (length before) number) (lt-ltb reply.request (length script.requests) (omega (arith, number, many, long)))) (home reply.stamp matched.stamp_is))
         (list-all-from (stands_after script reply) before (λ earlier h. after-earlier earlier h matched number))
       where
-        home : (s : Option Stamp) → s ≡ stamp_of account reply.request → IsTrue (is_none_or (is_home_of (request_at script reply.request)) s)
+        home : (s : Option Stamp) → s ≡ stamp_of account reply.request
+            → IsTrue (is_none_or (is_home_of (request_at script reply.request)) s)
         home None e = refl
         home (Some stamp) e =
             let begun = begin-of reply.request stamp (sym e) in
             let right = begun-rightly script account basis begun.0 begun.1 in
             let home-is : stamp.home ≡ right.home = ap (λ (s : Stamp). s.home) (sym begun.3) ∙ ap (λ (s : Stamp). s.home) (right.rule).stamp_is in
-            own right.kind (request_at script reply.request) (subst (λ r. IsTrue (is_some_and (λ (request : Request). (request.gate == right.home) && right.kind request.work) (request_at script r))) begun.2 (right.rule).own) home-is
+            own right.kind (request_at script reply.request)
+            (subst (λ r. IsTrue (is_some_and (λ (request : Request). (request.gate == right.home) && right.kind request.work) (request_at script r))) begun.2 (right.rule).own) home-is
           where
-            own : {h : ℕ} (kind : Work → Bool) (q : Option Request) → IsTrue (is_some_and (λ (request : Request). (request.gate == h) && kind request.work) q) → stamp.home ≡ h → IsTrue (is_home_of q stamp)
+            own : {h : ℕ} (kind : Work → Bool) (q : Option Request)
+                → IsTrue (is_some_and (λ (request : Request). (request.gate == h) && kind request.work) q) → stamp.home ≡ h
+                → IsTrue (is_home_of q stamp)
             own kind None t e = cc
             own kind (Some request) t e = eq-eqb stamp.home request.gate (e ∙ sym (eqb-true request.gate _ (and_parts _ _ t).0))
 
-        after-earlier : (earlier : Reply) → Contains before earlier → IsReplyInAccount script account reply → reply.request ≡ length before → IsTrue (stands_after script reply earlier)
+        after-earlier : (earlier : Reply) → Contains before earlier → IsReplyInAccount script account reply
+            → reply.request ≡ length before → IsTrue (stands_after script reply earlier)
         after-earlier earlier h matched number =
-            let there : Contains report.replies earlier = subst (λ rs. Contains rs earlier) (sym is) (Contains-append_left before (reply ∷ after) earlier h) in
+            let there : Contains report.replies earlier =
+            subst (λ rs. Contains rs earlier) (sym is) (Contains-append_left before (reply ∷ after) earlier h) in
             let matches-earlier = matches-of script account basis report reported earlier there in
             let place = cut_at before earlier h in
-            let at : slice_get report.replies (length place.before) ≡ Some earlier = ap (λ rs. slice_get rs (length place.before)) (is ∙ ap (λ b. b ++ reply ∷ after) place.is ∙ append_assoc place.before (earlier ∷ place.after) (reply ∷ after)) ∙ get-here place.before earlier (place.after ++ reply ∷ after) in
+            let at : slice_get report.replies (length place.before) ≡ Some earlier =
+            ap (λ rs. slice_get rs (length place.before))
+            (is ∙ ap (λ b. b ++ reply ∷ after) place.is ∙ append_assoc place.before (earlier ∷ place.after) (reply ∷ after))
+            ∙ get-here place.before earlier (place.after ++ reply ∷ after) in
             let number-e = reply-number script account report reported (length place.before) earlier at in
             let long = ap length place.is ∙ length-append place.before (earlier ∷ place.after) in
             let less : earlier.request < reply.request = omega (arith, number, number-e, long) in
             and_from _ _ (apart-stamps earlier.stamp reply.stamp (sym matches-earlier.stamp_is) (sym matched.stamp_is) less)
             (unless (same_session script earlier.request reply.request) (are_begun_in_turn earlier.stamp reply.stamp) (λ same. turn earlier.stamp reply.stamp (sym matches-earlier.stamp_is) (sym matched.stamp_is) less same))
           where
-            apart-stamps : (x y : Option Stamp) → stamp_of account earlier.request ≡ x → stamp_of account reply.request ≡ y → earlier.request < reply.request → IsTrue (are_apart_where_begun x y)
+            apart-stamps : (x y : Option Stamp) → stamp_of account earlier.request ≡ x → stamp_of account reply.request ≡ y
+                → earlier.request < reply.request → IsTrue (are_apart_where_begun x y)
             apart-stamps None y ex ey less = refl
             apart-stamps (Some x) None ex ey less = refl
             apart-stamps (Some x) (Some y) ex ey less =
                 let a = begin-of earlier.request x ex in
                 let b = begin-of reply.request y ey in
                 let ra = a.2 in let rb = b.2 in
-                subst (λ s. IsTrue (are_apart s y)) a.3 (subst (λ s. IsTrue (are_apart (a.0).stamp s)) b.3 (stamps-apart a.0 b.0 a.1 b.1 (λ same. omega (arith, ra, rb, same, less))))
+                subst (λ s. IsTrue (are_apart s y)) a.3
+                (subst (λ s. IsTrue (are_apart (a.0).stamp s)) b.3 (stamps-apart a.0 b.0 a.1 b.1 (λ same. omega (arith, ra, rb, same, less))))
 
-            turn : (x y : Option Stamp) → stamp_of account earlier.request ≡ x → stamp_of account reply.request ≡ y → earlier.request < reply.request → IsTrue (same_session script earlier.request reply.request) → IsTrue (are_begun_in_turn x y)
+            turn : (x y : Option Stamp) → stamp_of account earlier.request ≡ x → stamp_of account reply.request ≡ y
+                → earlier.request < reply.request → IsTrue (same_session script earlier.request reply.request)
+                → IsTrue (are_begun_in_turn x y)
             turn x None ex ey less same = refl
             turn x (Some y) ex ey less same =
                 let first = sessions-rise script account basis earlier.request reply.request y less same ey in

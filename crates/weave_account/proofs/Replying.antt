@@ -17,9 +17,8 @@ use Rattle.report_rules.specs.Lookups.{is_some_and, request_at}
 use Rattle.weave_account.specs.declared.account.Account.{Account}
 use Rattle.weave_account.specs.Account.{gate_log, all_begun, stamp_of}
 use Rattle.weave_account.specs.Gatekeepers.{BeginsRequest, BeginsAs}
-use Rattle.weave_account.proofs.Members.{flat-has}
+use Rattle.proof_base.proofs.Images.{flat-has, within-list}
 use Rattle.weave_account.proofs.Basis.{Basis}
-use Rattle.weave_account.proofs.Members.{within-list}
 use Rattle.std.proofs.Common.{◌<◌, arith}
 use Rattle.weave_entries.specs.GateReplay.{begun_by}
 
@@ -36,13 +35,17 @@ pub record IsBegunRightly (script : Script) (account : Account) (begun : Begun) 
 one-of : {A : Type 0} (x y : A) → Contains (x ∷ []) y → x ≡ y
 one-of x y h = elim (has_read x [] y h) [ inl same ↦ same | inr none ↦ absurd (has_none y none) ]
 
-deed-begun : (script : Script) (account : Account) (home : ℕ) (before : List GateEntry) (author : ℕ) (deed : GateDeed) (begun : Begun) → Contains (begun_in (gate_log account home)) begun → Contains (tx_by author deed ++ program_by author deed) begun → BeginsAs script account home before deed → IsBegunRightly script account begun
+deed-begun : (script : Script) (account : Account) (home : ℕ) (before : List GateEntry) (author : ℕ) (deed : GateDeed) (begun : Begun)
+    → Contains (begun_in (gate_log account home)) begun → Contains (tx_by author deed ++ program_by author deed) begun
+    → BeginsAs script account home before deed → IsBegunRightly script account begun
 deed-begun script account home before author (BeganTx r stamp) begun there h rule =
     let same = one-of (record { author = author; request = r; stamp = stamp }) begun h in
-    subst (λ b. Contains (begun_in (gate_log account home)) b → IsBegunRightly script account b) same (λ here. record { home = home; kind = is_change; before = before; there = here; rule = rule }) there
+    subst (λ b. Contains (begun_in (gate_log account home)) b → IsBegunRightly script account b) same
+    (λ here. record { home = home; kind = is_change; before = before; there = here; rule = rule }) there
 deed-begun script account home before author (BeganProgram r stamp) begun there h rule =
     let same = one-of (record { author = author; request = r; stamp = stamp }) begun h in
-    subst (λ b. Contains (begun_in (gate_log account home)) b → IsBegunRightly script account b) same (λ here. record { home = home; kind = is_look; before = before; there = here; rule = rule }) there
+    subst (λ b. Contains (begun_in (gate_log account home)) b → IsBegunRightly script account b) same
+    (λ here. record { home = home; kind = is_look; before = before; there = here; rule = rule }) there
 deed-begun script account home before author (Sent r messages) begun there h rule = absurd (has_none begun h)
 deed-begun script account home before author (Nop shard number stamp low) begun there h rule = absurd (has_none begun h)
 deed-begun script account home before author (Heard clock) begun there h rule = absurd (has_none begun h)
@@ -52,7 +55,8 @@ deed-begun script account home before author (Finished r) begun there h rule = a
 -- a list of lists has this one at some place
 pub place-of : {A : Type 0} (xss : List (List A)) (xs : List A) → Contains xss xs → (i : ℕ) × (get_or xss i [] ≡ xs)
 place-of [] xs h = absurd (has_none xs h)
-place-of (ys ∷ xss) xs h = elim (has_read ys xss xs h) [ inl same ↦ (0, same) | inr more ↦ (let r = place-of xss xs more in (suc r.0, r.1)) ]
+place-of (ys ∷ xss) xs h =
+    elim (has_read ys xss xs h) [ inl same ↦ (0, same) | inr more ↦ (let r = place-of xss xs more in (suc r.0, r.1)) ]
 
 module _ (script : Script) (account : Account) (basis : Basis script account) where
   -- each begun request began rightly
@@ -63,7 +67,8 @@ module _ (script : Script) (account : Account) (basis : Basis script account) wh
       let begun-there : Contains (begun_in (gate_log account home.0)) begun = subst (λ l. Contains (begun_in l) begun) (sym home.1) log.1.1 in
       let entry = flat-has (λ (e : GateEntry). tx_by e.author e.deed ++ program_by e.author e.deed) (gate_log account home.0) begun begun-there in
       let place = cut_at (gate_log account home.0) entry.0 entry.1.0 in
-      deed-begun script account home.0 place.before (entry.0).author (entry.0).deed begun begun-there entry.1.1 (basis.is.gatekeepers.begins home.0 place.before entry.0 place.after place.is)
+      deed-begun script account home.0 place.before (entry.0).author (entry.0).deed begun begun-there entry.1.1
+      (basis.is.gatekeepers.begins home.0 place.before entry.0 place.after place.is)
 
   -- a gatekeeper that began a request is one of the script
   pub home-within : (home : ℕ) (begun : Begun) → Contains (begun_in (gate_log account home)) begun → home < script.gates
@@ -84,11 +89,14 @@ module _ (script : Script) (account : Account) (basis : Basis script account) wh
   pub none-begun : (r : ℕ) → request_at script r ≡ None → stamp_of account r ≡ None
   none-begun r none = at (find (λ (b : Begun). b.request == r) (all_begun account)) refl
     where
-      at : (o : Option Begun) → find (λ (b : Begun). b.request == r) (all_begun account) ≡ o → option_map (λ (b : Begun). b.stamp) o ≡ None
+      at : (o : Option Begun) → find (λ (b : Begun). b.request == r) (all_begun account) ≡ o
+          → option_map (λ (b : Begun). b.stamp) o ≡ None
       at None e = refl
       at (Some begun) e =
           let found = find_has (λ (b : Begun). b.request == r) (all_begun account) begun e in
           let rightly = begun-rightly begun found.0 in
           let same : begun.request ≡ r = eqb-true begun.request r found.1 in
-          let own : IsTrue (is_some_and (λ (request : Request). (request.gate == rightly.home) && rightly.kind request.work) None) = subst (λ q. IsTrue (is_some_and (λ (request : Request). (request.gate == rightly.home) && rightly.kind request.work) q)) (ap (request_at script) same ∙ none) rightly.rule.own in
+          let own : IsTrue (is_some_and (λ (request : Request). (request.gate == rightly.home) && rightly.kind request.work) None) =
+          subst (λ q. IsTrue (is_some_and (λ (request : Request). (request.gate == rightly.home) && rightly.kind request.work) q))
+          (ap (request_at script) same ∙ none) rightly.rule.own in
           cc

@@ -1,4 +1,5 @@
--- The report of an account is right: its eight clauses, one after another; it is of the script, and its meetings are ordered.
+-- The report of an account is right: its eight clauses, one after another; it is of the script, and its meetings are
+-- ordered.
 use Rattle.std.proofs.Common.{◌≡◌, ℕ, subst}
 use Rattle.program_defs.specs.declared.script.Script.{Script}
 use Rattle.report_rules.specs.declared.report.Report.{Report}
@@ -58,7 +59,8 @@ module _ (script : Script) (account : Account) (basis : Basis script account) (r
   form = of-script script account basis report reported
 
 -- the printed order may be asked for: the clause on replies holds, and no request precedes itself
-pub may-be-ordered : (script : Script) (account : Account) → Basis script account → (report : Report) → MatchesAccount script account report → AllHold (replies_clause script report) × ((r : ℕ) → ¬ RequestPrecedes report r r)
+pub may-be-ordered : (script : Script) (account : Account) → Basis script account → (report : Report)
+    → MatchesAccount script account report → AllHold (replies_clause script report) × ((r : ℕ) → ¬ RequestPrecedes report r r)
 may-be-ordered script account basis report reported = (
   replies script account basis report reported,
   λ r p. (let q = convert (same-precedence script account report reported basis r r) p in not-both script account basis r r q q),

@@ -63,7 +63,8 @@ module _ (script : Script) where
   reads-none r = none-flat (reads_in r) refl script.shards
 
   none-ended : (r : ℕ) → IsTrue (is_ended (no_logs script) r) → ⊥
-  none-ended r done = let none : IsTrue (is_in r []) = subst (λ ended. IsTrue (is_in r ended)) (none-flat ended_in refl script.gates) done in cc
+  none-ended r done =
+      let none : IsTrue (is_in r []) = subst (λ ended. IsTrue (is_in r ended)) (none-flat ended_in refl script.gates) done in cc
 
   -- each clause holds of empty logs
   pub starts : IsAccount script (no_logs script)

@@ -1,4 +1,5 @@
--- The commits of an account's store, as requests of the script: they replay to the store's graph, and at each vertex each precedes each later one.
+-- The commits of an account's store, as requests of the script: they replay to the store's graph, and at each vertex
+-- each precedes each later one.
 use Rattle.std.proofs.Common.{◌≡◌, ◌≢◌, ℕ, List, [], ◌∷◌, ◌++◌, map, Contains, AllPairs, Option, Some, None, inl, inr, refl, sym, ap, subst, ◌∙◌}
 use Rattle.std.specs.Prelude.{IsSomeAnd, ⊤}
 use Rattle.std.proofs.lemmas.List.{append-nil, map-append}
@@ -28,10 +29,10 @@ use Rattle.report_rules.specs.Replay.{graph_after, graph_after_work}
 use Rattle.report_rules.specs.Lookups.{request_at, work_names, is_some_and}
 use Rattle.weave_account.specs.declared.account.Account.{Account}
 use Rattle.weave_account.specs.Account.{all_begun, stamp_of}
-use Rattle.weave_account.specs.Store.{IsRightVerdict, Judges}
+use Rattle.weave_account.specs.Store.{AreJudgements, IsRightVerdict, Judges}
 use Rattle.weave_account.proofs.Replaying.{graph_after_all, PassesWork, Passes, AllPass, all-pass-append, after-append}
 use Rattle.weave_account.proofs.Beginning.{tx-stamp}
-use Rattle.weave_account.proofs.Members.{flat-has}
+use Rattle.proof_base.proofs.Images.{flat-has}
 
 -- the commits as requests
 abbrev pub requests_of_commits : List Commit → List ℕ
@@ -61,7 +62,8 @@ one : {A : Type 0} (x y : A) → Contains (x ∷ []) y → x ≡ y
 one x y h = elim (has_read x [] y h) [ inl same ↦ same | inr none ↦ absurd (has_none y none) ]
 
 -- the commit of an entry is that of its judgement
-pub commit-of : (author : ℕ) (deed : StoreDeed) (commit : Commit) → Contains (commit_by deed) commit → IsCommitOf (judged_by author deed) commit
+pub commit-of : (author : ℕ) (deed : StoreDeed) (commit : Commit) → Contains (commit_by deed) commit
+    → IsCommitOf (judged_by author deed) commit
 commit-of author (Judged r stamp ops asked (Committed number answers counts)) commit h =
     let same = one (record { request = r; stamp = stamp; ops = ops }) commit h in
     record { verdict = tt; request = ap (λ (c : Commit). c.request) same; stamp = ap (λ (c : Commit). c.stamp) same; ops = ap (λ (c : Commit). c.ops) same }
@@ -69,25 +71,32 @@ commit-of author (Judged r stamp ops asked (Conflict v newer)) commit h = absurd
 commit-of author (Judged r stamp ops asked (Refused op reason at)) commit h = absurd (has_none commit h)
 
 -- with one more entry its commit comes last
-pub commits-push : (log : List StoreEntry) (entry : StoreEntry) → commits_of (log ++ entry ∷ []) ≡ commits_of log ++ commit_by entry.deed
-commits-push log entry = flat_map-append (λ (e : StoreEntry). commit_by e.deed) log (entry ∷ []) ∙ ap (λ rest. commits_of log ++ rest) (append-nil (commit_by entry.deed))
+pub commits-push : (log : List StoreEntry) (entry : StoreEntry)
+    → commits_of (log ++ entry ∷ []) ≡ commits_of log ++ commit_by entry.deed
+commits-push log entry =
+    flat_map-append (λ (e : StoreEntry). commit_by e.deed) log (entry ∷ []) ∙ ap (λ rest. commits_of log ++ rest) (append-nil (commit_by entry.deed))
 
 -- a request that is this transaction
-work-graph : (work : Work) (ops : List Op) (graph : PlainGraph) → work ≡ Change ops → graph_after_work graph work ≡ graph_left graph (transaction ops graph)
+work-graph : (work : Work) (ops : List Op) (graph : PlainGraph) → work ≡ Change ops
+    → graph_after_work graph work ≡ graph_left graph (transaction ops graph)
 work-graph work ops graph is = ap (graph_after_work graph) is
 
 -- the graph after a request is the one that its transaction leaves
-pub request-graph : (q : Option Request) (ops : List Op) (graph : PlainGraph) → IsSomeAnd q (λ (request : Request). request.work ≡ Change ops) → graph_after graph q ≡ graph_left graph (transaction ops graph)
+pub request-graph : (q : Option Request) (ops : List Op) (graph : PlainGraph)
+    → IsSomeAnd q (λ (request : Request). request.work ≡ Change ops)
+    → graph_after graph q ≡ graph_left graph (transaction ops graph)
 request-graph None ops graph is = absurd is
 request-graph (Some request) ops graph is = work-graph request.work ops graph is
 
 -- a request passes if its transaction does
-pub work-passes : (q : Option Request) (ops : List Op) (graph : PlainGraph) → IsSomeAnd q (λ (request : Request). request.work ≡ Change ops) → PassesWork graph (Change ops) → Passes graph q
+pub work-passes : (q : Option Request) (ops : List Op) (graph : PlainGraph)
+    → IsSomeAnd q (λ (request : Request). request.work ≡ Change ops) → PassesWork graph (Change ops) → Passes graph q
 work-passes None ops graph is passes = absurd is
 work-passes (Some request) ops graph is passes = subst (PassesWork graph) (sym is) passes
 
 -- a request names what its transaction names
-pub work-named : (q : Option Request) (ops : List Op) (v : Name) → IsSomeAnd q (λ (request : Request). request.work ≡ Change ops) → is_some_and (λ (request : Request). work_names v request.work) q ≡ is_among (named_by ops) v
+pub work-named : (q : Option Request) (ops : List Op) (v : Name) → IsSomeAnd q (λ (request : Request). request.work ≡ Change ops)
+    → is_some_and (λ (request : Request). work_names v request.work) q ≡ is_among (named_by ops) v
 work-named None ops v is = absurd is
 work-named (Some request) ops v is = ap (work_names v) is
 
@@ -98,7 +107,9 @@ module _ (script : Script) (account : Account) (once : AllPairs (λ (a b : Begun
   -- Each is of the script
 
   -- each commit is of a begun request of the script
-  pub of-script : (log : List StoreEntry) → AtEachEntry (λ before (entry : StoreEntry). Judges script account before (judged_by entry.author entry.deed)) log → (commit : Commit) → Contains (commits_of log) commit → IsOfScript script account commit
+  pub of-script : (log : List StoreEntry)
+      → AreJudgements script account log
+      → (commit : Commit) → Contains (commits_of log) commit → IsOfScript script account commit
   of-script log each commit h =
       let from = flat-has (λ (e : StoreEntry). commit_by e.deed) log commit h in
       let place = cut_at log from.0 from.1.0 in
@@ -118,12 +129,16 @@ module _ (script : Script) (account : Account) (once : AllPairs (λ (a b : Begun
     pub passes : AllPass empty_graph script (requests_of_commits commits)
     pub graph : graph_after_all empty_graph script (requests_of_commits commits) ≡ graph_committed commits
 
-  replays-more : (commits : List Commit) (r : ℕ) (stamp : Stamp) (ops : List Op) → IsSomeAnd (request_at script r) (λ (request : Request). request.work ≡ Change ops) → PassesWork (graph_committed commits) (Change ops) → Replays commits → Replays (commits ++ record { request = r; stamp = stamp; ops = ops } ∷ [])
+  replays-more : (commits : List Commit) (r : ℕ) (stamp : Stamp) (ops : List Op)
+      → IsSomeAnd (request_at script r) (λ (request : Request). request.work ≡ Change ops)
+      → PassesWork (graph_committed commits) (Change ops) → Replays commits
+      → Replays (commits ++ record { request = r; stamp = stamp; ops = ops } ∷ [])
   replays-more commits r stamp ops work passes so-far =
       let commit : Commit = record { request = r; stamp = stamp; ops = ops } in
       let all = map-append (λ (c : Commit). c.request) commits (commit ∷ []) in
       let here : Passes (graph_after_all empty_graph script (requests_of_commits commits)) (request_at script r) =
-      subst (λ (graph : PlainGraph). Passes graph (request_at script r)) (sym so-far.graph) (work-passes (request_at script r) ops (graph_committed commits) work passes) in
+      subst (λ (graph : PlainGraph). Passes graph (request_at script r)) (sym so-far.graph)
+      (work-passes (request_at script r) ops (graph_committed commits) work passes) in
       record {
         passes = subst (AllPass empty_graph script) (sym all) (all-pass-append script (requests_of_commits commits) (r ∷ []) empty_graph so-far.passes (here, tt));
         graph =
@@ -134,14 +149,21 @@ module _ (script : Script) (account : Account) (once : AllPairs (λ (a b : Begun
             ∙ sym (fold-append graph_with_commit empty_graph commits (commit ∷ []));
       }
 
-  replays-deed : (before : List Commit) (author : ℕ) (deed : StoreDeed) → IsSomeAnd (request_at script (judged_by author deed).request) (λ (request : Request). request.work ≡ Change (judged_by author deed).ops)
-      → IsRightVerdict account before (judged_by author deed).stamp (judged_by author deed).ops (judged_by author deed).verdict → Replays before → Replays (before ++ commit_by deed)
-  replays-deed before author (Judged r stamp ops asked (Committed number answers counts)) work right so-far = replays-more before r stamp ops work (record { graph = right.graph; gots = answers }, right.passes) so-far
-  replays-deed before author (Judged r stamp ops asked (Conflict v newer)) work right so-far = subst Replays (sym (append-nil before)) so-far
-  replays-deed before author (Judged r stamp ops asked (Refused op reason at)) work right so-far = subst Replays (sym (append-nil before)) so-far
+  replays-deed : (before : List Commit) (author : ℕ) (deed : StoreDeed)
+      → IsSomeAnd (request_at script (judged_by author deed).request) (λ (request : Request). request.work ≡ Change (judged_by author deed).ops)
+      → IsRightVerdict account before (judged_by author deed).stamp (judged_by author deed).ops (judged_by author deed).verdict
+      → Replays before → Replays (before ++ commit_by deed)
+  replays-deed before author (Judged r stamp ops asked (Committed number answers counts)) work right so-far =
+      replays-more before r stamp ops work (record { graph = right.graph; gots = answers }, right.passes) so-far
+  replays-deed before author (Judged r stamp ops asked (Conflict v newer)) work right so-far =
+      subst Replays (sym (append-nil before)) so-far
+  replays-deed before author (Judged r stamp ops asked (Refused op reason at)) work right so-far =
+      subst Replays (sym (append-nil before)) so-far
 
   -- the commits replay to the store's graph
-  pub replays : (log : List StoreEntry) → AtEachEntry (λ before (entry : StoreEntry). Judges script account before (judged_by entry.author entry.deed)) log → Replays (commits_of log)
+  pub replays : (log : List StoreEntry)
+      → AreJudgements script account log
+      → Replays (commits_of log)
   replays =
       by_last (λ log. AtEachEntry Rule log → Replays (commits_of log))
       (λ each. record { passes = tt; graph = refl })

@@ -39,11 +39,11 @@ use Rattle.weave_account.proofs.Beginning.{list-there}
 use Rattle.weave_account.proofs.Listed.{listed-is, in-begun}
 use Rattle.weave_account.proofs.ListingClause.{final-begun}
 use Rattle.weave_account.proofs.Meeting.{visit-there, read-visited-there}
-use Rattle.weave_account.proofs.Members.{flat-has}
+use Rattle.proof_base.proofs.Images.{flat-has}
+use Rattle.weave_account.proofs.SameName.{same_name-refl}
 use Rattle.weave_account.proofs.Printing.{has-order}
 use Rattle.weave_account.proofs.Replies.{has-reply}
 use Rattle.weave_account.proofs.Basis.{Basis}
-use Rattle.weave_account.proofs.Members.{same_name-refl}
 use Rattle.program_defs.specs.Works.{is_look}
 
 -- a request that was begun as a program is one
@@ -53,11 +53,13 @@ pub record IsProgram (script : Script) (r : ℕ) : Type 0 where
   pub program : Program
   pub work : request.work ≡ Look program
 
-deed-program : (script : Script) (account : Account) (home : ℕ) (before : List GateEntry) (author : ℕ) (deed : GateDeed) (begun : Begun) → Contains (program_by author deed) begun → BeginsAs script account home before deed → IsProgram script begun.request
+deed-program : (script : Script) (account : Account) (home : ℕ) (before : List GateEntry) (author : ℕ) (deed : GateDeed) (begun : Begun)
+    → Contains (program_by author deed) begun → BeginsAs script account home before deed → IsProgram script begun.request
 deed-program script account home before author (BeganProgram r stamp) begun h rule =
     elim (has_read _ [] begun h) [ inl same ↦ subst (λ (b : Begun). IsProgram script b.request) same (at (request_at script r) refl rule.own) | inr none ↦ absurd (has_none begun none) ]
   where
-    at : (q : Option Request) → request_at script r ≡ q → IsTrue (is_some_and (λ (request : Request). (request.gate == home) && is_look request.work) q) → IsProgram script r
+    at : (q : Option Request) → request_at script r ≡ q
+        → IsTrue (is_some_and (λ (request : Request). (request.gate == home) && is_look request.work) q) → IsProgram script r
     at None e h = cc
     at (Some request) e h = look request.work refl (and_parts _ _ h).1
       where
@@ -72,11 +74,13 @@ deed-program script account home before author (Raised epoch) begun h rule = abs
 deed-program script account home before author (Finished r) begun h rule = absurd (has_none begun h)
 
 -- what was begun as a program is one
-pub program-begun : (script : Script) (account : Account) → Basis script account → (home : ℕ) (begun : Begun) → Contains (programs_of (gate_log account home)) begun → IsProgram script begun.request
+pub program-begun : (script : Script) (account : Account) → Basis script account → (home : ℕ) (begun : Begun)
+    → Contains (programs_of (gate_log account home)) begun → IsProgram script begun.request
 program-begun script account basis home begun h =
     let entry = flat-has (λ (e : GateEntry). program_by e.author e.deed) (gate_log account home) begun h in
     let place = cut_at (gate_log account home) entry.0 entry.1.0 in
-    deed-program script account home place.before (entry.0).author (entry.0).deed begun entry.1.1 (basis.is.gatekeepers.begins home place.before entry.0 place.after place.is)
+    deed-program script account home place.before (entry.0).author (entry.0).deed begun entry.1.1
+    (basis.is.gatekeepers.begins home place.before entry.0 place.after place.is)
 
 key-of : (reads : List (Name × State)) (read : Name × State) → Contains reads read → IsTrue (is_among (keys_of reads) read.0)
 key-of [] read h = absurd (has_none read h)
@@ -88,32 +92,47 @@ key-of (first ∷ reads) read h =
 
 module _ (script : Script) (account : Account) (basis : Basis script account) (report : Report) (reported : IsReportOfAccount script account report) where
   -- what a visit read is among the program's reads
-  visit-key : (number : ℕ) (visit : Visit) → Contains (visits_of (shard_log account number)) visit → IsTrue (is_among (keys_of (reads_of account visit.request)) visit.vertex)
+  visit-key : (number : ℕ) (visit : Visit) → Contains (visits_of (shard_log account number)) visit
+      → IsTrue (is_among (keys_of (reads_of account visit.request)) visit.vertex)
   visit-key number visit h =
       let log = shard_log account number in
       let read : Name × State = (visit.vertex, shard.state_of_updates (take visit.updates (updates_of visit.vertex log))) in
       let in-log : Contains (reads_in visit.request log) read =
-      has_map (λ (v : Visit). (v.vertex, shard.state_of_updates (take v.updates (updates_of v.vertex log)))) (filter (λ (v : Visit). v.request == visit.request) (visits_of log)) visit (has_filter (λ (v : Visit). v.request == visit.request) (visits_of log) visit h (eq-eqb visit.request visit.request refl)) in
+      has_map (λ (v : Visit). (v.vertex, shard.state_of_updates (take v.updates (updates_of v.vertex log))))
+      (filter (λ (v : Visit). v.request == visit.request) (visits_of log)) visit
+      (has_filter (λ (v : Visit). v.request == visit.request) (visits_of log) visit h (eq-eqb visit.request visit.request refl)) in
       let entry = flat-has (λ (e : ShardEntry). visit_by e.author e.deed) log visit h in
-      key-of (reads_of account visit.request) read (has_flat (reads_in visit.request) account.shards log read (list-there account.shards number entry.0 entry.1.0) in-log)
+      key-of (reads_of account visit.request) read
+      (has_flat (reads_in visit.request) account.shards log read (list-there account.shards number entry.0 entry.1.0) in-log)
 
   -- the later end of a pair that a visit added is a program that visits the vertex, if it is finished
-  pub visited-pair : (pair : Pair) → IsAddedByVisit account pair → AreBoth (λ (request : Request) (reply : Reply). MayBeLaterAt script report pair.vertex pair.later request.work reply.state) (request_at script pair.later) (reply_at report pair.later)
+  pub visited-pair : (pair : Pair) → IsAddedByVisit account pair
+      → AreBoth (λ (request : Request) (reply : Reply). MayBeLaterAt script report pair.vertex pair.later request.work reply.state) (request_at script pair.later) (reply_at report pair.later)
   visited-pair pair added =
       let has = visit-there script account basis added.shard added.visit added.visited in
-      let is-program : IsProgram script pair.later = subst (IsProgram script) added.later_is (program-begun script account basis (has.visit).home _ (has.visit).begun) in
+      let is-program : IsProgram script pair.later =
+      subst (IsProgram script) added.later_is (program-begun script account basis (has.visit).home _ (has.visit).begun) in
       let reply = has-reply script account report reported.matches pair.later is-program.request is-program.request_is in
-      let key : IsTrue (is_among (keys_of (reads_of account pair.later)) pair.vertex) = subst (λ r. IsTrue (is_among (keys_of (reads_of account r)) pair.vertex)) added.later_is (subst (λ v. IsTrue (is_among (keys_of (reads_of account (added.visit).request)) v)) added.vertex_is (visit-key added.shard added.visit added.visited)) in
-      subst (λ q. AreBoth (λ (request : Request) (reply : Reply). MayBeLaterAt script report pair.vertex pair.later request.work reply.state) q (reply_at report pair.later)) (sym is-program.request_is)
+      let key : IsTrue (is_among (keys_of (reads_of account pair.later)) pair.vertex) =
+      subst (λ r. IsTrue (is_among (keys_of (reads_of account r)) pair.vertex)) added.later_is
+      (subst (λ v. IsTrue (is_among (keys_of (reads_of account (added.visit).request)) v)) added.vertex_is (visit-key added.shard added.visit added.visited)) in
+      subst (λ q. AreBoth (λ (request : Request) (reply : Reply). MayBeLaterAt script report pair.vertex pair.later request.work reply.state) q (reply_at report pair.later))
+      (sym is-program.request_is)
       (subst (λ o. AreBoth (λ (request : Request) (reply : Reply). MayBeLaterAt script report pair.vertex pair.later request.work reply.state) (Some is-program.request) o) (sym reply.at)
       (subst (λ w. MayBeLaterAt script report pair.vertex pair.later w (reply.reply).state) (sym is-program.work) (where-finished is-program reply.reply reply.at reply.of reply.matched key (reply.reply).state refl)))
     where
-      where-finished : (is-program : IsProgram script pair.later) (e : Reply) → reply_at report pair.later ≡ Some e → e.request ≡ pair.later → IsReplyInAccount script account e → IsTrue (is_among (keys_of (reads_of account pair.later)) pair.vertex) → (state : ReplyState) → e.state ≡ state → VisitsWhereFinished (graph_at_place script report pair.later) is-program.program pair.vertex state
+      where-finished : (is-program : IsProgram script pair.later) (e : Reply) → reply_at report pair.later ≡ Some e
+          → e.request ≡ pair.later → IsReplyInAccount script account e
+          → IsTrue (is_among (keys_of (reads_of account pair.later)) pair.vertex) → (state : ReplyState) → e.state ≡ state
+          → VisitsWhereFinished (graph_at_place script report pair.later) is-program.program pair.vertex state
       where-finished is-program e at of matched key (reply.Finished answer) is =
           let final : IsTrue (is_committed_or_finished e.state) = subst (λ s. IsTrue (is_committed_or_finished s)) (sym is) refl in
           let begun = final-begun script account basis report reported.matches e matched final in
-          let may : IsTrue (may_be_listed report pair.later) = subst (λ o. IsTrue (is_some_and (λ (reply : Reply). is_committed_or_finished reply.state) o)) (sym at) final in
-          let listed : IsTrue (is_in pair.later report.order) = has-order report report.order reported.order pair.later (subst (λ k. IsTrue (is_in k (begun_requests report))) of (in-begun script account report reported.matches pair.later begun.0 e at begun.1)) may in
+          let may : IsTrue (may_be_listed report pair.later) =
+          subst (λ o. IsTrue (is_some_and (λ (reply : Reply). is_committed_or_finished reply.state) o)) (sym at) final in
+          let listed : IsTrue (is_in pair.later report.order) =
+          has-order report report.order reported.order pair.later
+          (subst (λ k. IsTrue (is_in k (begun_requests report))) of (in-begun script account report reported.matches pair.later begun.0 e at begun.1)) may in
           elim (listed-is script account report reported.matches pair.later may) [
             | inl tx ↦ (let same : Some tx.request ≡ Some is-program.request = sym tx.request_is ∙ is-program.request_is in let one : tx.request ≡ is-program.request = cc in let clash : Change tx.ops ≡ Look is-program.program = sym tx.work ∙ ap (λ (q : Request). q.work) one ∙ is-program.work in cc)
             | inr program ↦
@@ -121,7 +140,8 @@ module _ (script : Script) (account : Account) (basis : Basis script account) (r
                 let one : program.request ≡ is-program.request = cc in
                 let works : Look program.program ≡ Look is-program.program = sym program.work ∙ ap (λ (q : Request). q.work) one ∙ is-program.work in
                 let which : program.program ≡ is-program.program = cc in
-                subst (λ k. IsVisited (graph_at_place script report pair.later) k pair.vertex) which (read-visited-there script account basis report reported pair.later listed program pair.vertex key)
+                subst (λ k. IsVisited (graph_at_place script report pair.later) k pair.vertex) which
+                (read-visited-there script account basis report reported pair.later listed program pair.vertex key)
           ]
       where-finished is-program e at of matched key reply.Unbegun is = tt
       where-finished is-program e at of matched key reply.Begun is = tt

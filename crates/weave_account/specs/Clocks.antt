@@ -21,13 +21,15 @@ abbrev pub is_raised : Account → ℕ → Bool
 is_raised account epoch =
     list_any (λ (log : List GateEntry). list_any (λ (entry : GateEntry). raises_to epoch entry.deed) log) account.gates
 
--- a clock of eight counts, each at most the number of that gatekeeper's ticks in the clock's epoch, so 0 past the last gatekeeper; an epoch above 0 was raised by some gatekeeper
+-- a clock of eight counts, each at most the number of that gatekeeper's ticks in the clock's epoch, so 0 past the
+-- last gatekeeper; an epoch above 0 was raised by some gatekeeper
 pub record IsKnown (account : Account) (clock : Clock) : Type 0 where
   pub eight : HasEightCounts clock
   pub counts : (home : ℕ) → count_of home clock ≤ ticks_of clock.epoch (gate_log account home)
   pub raised : clock.epoch ≢ 0 → IsTrue (is_raised account clock.epoch)
 
--- Clocks: each clock in a gatekeeper's log is known, and a clock that a gatekeeper hears counts no more of its events than it made. The clocks of the other logs are copies of these, or meets of them.
+-- Clocks: each clock in a gatekeeper's log is known, and a clock that a gatekeeper hears counts no more of its events
+-- than it made. The clocks of the other logs are copies of these, or meets of them.
 pub record ClocksClause (account : Account) : Type 0 where
   pub known : (home : ℕ) (clock : Clock) → Contains (clocks_in (gate_log account home)) clock → IsKnown account clock
   pub hears_no_more : (home : ℕ) → HearsNoMore home (gate_log account home)

@@ -1,4 +1,5 @@
--- What the logs of gatekeepers keep together, beside what each such log keeps by itself: each request begins once, at its own gatekeeper, after what its session had begun last.
+-- What the logs of gatekeepers keep together, beside what each such log keeps by itself: each request begins once, at
+-- its own gatekeeper, after what its session had begun last.
 use Rattle.std.specs.Prelude.{◌≡◌, ◌≢◌, ℕ, Bool, ◌==◌, ◌&&◌, List, reverse, find, length, AllPairs, IsTrue, Option, ⊤}
 use Rattle.std.specs.List.{range_with_len}
 use Rattle.std.specs.Option.{ForSome, option_and_then}
@@ -27,8 +28,11 @@ request_before script r = find (λ other. same_session script other r) (reverse 
 abbrev pub last_stamp : Script → Account → ℕ → Option Stamp
 last_stamp script account r = option_and_then (stamp_of account) (request_before script r)
 
--- A request begins at its own gatekeeper, as the kind of work that it is. The stamp of the request before it in its session, if any, is heard first, and counts no more of the gatekeeper's events than it made. The new stamp's numbers have 64 bits.
-pub record BeginsRequest (script : Script) (account : Account) (is_kind : Work → Bool) (home : ℕ) (before : List GateEntry) (r : ℕ) (stamp : Stamp) : Type 0 where
+-- A request begins at its own gatekeeper, as the kind of work that it is. The stamp of the request before it in its
+-- session, if any, is heard first,
+-- and counts no more of the gatekeeper's events than it made. The new stamp's numbers have 64 bits.
+pub record BeginsRequest (script : Script) (account : Account) (is_kind : Work → Bool) (home : ℕ) (before : List GateEntry)
+    (r : ℕ) (stamp : Stamp) : Type 0 where
   pub own : IsTrue (is_some_and (λ (request : Request). (request.gate == home) && is_kind request.work) (request_at script r))
   pub stamp_is : stamp ≡ begun_stamp home (clock_of home before) (last_stamp script account r)
   pub hears_no_more : ForSome (last_stamp script account r) (λ last. IsTrue (counts_no_more home (clock_of home before) last.clock))
@@ -44,9 +48,12 @@ BeginsAs script account home before _ = ⊤
 abbrev pub BeginEachOnce : Account → Type 0
 BeginEachOnce account = AllPairs (λ (a b : Begun). a.request ≢ b.request) (all_begun account)
 
--- Gatekeepers: each log is one of its gatekeeper, each request begins at most once, and as it should. So stamps rise, no two transactions of a gatekeeper are in flight at once, and each request is sent or finished at most once, by the author of its begin.
+-- Gatekeepers: each log is one of its gatekeeper, each request begins at most once, and as it should.
+-- So stamps rise, no two transactions of a gatekeeper are in flight at once, and each request is sent or finished at
+-- most once, by the author of its begin.
 pub record GatekeepersClause (script : Script) (account : Account) : Type 0 where
   pub as_many : length account.gates ≡ script.gates
   pub logs : (home : ℕ) → IsGateLog home script.shards (gate_log account home)
-  pub begins : (home : ℕ) → AtEachEntry (λ before (entry : GateEntry). BeginsAs script account home before entry.deed) (gate_log account home)
+  pub begins : (home : ℕ)
+      → AtEachEntry (λ before (entry : GateEntry). BeginsAs script account home before entry.deed) (gate_log account home)
   pub once : BeginEachOnce account

@@ -1,5 +1,7 @@
 -- An account goes on: each of its logs is the beginning of one of another account.
-use Rattle.std.specs.Prelude.{◌≡◌, ℕ, List, ◌++◌}
+use Rattle.std.specs.Prelude.{◌≡◌, ℕ, ◌==◌, List, ◌++◌, filter}
+use Rattle.weave_entries.specs.declared.shard_log.ShardEntry.{ShardEntry}
+use Rattle.weave_entries.specs.ShardReplay.{Visit, visits_of}
 use Rattle.weave_account.specs.declared.account.Account.{Account}
 use Rattle.weave_account.specs.Account.{gate_log, shard_log, session_log}
 
@@ -14,3 +16,7 @@ pub record GoesOn (account next : Account) : Type 0 where
   pub oracle : IsBeginningOf account.oracle next.oracle
   pub shards : (shard : ℕ) → IsBeginningOf (shard_log account shard) (shard_log next shard)
   pub sessions : (session : ℕ) → IsBeginningOf (session_log account session) (session_log next session)
+
+-- the visits of a request in a shard, in order
+abbrev pub visits_by : ℕ → List ShardEntry → List Visit
+visits_by r log = filter (λ (visit : Visit). visit.request == r) (visits_of log)

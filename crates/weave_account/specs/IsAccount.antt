@@ -1,4 +1,5 @@
--- When logs are an account of a run: eight clauses, each over single entries and what is before them.
+-- When logs are an account of a run: eight clauses, over single entries, what is before them in their log, and
+-- precedence by all pairs of the oracle.
 use Rattle.program_defs.specs.declared.script.Script.{Script}
 use Rattle.weave_account.specs.declared.account.Account.{Account}
 use Rattle.weave_account.specs.Gatekeepers.{GatekeepersClause}
@@ -10,7 +11,8 @@ use Rattle.weave_account.specs.Channels.{ChannelsClause}
 use Rattle.weave_account.specs.Shards.{ShardsClause}
 use Rattle.weave_account.specs.Programs.{ProgramsClause}
 
--- the logs are an account of a run of the script
+-- the logs are an account of a run of the script; the clause on shards is that on processing, on visits and on the
+-- bounds of collections
 pub record IsAccount (script : Script) (account : Account) : Type 0 where
   pub gatekeepers : GatekeepersClause script account
   pub clocks : ClocksClause account

@@ -1,4 +1,3 @@
-pub mod Limits
 pub mod Account
 pub mod Gatekeepers
 pub mod Clocks
@@ -7,11 +6,14 @@ pub mod Store
 pub mod Oracle
 pub mod Channels
 pub mod Shards
+pub mod Seen
 pub mod Programs
 pub mod IsAccount
 pub mod Pairs
 pub mod Report
 pub mod GoesOn
+pub mod Collection
+pub mod OnTheWay
 pub mod NoLogs
 pub mod LowerLaws
 pub mod PairsByPlace

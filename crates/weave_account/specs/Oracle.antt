@@ -1,4 +1,5 @@
--- What the log of the oracle keeps: each entry was asked for by one commit or by one visit of a program, with just the earlier events that this one asks about.
+-- What the log of the oracle keeps: each entry was asked for by one commit or by one visit of a program, with just
+-- the earlier events that this one asks about.
 use Rattle.std.specs.Prelude.{◌≡◌, ◌≢◌, ◌⊎◌, ℕ, List, [], ◌∷◌, ◌++◌, map, filter, AllPairs, Contains, IsTrue}
 use Rattle.std.specs.List.{flat_map}
 use Rattle.vector_stamp.specs.declared.clock.Stamp.{Stamp}
@@ -15,7 +16,8 @@ use Rattle.weave_entries.specs.StoreRule.{lasts_of, asked_stamps}
 use Rattle.weave_account.specs.declared.account.Account.{Account}
 use Rattle.weave_account.specs.Account.{shard_log}
 
--- a commit asked: its stamp is the later one, and the earlier ones are those of the last commits at the vertices of which the store asks, in order of naming
+-- a commit asked: its stamp is the later one, and the earlier ones are those of the last commits at the vertices of
+-- which the store asks, in order of naming
 pub record IsAskedByCommit (account : Account) (settled : SettledEntry) : Type 0 where
   pub before : List StoreEntry
   pub entry : StoreEntry
@@ -30,7 +32,8 @@ pub record IsAskedByCommit (account : Account) (settled : SettledEntry) : Type 0
 abbrev pub seen_last : List ShardEntry → Visit → List Stamp
 seen_last log visit = last_seen visit.updates (map (λ (update : Update). update.stamp) (updates_of visit.vertex log))
 
--- a visit that is marked as settled asked: its program's stamp is the later one, and the earlier one is that of the last update that it saw
+-- a visit that is marked as settled asked: its program's stamp is the later one, and the earlier one is that of the
+-- last update that it saw
 pub record IsAskedByVisit (account : Account) (settled : SettledEntry) : Type 0 where
   pub shard : ℕ
   pub visit : Visit
@@ -48,11 +51,16 @@ pub record HasItsEntry (account : Account) (log : List ShardEntry) (visit : Visi
 
 -- the visits of a shard that are marked as settled, each with its program and what it saw last
 abbrev pub marked_in : List ShardEntry → List (ℕ × List Stamp)
-marked_in log = map (λ (visit : Visit). (visit.request, seen_last log visit)) (filter (λ (visit : Visit). visit.settled) (visits_of log))
+marked_in log =
+    map (λ (visit : Visit). (visit.request, seen_last log visit)) (filter (λ (visit : Visit). visit.settled) (visits_of log))
 
--- Oracle: the log keeps the oracle's rule, so each pair was added when stamps and the pairs before left its two open. Each entry is that of one commit or of one marked visit, each marked visit has one, and no entry is of two visits.
+-- Oracle: the log keeps the oracle's rule, so each pair was added when stamps and the pairs before left its two open.
+-- Each entry is that of one commit or of one marked visit, and each marked visit has one.
+-- No two marked visits of one program saw one update last, so no entry is of two visits.
 pub record OracleClause (account : Account) : Type 0 where
   pub log : IsOracleLog account.oracle
-  pub asked : (entry : OracleEntry) → Contains account.oracle entry → IsAskedByCommit account (settled_entry entry) ⊎ IsAskedByVisit account (settled_entry entry)
-  pub marked : (shard : ℕ) (visit : Visit) → Contains (visits_of (shard_log account shard)) visit → IsTrue visit.settled → HasItsEntry account (shard_log account shard) visit
+  pub asked : (entry : OracleEntry) → Contains account.oracle entry
+      → IsAskedByCommit account (settled_entry entry) ⊎ IsAskedByVisit account (settled_entry entry)
+  pub marked : (shard : ℕ) (visit : Visit) → Contains (visits_of (shard_log account shard)) visit → IsTrue visit.settled
+      → HasItsEntry account (shard_log account shard) visit
   pub once : AllPairs (λ (a b : ℕ × List Stamp). a ≢ b) (flat_map marked_in account.shards)

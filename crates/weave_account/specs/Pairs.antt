@@ -15,7 +15,8 @@ use Rattle.weave_account.specs.Account.{shard_log, stamp_of, commits_in}
 abbrev pub first_after : List Commit → ℕ → List Name → Option Name
 first_after before r vertices = find (λ v. is_some_and (λ (last : Commit). last.request == r) (last_naming v before)) vertices
 
--- a commit added the pair: it is the later one, and the vertex is the first of those asked at which the earlier one was the last commit
+-- a commit added the pair: it is the later one, and the vertex is the first of those asked at which the earlier one
+-- was the last commit
 pub record IsAddedByCommit (account : Account) (pair : Pair) : Type 0 where
   pub before : List StoreEntry
   pub entry : StoreEntry
@@ -26,7 +27,8 @@ pub record IsAddedByCommit (account : Account) (pair : Pair) : Type 0 where
   pub later_is : commit.request ≡ pair.later
   pub vertex_is : first_after (commits_of before) pair.earlier (judged_by entry.author entry.deed).asked ≡ Some pair.vertex
 
--- a visit added the pair: it is marked as settled, its program is the later one, and the last commit that it saw at the vertex is the earlier one
+-- a visit added the pair: it is marked as settled, its program is the later one, and the last commit that it saw at
+-- the vertex is the earlier one
 pub record IsAddedByVisit (account : Account) (pair : Pair) : Type 0 where
   pub shard : ℕ
   pub visit : Visit

@@ -21,20 +21,24 @@ use Rattle.weave_account.specs.Oracle.{seen_last}
 
 -- the request that was begun with this stamp, if there is one
 abbrev pub request_stamped : Account → Stamp → Option ℕ
-request_stamped account stamp = option_map (λ (begun : Begun). begun.request) (find (λ (begun : Begun). same_stamp begun.stamp stamp) (all_begun account))
+request_stamped account stamp =
+    option_map (λ (begun : Begun). begun.request) (find (λ (begun : Begun). same_stamp begun.stamp stamp) (all_begun account))
 
 -- the vertex at a place of what the store asked for this stamp
 abbrev pub vertex_asked : List StoreEntry → Stamp → ℕ → Option Name
 vertex_asked store later place =
     option_and_then (λ (judged : Judgement). slice_get judged.asked place) (find (λ (judged : Judgement). same_stamp judged.stamp later) (judgements_of store))
 
--- whether a visit of this shard added the pair: it has the later stamp, is marked as settled, and the last update that it saw has the earlier one
+-- whether a visit of this shard added the pair: it has the later stamp, is marked as settled, and the last update
+-- that it saw has the earlier one
 abbrev pub added_at : Stamp → Stamp → List ShardEntry → Visit → Bool
-added_at earlier later log visit = same_stamp visit.stamp later && visit.settled && list_any (same_stamp earlier) (seen_last log visit)
+added_at earlier later log visit =
+    same_stamp visit.stamp later && visit.settled && list_any (same_stamp earlier) (seen_last log visit)
 
 -- the vertex of the visit in this shard that added the pair, if there is one
 abbrev pub vertex_visited_in : Stamp → Stamp → List ShardEntry → Option Name
-vertex_visited_in earlier later log = option_map (λ (visit : Visit). visit.vertex) (find (added_at earlier later log) (visits_of log))
+vertex_visited_in earlier later log =
+    option_map (λ (visit : Visit). visit.vertex) (find (added_at earlier later log) (visits_of log))
 
 -- and in any of the shards
 abbrev pub vertex_visited : List (List ShardEntry) → Stamp → Stamp → Option Name
@@ -50,7 +54,8 @@ placed_pair account place given =
 
 -- the pairs of an entry
 abbrev pub placed_by : Account → SettledEntry → List Pair
-placed_by account entry = filter_map (λ (place : ℕ). option_and_then (λ (event : Stamp). placed_pair account place (event, entry.later)) (slice_get entry.earlier place)) entry.places
+placed_by account entry =
+    filter_map (λ (place : ℕ). option_and_then (λ (event : Stamp). placed_pair account place (event, entry.later)) (slice_get entry.earlier place)) entry.places
 
 -- the pairs of the oracle's log, in the order in which they were added
 abbrev pub placed_pairs : Account → List Pair

@@ -1,5 +1,6 @@
--- A run by phases: when a phase has ended, each request of it and of the earlier ones has its reply, and none of a later one has begun.
-use Rattle.std.specs.Prelude.{◌≡◌, ℕ, ◌≤◌, Contains, IsTrue, Some}
+-- A run by phases: when a phase has ended, each request of it and of the earlier ones has its reply, and none of a
+-- later one has begun.
+use Rattle.std.specs.Prelude.{◌≡◌, ℕ, ◌<◌, ◌≤◌, Contains, IsTrue, Some}
 use Rattle.vector_stamp.specs.declared.clock.Stamp.{Stamp}
 use Rattle.program_defs.specs.declared.script.Request.{Request}
 use Rattle.program_defs.specs.declared.script.Script.{Script}
@@ -13,15 +14,21 @@ use Rattle.weave_account.specs.Clocks.{is_raised}
 use Rattle.weave_account.specs.GoesOn.{GoesOn}
 use Rattle.weave_account.specs.IsAccount.{IsAccount}
 
--- These logs are the account's at the end of a phase. Each request so far has its reply, none of a later phase has begun, and no epoch was raised. Each pair whose later end is of a phase so far was added before.
+-- These logs are the account's at the end of a phase. Each request so far has its reply, none of a later phase has
+-- begun, and no epoch was raised. Each pair whose later end is of a phase so far was added before.
 pub record EndsPhase (script : Script) (account : Account) (phase : ℕ) (logs : Account) : Type 0 where
-  pub is : IsAccount script logs
+  pub is_account : IsAccount script logs
   pub goes_on : GoesOn logs account
-  pub replied : (r : ℕ) (request : Request) → request_at script r ≡ Some request → phase_of script r ≤ phase → IsTrue (has_reply_in r (session_log logs request.session))
+  pub replied : (r : ℕ) (request : Request) → request_at script r ≡ Some request → phase_of script r ≤ phase
+      → IsTrue (has_reply_in r (session_log logs request.session))
   pub begun : (begun : Begun) → Contains (all_begun logs) begun → phase_of script begun.request ≤ phase
   pub epochs : (epoch : ℕ) → ¬ IsTrue (is_raised logs epoch)
-  pub pairs : (earlier later : Stamp) (r : ℕ) → Contains (pairs_in account) (earlier, later) → stamp_of account r ≡ Some later → phase_of script r ≤ phase → Contains (pairs_in logs) (earlier, later)
+  pub pairs : (earlier later : Stamp) (r : ℕ) → Contains (pairs_in account) (earlier, later) → stamp_of account r ≡ Some later
+      → phase_of script r ≤ phase → Contains (pairs_in logs) (earlier, later)
 
--- the account is that of a run by phases: each phase has ended with some logs
+-- the account is that of a run by phases: before a request of a later phase was begun, each phase had ended with some
+-- logs
 abbrev pub IsRunByPhases : Script → Account → Type 0
-IsRunByPhases script account = (phase : ℕ) → (logs : Account) × EndsPhase script account phase logs
+IsRunByPhases script account =
+    (phase : ℕ) (later : Begun) → Contains (all_begun account) later → phase < phase_of script later.request
+    → (logs : Account) × EndsPhase script account phase logs

@@ -17,10 +17,12 @@ use Rattle.weave_account.specs.Account.{reads_of, is_ended}
 abbrev pub visits_over : List (Name × State) → Program → List Name
 visits_over reads program = visits_to (length reads) (graph_read reads) program
 
--- each vertex is read once; those read are the first that many of the list of visits over the states read, in whatever order, and all of it if the program is finished
+-- each vertex is read once; those read are the first that many of the list of visits over the states read, in
+-- whatever order, and all of it if the program is finished
 pub record ReadsInTurn (reads : List (Name × State)) (program : Program) (finished : Type 0) : Type 0 where
   pub once : AllPairs (λ (a b : Name × State). a.0 ≢ b.0) reads
-  pub first_ones : (v : Name) → IsTrue (is_among (keys_of reads) v) ↔ IsTrue (is_among (take (length reads) (visits_over reads program)) v)
+  pub first_ones : (v : Name)
+      → IsTrue (is_among (keys_of reads) v) ↔ IsTrue (is_among (take (length reads) (visits_over reads program)) v)
   pub whole : finished → next_visit reads program ≡ None
 
 -- Programs: each reads its vertices in turn

@@ -1,4 +1,5 @@
--- The report of an account: replies of transactions by the store's log, those of programs by what they read, the oracle's pairs, and the printed order.
+-- The report of an account: replies of transactions by the store's log, those of programs by what they read, the
+-- oracle's pairs, and the printed order.
 use Rattle.std.specs.Prelude.{◌≡◌, ℕ, false, map, length, IsTrue, Option, None, Some, IsSomeAnd}
 use Rattle.std.specs.List.{AllByRecursion, range_with_len}
 use Rattle.vector_stamp.specs.declared.clock.Stamp.{Stamp}

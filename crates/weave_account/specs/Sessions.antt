@@ -1,4 +1,5 @@
--- What the logs of sessions keep: their requests in turn, with the gatekeepers' stamps, each reply after the request has ended.
+-- What the logs of sessions keep: their requests in turn, with the gatekeepers' stamps, each reply after the request
+-- has ended.
 use Rattle.std.specs.Prelude.{◌≡◌, ℕ, ◌==◌, List, filter, length, IsTrue, Some, ⊤}
 use Rattle.std.specs.List.{range_with_len}
 use Rattle.program_defs.specs.declared.script.Request.{Request}
@@ -23,10 +24,14 @@ abbrev pub RepliesAs : Account → SessionDeed → Type 0
 RepliesAs account (Begun r stamp) = ⊤
 RepliesAs account (Replied r) = IsTrue (is_ended account r)
 
--- Sessions: each log is one of its session, its begins are those at the gatekeepers, and it has replies to what was sent or finished alone. A program is finished at its gatekeeper exactly if its session has its reply.
+-- Sessions: each log is one of its session, its begins are those at the gatekeepers, and only what was sent or
+-- finished has a reply.
+-- A program is finished at its gatekeeper exactly if its session has its reply.
 pub record SessionsClause (script : Script) (account : Account) : Type 0 where
   pub logs : (session : ℕ) → IsSessionLog session (requests_of_session script session) (session_log account session)
-  pub stamps : (r : ℕ) (request : Request) → request_at script r ≡ Some request → session_stamp_of r (session_log account request.session) ≡ stamp_of account r
-  pub replies : (session : ℕ) → AtEachEntry (λ before (entry : SessionEntry). RepliesAs account entry.deed) (session_log account session)
+  pub stamps : (r : ℕ) (request : Request) → request_at script r ≡ Some request
+      → session_stamp_of r (session_log account request.session) ≡ stamp_of account r
+  pub replies : (session : ℕ)
+      → AtEachEntry (λ before (entry : SessionEntry). RepliesAs account entry.deed) (session_log account session)
   pub finished_are_replied : (r : ℕ) (request : Request) → request_at script r ≡ Some request → IsTrue (is_look request.work)
       → IsTrue (is_ended account r) → IsTrue (has_reply_in r (session_log account request.session))

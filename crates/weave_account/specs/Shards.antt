@@ -1,4 +1,5 @@
--- What the logs of shards keep: messages as they were sent, each applied in its turn; each visit after what precedes its program and before what it precedes; bounds of collections.
+-- What the logs of shards keep: messages as they were sent, each applied in its turn; visits, each of which sees the
+-- updates that precede its program and none that it precedes; bounds of collections.
 use Rattle.std.specs.Prelude.{◌≡◌, ℕ, ◌+◌, ◌-◌, ◌<◌, ◌≤◌, List, length, Contains, Option, None, Some, slice_get}
 use Rattle.std.specs.Option.{ForSome}
 use Rattle.weave_data.specs.declared.name.Name.{Name}
@@ -41,15 +42,18 @@ update_of v commit = record { stamp = commit.stamp; ops = ops_on v commit.ops }
 abbrev pub update_at : Name → ℕ → List ShardEntry → Option Update
 update_at v n log = slice_get (updates_of v log) n
 
--- A program that was begun reads a vertex of the shard, which is ready for it, after the first `updates` of the updates applied so far. The last of these precedes the program, and the program precedes the next one.
-pub record Visits (script : Script) (account : Account) (shard : ℕ) (before : List ShardEntry) (r : ℕ) (stamp : Stamp) (v : Name) (updates : ℕ) : Type 0 where
+-- A program that was begun reads a vertex of the shard, which is ready for it, after the first `updates` of the
+-- updates applied so far. The last of these precedes the program, and the program precedes the next one.
+pub record IsRightVisit (script : Script) (account : Account) (shard : ℕ) (before : List ShardEntry) (r : ℕ) (stamp : Stamp)
+    (v : Name) (updates : ℕ) : Type 0 where
   pub home : ℕ
   pub author : ℕ
   pub begun : Contains (programs_of (gate_log account home)) (record { author = author; request = r; stamp = stamp })
   pub kept_here : shard_of v script.shards ≡ shard
   pub ready : first_unready script.gates stamp before ≡ None
   pub applied : updates ≤ length (updates_of v before)
-  pub after_seen : 0 < updates → ForSome (update_at v (updates - 1) before) (λ (update : Update). Precedence account update.stamp stamp)
+  pub after_seen : 0 < updates
+      → ForSome (update_at v (updates - 1) before) (λ (update : Update). Precedence account update.stamp stamp)
   pub before_skipped : ForSome (update_at v updates before) (λ (update : Update). Precedence account stamp update.stamp)
 
 -- Each deed
@@ -58,10 +62,16 @@ pub record Visits (script : Script) (account : Account) (shard : ℕ) (before : 
 abbrev pub ShardFitsAs : Script → Account → ℕ → List ShardEntry → ShardDeed → Type 0
 ShardFitsAs script account shard before (Arrived home number message) = Arrives account shard before home number message
 ShardFitsAs script account shard before (Applied home number) = Applies before home number
-ShardFitsAs script account shard before (Visited r stamp v updates settled) = Visits script account shard before r stamp v updates
+ShardFitsAs script account shard before (Visited r stamp v updates settled) =
+    IsRightVisit script account shard before r stamp v updates
 ShardFitsAs script account shard before (Collected bound) = bound ≡ bound_of script.gates before
+
+-- each deed of a log is right after those before it
+abbrev pub AreShardDeeds : Script → Account → ℕ → List ShardEntry → Type 0
+AreShardDeeds script account shard log = AtEachEntry (λ before entry. ShardFitsAs script account shard before entry.deed) log
 
 -- Shards: each deed is right after those before it
 pub record ShardsClause (script : Script) (account : Account) : Type 0 where
   pub as_many : length account.shards ≡ script.shards
-  pub deeds : (shard : ℕ) → AtEachEntry (λ before (entry : ShardEntry). ShardFitsAs script account shard before entry.deed) (shard_log account shard)
+  pub deeds : (shard : ℕ)
+      → AreShardDeeds script account shard (shard_log account shard)

@@ -23,13 +23,16 @@ use Rattle.report_rules.specs.Lookups.{request_at, same_session}
 use Rattle.weave_account.specs.declared.account.Account.{Account}
 use Rattle.weave_account.specs.Account.{gate_log, Precedence}
 
--- After these commits a transaction commits: it has the next number, passes on the graph that they leave with these answers, and counts them at each vertex that it names. At each such vertex the last of them precedes it.
-pub record Commits (account : Account) (before : List Commit) (stamp : Stamp) (ops : List Op) (number : ℕ) (answers : List Got) (counts : List Counted) : Type 0 where
+-- After these commits a transaction commits: it has the next number, passes on the graph that they leave with these
+-- answers, and counts them at each vertex that it names. At each such vertex the last of them precedes it.
+pub record Commits (account : Account) (before : List Commit) (stamp : Stamp) (ops : List Op) (number : ℕ) (answers : List Got)
+    (counts : List Counted) : Type 0 where
   pub number_is : number ≡ length before + 1
   pub graph : PlainGraph
   pub passes : transaction ops (graph_committed before) ≡ Ok (record { graph = graph; gots = answers })
   pub counts_are : counts ≡ counts_of ops before
-  pub after_last : (v : Name) → IsTrue (is_among (named_by ops) v) → ForSome (last_naming v before) (λ (last : Commit). Precedence account last.stamp stamp)
+  pub after_last : (v : Name) → IsTrue (is_among (named_by ops) v)
+      → ForSome (last_naming v before) (λ (last : Commit). Precedence account last.stamp stamp)
 
 -- it conflicts at a vertex that it names with the last of them that names it: it precedes that one
 pub record Conflicts (account : Account) (before : List Commit) (stamp : Stamp) (ops : List Op) (v : Name) (newer : ℕ) : Type 0 where
@@ -50,7 +53,9 @@ IsRightVerdict account before stamp ops (Committed number answers counts) = Comm
 IsRightVerdict account before stamp ops (Conflict v newer) = Conflicts account before stamp ops v newer
 IsRightVerdict account before stamp ops (Refused op reason at) = IsRefused before ops op reason at
 
--- What is judged was begun as a transaction, with this stamp and by this author, and has the operations of its request. The oracle is asked of the named vertices whose last commit has an unordered stamp. The verdict is right after the commits so far.
+-- What is judged was begun as a transaction, with this stamp and by this author, and has the operations of its request.
+-- `asked` are the named vertices whose last commit has an unordered stamp, whether or not the oracle was asked. The
+-- verdict is right after the commits so far.
 pub record Judges (script : Script) (account : Account) (before : List StoreEntry) (judged : Judgement) : Type 0 where
   pub home : ℕ
   pub begun : Contains (txs_of (gate_log account home)) (record { author = judged.author; request = judged.request; stamp = judged.stamp })
@@ -62,8 +67,13 @@ pub record Judges (script : Script) (account : Account) (before : List StoreEntr
 abbrev pub InTurn : Script → ℕ → ℕ → Type 0
 InTurn script a b = IsTrue (same_session script a b) → a < b
 
--- Store: each entry judges a begun transaction rightly, each transaction at most once, and those of a session in its order
+-- each entry of a log judges rightly after those before it
+abbrev pub AreJudgements : Script → Account → List StoreEntry → Type 0
+AreJudgements script account log = AtEachEntry (λ before entry. Judges script account before (judged_by entry.author entry.deed)) log
+
+-- Store: each entry judges a begun transaction rightly, each transaction at most once, and those of a session in its
+-- order
 pub record StoreClause (script : Script) (account : Account) : Type 0 where
-  pub judges : AtEachEntry (λ before (entry : StoreEntry). Judges script account before (judged_by entry.author entry.deed)) account.store
+  pub judges : AreJudgements script account account.store
   pub once : AllPairs (λ (a b : Judgement). a.request ≢ b.request) (judgements_of account.store)
   pub in_turn : AllPairs (λ (a b : Judgement). InTurn script a.request b.request) (judgements_of account.store)

@@ -12,8 +12,9 @@ use vector_stamp::laws::{
     settling_puts_all_before, stamps_are_ordered,
 };
 use weave_entries::laws::{
-    an_oracle_log_has_no_cycle, channels_rise, messages_come_before, requests_end,
-    stamps_are_its_own, stamps_rise,
+    an_oracle_log_has_no_cycle, begun_and_replied_are_decided, channels_rise, low_marks_are_below,
+    messages_come_before, requests_end, sessions_go_in_turn, stamps_are_its_own, stamps_rise,
+    what_has_not_ended_goes_on,
 };
 
 /// The laws of the crates below that the laws of accounts stand on.
@@ -21,6 +22,7 @@ pub(crate) fn the_crates_below_keep_their_laws()
     ensures { LowerLaws }
 {
     an_oracle_log_has_no_cycle();
+    begun_and_replied_are_decided();
     channels_rise();
     clocks_keep_the_laws();
     coherence_is_decided();
@@ -28,6 +30,7 @@ pub(crate) fn the_crates_below_keep_their_laws()
     each_vertex_is_named_once();
     equality_is_decided();
     meet_is_greatest_below();
+    low_marks_are_below();
     messages_come_before();
     next_visit_misses_none();
     only_visits_matter();
@@ -37,9 +40,11 @@ pub(crate) fn the_crates_below_keep_their_laws()
     precedence_is_decided();
     printed_order_is_one();
     requests_end();
+    sessions_go_in_turn();
     settling_puts_all_before();
     stamps_are_its_own();
     stamps_are_ordered();
     stamps_rise();
     vertices_are_independent();
+    what_has_not_ended_goes_on();
 }

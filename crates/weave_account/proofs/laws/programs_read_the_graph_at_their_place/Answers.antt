@@ -1,6 +1,8 @@
+use Rattle.weave_account.proofs.Basis.{based}
 use Rattle.weave_account.proofs.Meeting.{read-at}
 use Rattle.weave_account.proofs.laws.programs_read_the_graph_at_their_place.Goals as goal
 
 pub returns : goal.returns
 returns c =
-    λ script account report limits is reported r h read k. read-at script account (record { laws = c.the_crates_below_keep_their_laws.ensures; limits = limits; is = is }) report reported r h read k
+    let laws = c.the_crates_below_keep_their_laws.ensures in
+    λ script account report limits is reported r h read k. read-at script account (based laws limits is) report reported r h read k
