@@ -6,6 +6,7 @@ use Rattle.std.specs.List.{AllByRecursion}
 use Rattle.std.specs.Str.{bytes_eq}
 use Rattle.std.proofs.lemmas.Bool.{and_parts, or_cases}
 use Rattle.weave_data.specs.declared.name.Name.{Name}
+use Rattle.weave_text.specs.Cutting.{is_empty}
 use Rattle.weave_text.specs.Lines.{Word}
 use Rattle.graph_ops.specs.Operations.{State}
 use Rattle.program_defs.specs.declared.program.Program.{Program}
@@ -16,7 +17,7 @@ use Rattle.weave_report.specs.declared.fault.ReportCause.TheVariants as cause
 use Rattle.report_rules.specs.declared.report.StepAnswer.{StepAnswer}
 use Rattle.report_rules.specs.declared.report.StepAnswer.TheVariants as step
 use Rattle.weave_report.specs.ReadingFields.{◌>>=◌, name_in, names_in, small_number_in}
-use Rattle.weave_report.specs.ReadingStates.{is_empty, is_state_form, state_in, is_reached_form, is_found_form, is_walk_form, is_answer_form, shown_in, reached_in, found_in, walk_in, answer_in, bare_answer, is_step_form, step_answer_in}
+use Rattle.weave_report.specs.ReadingStates.{is_state_form, state_in, is_reached_form, is_found_form, is_walk_form, is_answer_form, shown_in, reached_in, found_in, walk_in, answer_in, bare_answer, is_step_form, step_answer_in}
 use Rattle.report_rules.specs.ReportOf.{has_form_for}
 use Rattle.weave_report.specs.ReportText.{state_words, answer_words, step_answer_words}
 use Rattle.weave_report.specs.TextOf.{IsName, IsTypedAnswer, IsTypedStepAnswer}

@@ -1,6 +1,7 @@
 pub mod WorkedTexts
 pub mod WorkedReadings
 pub mod ReadingLoops
+pub mod ListsRead
 pub mod CutAtMark
 pub mod KeysInOrder
 pub mod ReadSteps
@@ -17,5 +18,3 @@ pub mod ReportClean
 pub mod ReportComesBack
 pub mod FirstRefused
 pub mod ReadAnswersLaws
-pub mod FirstWords
-pub mod VerdictForms

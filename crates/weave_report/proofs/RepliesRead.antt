@@ -6,6 +6,7 @@ use Rattle.std.specs.Option.{option_map_or}
 use Rattle.std.specs.Str.{bytes_eq}
 use Rattle.std.proofs.lemmas.Bool.{cond-true, and_parts}
 use Rattle.vector_stamp.specs.declared.clock.Stamp.{Stamp}
+use Rattle.weave_text.specs.Cutting.{is_empty}
 use Rattle.weave_text.specs.Lines.{Word, Line}
 use Rattle.graph_ops.specs.declared.tx.Got.{Got}
 use Rattle.program_defs.specs.declared.program.Program.{Program}
@@ -21,7 +22,7 @@ use Rattle.report_rules.specs.declared.report.Reply.{Reply}
 use Rattle.report_rules.specs.declared.report.ReplyState.{ReplyState}
 use Rattle.report_rules.specs.declared.report.ReplyState.TheVariants as told
 use Rattle.weave_report.specs.ReadingFields.{◌>>=◌, name_in, number_in, small_number_in, this_number_in, reason_in, stamp_in}
-use Rattle.weave_report.specs.ReadingStates.{is_empty, is_state_form, state_in, is_answer_form, answer_in}
+use Rattle.weave_report.specs.ReadingStates.{is_state_form, state_in, is_answer_form, answer_in}
 use Rattle.weave_report.specs.ReadingReplies.{any_named, kind_named, program_named, gets_of, unbegun_in, begun_in, committed_in, conflict_in, refused_in, transaction_in, finished_by, finished_in, program_in, got_in}
 use Rattle.program_defs.specs.Works.{is_look}
 use Rattle.report_rules.specs.ReportOf.{MatchesWork, IsReplyOf, is_stamp_of}

@@ -8,7 +8,7 @@ use Rattle.std.proofs.lemmas.Bool.{and_parts, and_from, ltb-true, ltb-false}
 use Rattle.std.proofs.lemmas.List.{map-append}
 use Rattle.std.proofs.lemmas.List.Concat.{flat_map-append}
 use Rattle.proof_base.proofs.Lists.{all-push}
-use Rattle.weave_text.specs.Cutting.{is_skipped, kept_lines, words_of}
+use Rattle.weave_text.specs.Cutting.{is_empty, is_skipped, kept_lines, words_of}
 use Rattle.weave_text.specs.Lines.{Bytes, Word, Line}
 use Rattle.graph_ops.specs.declared.op.Op.{Op}
 use Rattle.graph_ops.specs.declared.op.Op.TheVariants.{Create, Delete, Set, Unset, Link, Unlink, Tag, Untag, Get}
@@ -27,7 +27,7 @@ use Rattle.report_rules.specs.declared.report.ReplyState.TheVariants as told
 use Rattle.report_rules.specs.declared.report.Report.{Report}
 use Rattle.report_rules.specs.declared.report.StepAnswer.{StepAnswer}
 use Rattle.weave_report.specs.ReadingFields.{Read, ◌>>=◌, name_in, names_in, this_number_in}
-use Rattle.weave_report.specs.ReadingStates.{is_empty, is_step_form, step_answer_in}
+use Rattle.weave_report.specs.ReadingStates.{is_step_form, step_answer_in}
 use Rattle.weave_report.specs.ReadingReplies.{any_named, named_from, got_in, ops_at, program_in, transaction_in}
 use Rattle.weave_report.specs.Reading.{reading, with_reply, with_pair, with_order, with_answer, commit_reply, behind_commit, after_first, behind_reply, pair_in, order_in, after_pairs, after_replies, next_get, after_got, did_in, after_answers, after_line_at, after_line, after_any_line, behind_line, after_lines, whole_report, Refusal, start}
 use Rattle.report_rules.specs.ReportOf.{IsReportOf, IsReplyOf, IsPairOf, is_request_of, numbers_of_gets}

@@ -7,7 +7,7 @@ use Rattle.std.specs.Str.{bytes_eq}
 use Rattle.std.proofs.lemmas.Bool.{cond-true, cond-false, and_parts, and_from, or_cases, eqb-true}
 use Rattle.std.proofs.lemmas.List.{map-append}
 use Rattle.weave_data.specs.declared.name.Name.{Name}
-use Rattle.weave_text.specs.Cutting.{lacks, pieces_of}
+use Rattle.weave_text.specs.Cutting.{is_empty, lacks, pieces_of}
 use Rattle.weave_text.specs.Lines.{Bytes, Word, joined_texts, marked_texts}
 use Rattle.graph_ops.specs.Operations.{State}
 use Rattle.graph_ops.specs.declared.record.Edge.{Edge}
@@ -16,7 +16,7 @@ use Rattle.weave_report.specs.declared.fault.ReportCause.TheVariants as cause
 use Rattle.weave_report.specs.declared.read.parts.Item.{Item}
 use Rattle.weave_report.specs.declared.read.parts.Item.TheVariants.{Property, Link}
 use Rattle.weave_report.specs.ReadingFields.{◌>>=◌, name_in}
-use Rattle.weave_report.specs.ReadingStates.{Cut, cut_behind, cut_first, is_equals, is_item_mark, pair_in, goes_last, with_last, tag_of, tag_in, tags_in, edge_of, item_of, item_in, with_property, with_item, items_in, empty_record, is_empty, is_state_form, state_in}
+use Rattle.weave_report.specs.ReadingStates.{Cut, cut_behind, cut_first, is_equals, is_item_mark, pair_in, goes_last, with_last, tag_of, tag_in, tags_in, edge_of, item_of, item_in, with_property, with_item, items_in, empty_record, is_state_form, state_in}
 use Rattle.weave_report.specs.ReportText.{property_text, edge_text, content_words, state_words}
 use Rattle.weave_report.specs.TextOf.{IsName, IsTypedMap, IsTypedEdge, IsTypedRecord, IsTypedState}
 use Rattle.weave_report.proofs.ReadSteps.{ok_is, err_is_not, passed, chosen, bind_ok, then_ok, is_word}

@@ -11,8 +11,8 @@ pub mod ReadingFields
 pub mod ReadingStates
 pub mod ReadingReplies
 pub mod Reading
+pub mod ReadingLists
 pub mod FirstRefusal
-pub mod JudgedWords
 pub mod TextOf
 pub mod TextLaws
 pub mod ReadAnswers

@@ -1,7 +1,7 @@
 -- A report read from the lines of a text, one after another.
 use Rattle.std.specs.Prelude.{ℕ, ◌+◌, ◌&&◌, nat_lt, List, [], ◌∷◌, ◌++◌, length, Option, Some, None, Result, Ok, Err, slice_get, codes, if◌then◌else◌}
 use Rattle.std.specs.Str.{bytes_eq}
-use Rattle.weave_text.specs.Cutting.{is_skipped, lines_of, words_of}
+use Rattle.weave_text.specs.Cutting.{is_empty, is_skipped, lines_of, words_of}
 use Rattle.weave_text.specs.Lines.{Bytes, Word, Line}
 use Rattle.graph_ops.specs.declared.tx.Got.{Got}
 use Rattle.program_defs.specs.declared.script.Script.{Script}
@@ -19,7 +19,7 @@ use Rattle.report_rules.specs.declared.report.ReplyState.TheVariants as told
 use Rattle.report_rules.specs.declared.report.Report.{Report}
 use Rattle.report_rules.specs.declared.report.StepAnswer.{StepAnswer}
 use Rattle.weave_report.specs.ReadingFields.{Read, ◌>>=◌, name_in, names_in, this_number_in}
-use Rattle.weave_report.specs.ReadingStates.{is_empty, is_step_form, step_answer_in}
+use Rattle.weave_report.specs.ReadingStates.{is_step_form, step_answer_in}
 use Rattle.weave_report.specs.ReadingReplies.{any_named, named_from, got_in, program_in, transaction_in}
 
 -- One line, by its place

@@ -4,6 +4,7 @@ use Rattle.std.specs.Option.{option_map_or}
 use Rattle.std.specs.Str.{bytes_eq}
 use Rattle.weave_data.specs.Names.{same_name}
 use Rattle.weave_data.specs.declared.name.Name.{Name}
+use Rattle.weave_text.specs.Cutting.{is_empty}
 use Rattle.weave_text.specs.Lines.{Word}
 use Rattle.graph_ops.specs.declared.op.Op.{Op}
 use Rattle.graph_ops.specs.declared.tx.Got.{Got}
@@ -18,7 +19,7 @@ use Rattle.weave_report.specs.declared.read.parts.ReplyLine.TheVariants.{Whole, 
 use Rattle.report_rules.specs.declared.report.ReplyState.TheVariants as told
 use Rattle.program_defs.specs.Works.{ops_of}
 use Rattle.weave_report.specs.ReadingFields.{Read, ◌>>=◌, or_cause, name_in, number_in, small_number_in, this_number_in, reason_in, stamp_in}
-use Rattle.weave_report.specs.ReadingStates.{is_empty, is_state_form, state_in, is_answer_form, answer_in}
+use Rattle.weave_report.specs.ReadingStates.{is_state_form, state_in, is_answer_form, answer_in}
 use Rattle.report_rules.specs.ReportOf.{numbers_of_gets}
 use Rattle.weave_report.specs.ReportText.{is_program}
 use Rattle.report_rules.specs.Lookups.{request_at}

@@ -1,11 +1,11 @@
 -- States and answers as they are read.
-use Rattle.std.specs.Prelude.{ℕ, Bool, true, false, ◌&&◌, ◌||◌, ◌==◌, List, [], ◌∷◌, ◌++◌, Option, Some, None, is_some, Ok, Err, codes, if◌then◌else◌}
+use Rattle.std.specs.Prelude.{ℕ, Bool, false, ◌&&◌, ◌||◌, ◌==◌, List, [], ◌∷◌, ◌++◌, Option, Some, None, is_some, Ok, Err, codes, if◌then◌else◌}
 use Rattle.std.specs.List.{list_all}
 use Rattle.std.specs.Ordering.{is_lt}
 use Rattle.std.specs.Str.{bytes_eq}
 use Rattle.weave_data.specs.Names.{name_cmp}
 use Rattle.weave_data.specs.declared.name.Name.{Name}
-use Rattle.weave_text.specs.Cutting.{pieces_of}
+use Rattle.weave_text.specs.Cutting.{is_empty, pieces_of}
 use Rattle.weave_text.specs.Lines.{Bytes, Word}
 use Rattle.graph_ops.specs.Operations.{State}
 use Rattle.graph_ops.specs.declared.record.Edge.{Edge}
@@ -20,11 +20,6 @@ use Rattle.weave_report.specs.declared.read.parts.Item.TheVariants.{Property, Li
 use Rattle.report_rules.specs.declared.report.StepAnswer.{StepAnswer}
 use Rattle.report_rules.specs.declared.report.StepAnswer.TheVariants as step
 use Rattle.weave_report.specs.ReadingFields.{Read, ◌>>=◌, name_in, names_in, small_number_in, or_cause}
-
--- there are no words
-abbrev pub is_empty : List Word → Bool
-is_empty [] = true
-is_empty (word ∷ words) = false
 
 -- Records
 

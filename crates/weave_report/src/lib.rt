@@ -4,6 +4,8 @@
 #![tactic(auto)]
 
 mod fault;
+#[cfg(test)]
+mod list_tests;
 mod print;
 #[cfg(test)]
 mod print_tests;

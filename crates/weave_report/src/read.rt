@@ -18,6 +18,7 @@ mod record;
 mod reply;
 mod stamp;
 mod state;
+mod step;
 
 use crate::fault::{LineFault, ReportCause, ReportFault};
 use crate::read::lines::after_line;
@@ -28,7 +29,7 @@ use program_defs::Script;
 use report_rules::Report;
 use std::alloc::Global;
 use weave_data::Items;
-use weave_text::is_skipped;
+use weave_text::{Pieces, is_skipped};
 
 /// The report for the script of which the bytes are a text, whose first line has this number.
 ///
@@ -46,14 +47,16 @@ pub fn read_report(
     // The report, or the first line that can't be accepted, unless memory is wanting.
     ensures exact { Answers result (report_in script.now first_line bytes.now) }
 
-    // What is read is a text of that report, every text of a report is read as it, and what is refused is a text of none.
+    // What is read is a text of that report, every text of a report is read as it, and what is refused is a text of
+    // none.
     ensures read { IfOk result (λ report. IsReportTextOf script.now bytes.now report) }
     ensures complete { (report : Report) → IsReportTextOf script.now bytes.now report → IsReadAs report result }
     ensures refused { IfRefused result ((report : Report) → ¬ IsReportTextOf script.now bytes.now report) }
 
     // The lines before the one that is told are accepted, and what was printed of a report is read as that report.
     ensures first { IfRefusedAs result (IsFirstRefusal script.now first_line start (lines_of bytes.now)) }
-    ensures printed { (report : Report) → IsReportOf script.now report → IsTypedReport report → bytes.now ≡ report_text script.now report → IsReadAs report result }
+    ensures printed { (report : Report) → IsReportOf script.now report → IsTypedReport report
+        → bytes.now ≡ report_text script.now report → IsReadAs report result }
 {
     let Ok(named) = Named::new(alloc, script) else {
         return Err(ReportFault::Memory);
@@ -108,7 +111,7 @@ fn after_kept_line(
 ) -> Result<Reading, ReportFault>
     ensures { GivesAt number result (after_line script.now reading (words_of line.now)) }
 {
-    match after_line(alloc, script, reading, line) {
+    match after_line(alloc, script, reading, Pieces::words(line)) {
         Ok(next) => Ok(next),
         Err(LineFault::Memory) => Err(ReportFault::Memory),
         Err(LineFault::Refused(cause)) => Err(ReportFault::Refused {

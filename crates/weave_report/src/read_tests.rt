@@ -38,7 +38,7 @@ fn change(rt: &impl Abort, alloc: Global) -> Items<Op>
 }
 
 // Six requests: a transaction with a `get`, one without operations, and a program of each form.
-fn script(rt: &impl Abort, alloc: Global, gates: u32) -> Script
+pub(crate) fn script(rt: &impl Abort, alloc: Global, gates: u32) -> Script
     ensures { HasDistinctNames result }
 {
     let v = name(rt, b"v");
@@ -95,7 +95,7 @@ fn read(rt: &impl Abort, alloc: Global, script: &Script, text: &[u8]) -> Result<
 }
 
 // The text is read, and printed again.
-fn assert_read(rt: &impl Abort, alloc: Global, script: &Script, text: &[u8])
+pub(crate) fn assert_read(rt: &impl Abort, alloc: Global, script: &Script, text: &[u8])
     requires { HasDistinctNames script.now }
 {
     let report = read(rt, alloc, script, text).expect(rt, "a report");
@@ -104,7 +104,7 @@ fn assert_read(rt: &impl Abort, alloc: Global, script: &Script, text: &[u8])
 }
 
 // The text is refused at its last line, or behind it.
-fn assert_refused(
+pub(crate) fn assert_refused(
     rt: &impl Abort,
     alloc: Global,
     script: &Script,

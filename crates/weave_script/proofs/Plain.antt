@@ -1,5 +1,7 @@
 -- Scripts without programs at one gatekeeper, and how small scripts are.
-use Rattle.std.proofs.Common.{◌≡◌, ℕ, ◌≤◌, ◌<◌, false, List, [], ◌∷◌, IsTrue, length, refl, arith}
+use Rattle.std.proofs.Common.{◌≡◌, ℕ, zero, suc, ◌≤◌, ◌<◌, false, List, [], ◌∷◌, IsTrue, length, Some, refl, subst, arith}
+use Rattle.std.specs.Prelude.{slice_get}
+use Rattle.std.proofs.lemmas.Option.{slice_get_within}
 use Rattle.std.specs.List.{AllByRecursion, list_any}
 use Rattle.std.proofs.lemmas.Bool.{or_parts}
 use Rattle.program_defs.specs.declared.script.Request.{Request}
@@ -7,6 +9,7 @@ use Rattle.program_defs.specs.declared.script.Script.{Script}
 use Rattle.program_defs.specs.declared.script.Work.{Work}
 use Rattle.program_defs.specs.declared.script.Work.TheVariants.{Change, Look}
 use Rattle.report_rules.specs.PlainRun.{IsPlainScript, IsPlainTransaction}
+use Rattle.program_defs.specs.Limits.{IsWithinLimits}
 use Rattle.program_defs.specs.Works.{is_change, is_look, ops_of}
 use Rattle.weave_script.specs.Scripts.{IsWork, IsRequest, IsScript, steps_of}
 use Rattle.weave_script.proofs.LimitLaws.{within-few}
@@ -40,3 +43,25 @@ each_small gates (request ∷ requests) h = (few_ops request.work h.0.work, each
 
 pub small_transactions : (script : Script) → IsScript script → AllByRecursion (λ request. length (ops_of request.work) ≤ 64) script.requests
 small_transactions script h = each_small script.gates script.requests h.requests
+
+-- what holds of each element holds of the one at a place
+each-at : {A : Type 0} (P : A → Type 0) (xs : List A) (i : ℕ) (x : A) → AllByRecursion P xs → slice_get xs i ≡ Some x → P x
+each-at P [] i x all e = let within = slice_get_within [] i x e in absurd (omega (arith, within))
+each-at P (y ∷ xs) zero x all e = let same : y ≡ x = cc in subst P same all.0
+each-at P (y ∷ xs) (suc i) x all e = each-at P xs i x all.1 e
+
+below-64 : (session : ℕ) → session ≤ 63 → session < 64
+below-64 session h = omega (arith, h)
+
+-- a script that has a text is within the limits
+pub within-limits : (script : Script) → IsScript script → IsWithinLimits script
+within-limits script h = record {
+  some_gate = h.gates.0;
+  few_gates = h.gates.1;
+  some_shard = h.shards.0;
+  few_shards = h.shards.1;
+  few_requests = few_requests script h;
+  homes = λ r request e. (each-at (IsRequest script.gates) script.requests r request h.requests e).gate;
+  sessions = λ r request e. below-64 request.session (each-at (IsRequest script.gates) script.requests r request h.requests e).session;
+  few_ops = λ r request e. few_ops request.work (each-at (IsRequest script.gates) script.requests r request h.requests e).work;
+}

@@ -16,7 +16,8 @@ use weave_report::{Report, ReportCause, ReportFault, read_report};
 pub fn read_check(alloc: Global, bytes: &[u8]) -> Result<(Script, Report), ScriptFault>
     ensures read { IfOk result (λ told. check_text bytes.now ≡ Ok told) }
     ensures texts { IfOk result (λ told. IsCheckTextOf bytes.now told.0 told.1) }
-    ensures refused { IfRefused result (λ line cause. check_text bytes.now ≡ Err (record { line = line; cause = cause })) }
+    ensures refused { IfRefused result (λ line cause. check_text bytes.now
+        ≡ Err (record { line = line; cause = cause })) }
 {
     heads_are_texts();
     scripts_are_small();

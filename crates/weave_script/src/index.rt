@@ -28,7 +28,9 @@ pub(crate) struct Index {
 impl Index {
     /// Adds a transaction without operations.
     pub(crate) fn add_transaction(&mut self, name: Name, place: u32) -> Result<(), AllocError>
-        ensures { OnOk result ((requests : List Request) (opening : Opening) → IsIndexOf self.old requests → IsNew name place requests → opening.name ≡ name → IsIndexOf self.new (requests ++ request_of opening (Change []) ∷ [])) }
+        ensures { OnOk result ((requests : List Request) (opening : Opening) → IsIndexOf self.old requests
+            → IsNew name place requests → opening.name ≡ name
+            → IsIndexOf self.new (requests ++ request_of opening (Change []) ∷ [])) }
     {
         self.places.insert(name, place)?;
         Ok(())
@@ -42,7 +44,9 @@ impl Index {
         program: &Program,
     ) -> Result<(), AllocError>
         requires { self.old.programs < 2 ^ 32 }
-        ensures { OnOk result ((requests : List Request) (opening : Opening) → IsIndexOf self.old requests → IsNew name place requests → opening.name ≡ name → IsIndexOf self.new (requests ++ request_of opening (Look program.now) ∷ [])) }
+        ensures { OnOk result ((requests : List Request) (opening : Opening) → IsIndexOf self.old requests
+            → IsNew name place requests → opening.name ≡ name
+            → IsIndexOf self.new (requests ++ request_of opening (Look program.now) ∷ [])) }
     {
         self.places.insert(name, place)?;
         add_vertices_of_program(&mut self.vertices, program)?;
@@ -53,7 +57,9 @@ impl Index {
     /// Adds an operation to the last transaction.
     pub(crate) fn add_op(&mut self, op: &Op) -> Result<(), AllocError>
         requires { self.old.gets < 2 ^ 32 }
-        ensures { OnOk result ((requests : List Request) (opening : Opening) (ops : List Op) → IsIndexOf self.old (requests ++ request_of opening (Change ops) ∷ []) → IsIndexOf self.new (requests ++ request_of opening (Change (ops ++ op.now ∷ [])) ∷ [])) }
+        ensures { OnOk result ((requests : List Request) (opening : Opening) (ops : List Op)
+            → IsIndexOf self.old (requests ++ request_of opening (Change ops) ∷ [])
+            → IsIndexOf self.new (requests ++ request_of opening (Change (ops ++ op.now ∷ [])) ∷ [])) }
     {
         add_vertices_of_op(&mut self.vertices, op)?;
         if let Op::Get { .. } = *op {
@@ -65,7 +71,8 @@ impl Index {
 
 /// Adds the names that stand in an operation as vertices.
 fn add_vertices_of_op(vertices: &mut HashMap<Name, ()>, op: &Op) -> Result<(), AllocError>
-    ensures { OnOk result ((names : List Name) → IsSetOf vertices.old.entries names → IsSetOf vertices.new.entries (with_names names (vertices_of_op op.now))) }
+    ensures { OnOk result ((names : List Name) → IsSetOf vertices.old.entries names
+        → IsSetOf vertices.new.entries (with_names names (vertices_of_op op.now))) }
 {
     add_vertex(vertices, op.vertex())?;
     if let Op::Link { target, .. } = *op {
@@ -79,7 +86,8 @@ fn add_vertices_of_program(
     vertices: &mut HashMap<Name, ()>,
     program: &Program,
 ) -> Result<(), AllocError>
-    ensures { OnOk result ((names : List Name) → IsSetOf vertices.old.entries names → IsSetOf vertices.new.entries (with_names names (vertices_of_program program.now))) }
+    ensures { OnOk result ((names : List Name) → IsSetOf vertices.old.entries names
+        → IsSetOf vertices.new.entries (with_names names (vertices_of_program program.now))) }
 {
     match *program {
         Program::Show { v } => add_vertex(vertices, v),
@@ -91,14 +99,16 @@ fn add_vertices_of_program(
 }
 
 fn add_two(vertices: &mut HashMap<Name, ()>, from: Name, to: Name) -> Result<(), AllocError>
-    ensures { OnOk result ((names : List Name) → IsSetOf vertices.old.entries names → IsSetOf vertices.new.entries (with_name to (with_name from names))) }
+    ensures { OnOk result ((names : List Name) → IsSetOf vertices.old.entries names
+        → IsSetOf vertices.new.entries (with_name to (with_name from names))) }
 {
     add_vertex(vertices, from)?;
     add_vertex(vertices, to)
 }
 
 fn add_vertex(vertices: &mut HashMap<Name, ()>, name: Name) -> Result<(), AllocError>
-    ensures { OnOk result ((names : List Name) → IsSetOf vertices.old.entries names → IsSetOf vertices.new.entries (with_name name names)) }
+    ensures { OnOk result ((names : List Name) → IsSetOf vertices.old.entries names
+        → IsSetOf vertices.new.entries (with_name name names)) }
 {
     if !vertices.contains_key(&name) {
         vertices.insert(name, ())?;

@@ -1,6 +1,7 @@
 //! What holds of every valid script.
 ghost use Rattle.std.specs.Prelude.{◌≡◌, ◌≤◌, ◌<◌, ◌^◌, ℕ, List, length, Ok, Err, false};
 ghost use Rattle.std.specs.List.{AllByRecursion, list_any};
+ghost use Rattle.program_defs.specs.Limits.{IsWithinLimits};
 ghost use Rattle.program_defs.specs.Works.{is_look, ops_of};
 ghost use Rattle.program_defs.specs.declared.script.Script.{Script};
 ghost use Rattle.report_rules.specs.PlainRun.{IsPlainScript};
@@ -73,9 +74,10 @@ pub fn transactions_at_one_gatekeeper_are_plain()
         → script.gates ≤ 1 → IsPlainScript script }
 {}
 
-/// A script has few requests, and its transactions few operations.
+/// A script has few requests, and its transactions few operations: it is within the limits that laws on runs ask for.
 pub fn scripts_are_small()
     ensures requests { (script : Script) → IsScript script → length script.requests ≤ 10000 }
     ensures operations { (script : Script) → IsScript script
         → AllByRecursion (λ request. length (ops_of request.work) ≤ 64) script.requests }
+    ensures limits { (script : Script) → IsScript script → IsWithinLimits script }
 {}

@@ -16,7 +16,8 @@ use std::alloc::Global;
 pub fn read_script(alloc: Global, bytes: &[u8]) -> Result<Script, ScriptFault>
     ensures text { IfOk result (λ script. IsTextOf bytes.now script) }
     ensures read { IfOk result (λ script. read_text bytes.now ≡ Ok script) }
-    ensures refused { IfRefused result (λ line cause. read_text bytes.now ≡ Err (record { line = line; cause = cause })) }
+    ensures refused { IfRefused result (λ line cause. read_text bytes.now
+        ≡ Err (record { line = line; cause = cause })) }
     ensures not_valid { length bytes.now ≤ 4194304
         → IfRefused result (λ line cause. (script : Script) → ¬ IsTextOf bytes.now script) }
 {

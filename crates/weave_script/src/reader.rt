@@ -97,7 +97,8 @@ fn counts_so_far(reader: &Reader) -> Counts
 
 fn after_line_at(alloc: Global, mut reader: Reader, words: &[&[u8]]) -> Result<Reader, LineFault>
     requires { IsReady reader }
-    ensures { Gives IsIndexed result (after_line_at reader.reading.place reader.reading (map (λ word. word.now) words.now)) }
+    ensures { Gives IsIndexed result (after_line_at reader.reading.place reader.reading
+        (map (λ word. word.now) words.now)) }
 {
     let place = replace(&mut reader.reading.place, Place::Between);
     match place {

@@ -23,7 +23,8 @@ pub(crate) fn step_of(
     places: &HashMap<Name, u32>,
     words: &[&[u8]],
 ) -> Result<Step, Cause>
-    ensures { result ≡ step_of sizes.gates sizes.shards (λ name. at_key name places.now.entries) (map (λ word. word.now) words.now) }
+    ensures { result
+        ≡ step_of sizes.gates sizes.shards (λ name. at_key name places.now.entries) (map (λ word. word.now) words.now) }
 {
     match words {
         [word, field] => step_of_one(sizes, places, word, field),
@@ -39,7 +40,8 @@ fn step_of_one(
     word: &[u8],
     field: &[u8],
 ) -> Result<Step, Cause>
-    ensures { result ≡ step_of_one sizes.gates sizes.shards (λ name. at_key name places.now.entries) word.now field.now }
+    ensures { result
+        ≡ step_of_one sizes.gates sizes.shards (λ name. at_key name places.now.entries) word.now field.now }
 {
     if is(word, b"begin") {
         Ok(Step::Begin {

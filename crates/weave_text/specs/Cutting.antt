@@ -1,5 +1,5 @@
 -- Texts cut into lines, and lines into words, as they are read.
-use Rattle.std.specs.Prelude.{ℕ, Bool, true, false, not, ◌==◌, ◌&&◌, List, [], ◌∷◌, if◌then◌else◌}
+use Rattle.std.specs.Prelude.{ℕ, Bool, true, false, not, ◌==◌, ◌&&◌, List, [], ◌∷◌, Option, Some, None, if◌then◌else◌}
 use Rattle.std.specs.List.{list_all, onto_first, slice_split}
 use Rattle.weave_text.specs.Lines.{Bytes, Word, Line}
 
@@ -11,6 +11,16 @@ lines_of (byte ∷ text) = if byte == 10 then [] ∷ lines_of text else onto_fir
 -- a text's pieces: what stands before, between and after the bytes that are this one
 abbrev pub pieces_of : ℕ → Bytes → List Bytes
 pieces_of byte text = slice_split (λ b. b == byte) text
+
+-- there are no pieces, or no words
+abbrev pub is_empty : List Bytes → Bool
+is_empty [] = true
+is_empty (piece ∷ pieces) = false
+
+-- the pieces that are still to come of a text, of which this is left
+abbrev pub pieces_left : ℕ → Option Bytes → List Bytes
+pieces_left byte None = []
+pieces_left byte (Some text) = pieces_of byte text
 
 -- a line's words: what stands before, between and after its spaces
 abbrev pub words_of : Bytes → Line

@@ -3,11 +3,13 @@ ghost use Rattle.std.specs.Prelude.{◌≡◌, ◌==◌, ◌<◌, ◌∷◌, [],
 ghost use Rattle.std.specs.Str.{bytes_eq};
 ghost use Rattle.weave_text.specs.Cutting.{lines_of, pieces_of, words_of, is_skipped};
 
+use crate::cursor::Pieces;
 use std::alloc::{AllocError, Global};
 
 /// The first line of a text, and the text behind the line feed that ends it. `None` where the text has no line.
 pub fn first_line(text: &[u8]) -> Option<(&[u8], &[u8])>
-    ensures lines { MatchOption result (lines_of text.now ≡ []) (λ cut. lines_of text.now ≡ cut.0.now ∷ lines_of cut.1.now) }
+    ensures lines { MatchOption result (lines_of text.now ≡ []) (λ cut. lines_of text.now
+        ≡ cut.0.now ∷ lines_of cut.1.now) }
     ensures shorter { IfSome result (λ cut. length cut.1.now < length text.now) }
 {
     if text.is_empty() {
@@ -40,14 +42,14 @@ pub fn words(alloc: Global, line: &[u8]) -> Result<Vec<&[u8]>, AllocError>
 pub fn first_words(alloc: Global, most: usize, line: &[u8]) -> Result<Vec<&[u8]>, AllocError>
     ensures { IfOk result (λ words. map (λ word. word.now) words.items ≡ take most (words_of line.now)) }
 {
-    line.split(|byte| *byte == b' ').take(most).collect(alloc)
+    Pieces::words(line).take(most).collect(alloc)
 }
 
 /// The pieces of a text: what stands before, between and after the bytes that are this one.
 pub fn pieces(alloc: Global, at: u8, text: &[u8]) -> Result<Vec<&[u8]>, AllocError>
     ensures { IfOk result (λ pieces. map (λ piece. piece.now) pieces.items ≡ pieces_of at text.now) }
 {
-    text.split(|byte| *byte == at).collect(alloc)
+    Pieces::new(at, text).collect(alloc)
 }
 
 /// Whether a word is this text.

@@ -13,14 +13,18 @@ use crate::numbers::Numeral;
 /// Clean lines come back from their text, also where more text follows.
 pub fn clean_lines_come_back()
     ensures words { (line : Line) → IsTrue (is_clean_line line) → words_of (joined_words line) ≡ line }
-    ensures lines { (lines : List Line) (text : Bytes) → IsTrue (list_all is_clean_line lines) → lines_of (lines_text lines ++ text) ≡ map joined_words lines ++ lines_of text }
-    ensures kept { (lines : List Line) → IsTrue (list_all is_clean_line lines) → kept_lines (lines_of (lines_text lines)) ≡ lines }
-    ensures followed { (lines : List Line) (text : Bytes) → IsTrue (list_all is_clean_line lines) → kept_lines (lines_of (lines_text lines ++ text)) ≡ lines ++ kept_lines (lines_of text) }
+    ensures lines { (lines : List Line) (text : Bytes) → IsTrue (list_all is_clean_line lines)
+        → lines_of (lines_text lines ++ text) ≡ map joined_words lines ++ lines_of text }
+    ensures kept { (lines : List Line) → IsTrue (list_all is_clean_line lines)
+        → kept_lines (lines_of (lines_text lines)) ≡ lines }
+    ensures followed { (lines : List Line) (text : Bytes) → IsTrue (list_all is_clean_line lines)
+        → kept_lines (lines_of (lines_text lines ++ text)) ≡ lines ++ kept_lines (lines_of text) }
 {}
 
 /// Pieces that lack a byte come back from their text, joined by it.
 pub fn joined_pieces_come_back()
-    ensures { (byte : ℕ) (piece : Bytes) (pieces : List Bytes) → IsTrue (list_all (lacks byte) (piece ∷ pieces)) → pieces_of byte (joined_texts (byte ∷ []) (piece ∷ pieces)) ≡ piece ∷ pieces }
+    ensures { (byte : ℕ) (piece : Bytes) (pieces : List Bytes) → IsTrue (list_all (lacks byte) (piece ∷ pieces))
+        → pieces_of byte (joined_texts (byte ∷ []) (piece ∷ pieces)) ≡ piece ∷ pieces }
 {}
 
 /// What was cut into words is these words with one space between, and what was cut at a byte is the pieces with it between.
@@ -49,9 +53,11 @@ pub fn words_are_clean()
 
 /// A byte that stands in no name or number stands in none of these.
 pub fn words_lack_other_bytes()
-    ensures name { (byte : ℕ) (word : Word) → IsTrue (not (is_name_byte byte)) → IsTrue (is_name word) → IsTrue (lacks byte word) }
+    ensures name { (byte : ℕ) (word : Word) → IsTrue (not (is_name_byte byte)) → IsTrue (is_name word)
+        → IsTrue (lacks byte word) }
     ensures number { (byte n : ℕ) → IsTrue (not (is_ascii_digit byte)) → n < 2 ^ 64 → IsTrue (lacks byte (decimal n)) }
-    ensures appended { (byte : ℕ) (a b : Bytes) → IsTrue (lacks byte a) → IsTrue (lacks byte b) → IsTrue (lacks byte (a ++ b)) }
+    ensures appended { (byte : ℕ) (a b : Bytes) → IsTrue (lacks byte a) → IsTrue (lacks byte b)
+        → IsTrue (lacks byte (a ++ b)) }
 {}
 
 /// A number of 64 bits has one word, its decimal digits.
@@ -59,5 +65,6 @@ pub fn numbers_come_back()
     ensures number { (n : ℕ) → n < 2 ^ 64 → number_of (decimal n) ≡ Some n }
     ensures word { (word : Word) (n : ℕ) → number_of word ≡ Some n → (word ≡ decimal n) × (n < 2 ^ 64) }
     ensures bounded { (most n : ℕ) → most < 2 ^ 64 → n ≤ most → number_up_to most (decimal n) ≡ Numeral.Number n }
-    ensures bounded_word { (most : ℕ) (word : Word) (n : ℕ) → most < 2 ^ 64 → number_up_to most word ≡ Numeral.Number n → (word ≡ decimal n) × (n ≤ most) }
+    ensures bounded_word { (most : ℕ) (word : Word) (n : ℕ) → most < 2 ^ 64
+        → number_up_to most word ≡ Numeral.Number n → (word ≡ decimal n) × (n ≤ most) }
 {}

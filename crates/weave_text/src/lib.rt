@@ -3,6 +3,7 @@
 //! A text that is written of clean words comes back as these lines and words, a number's word comes back as the number, and what is cut into words is these words with one space between.
 #![tactic(auto)]
 
+mod cursor;
 mod cutting;
 mod laws;
 mod numbers;
@@ -10,6 +11,7 @@ mod numbers;
 mod tests;
 mod text;
 
+pub use cursor::Pieces;
 pub use cutting::{first_line, first_words, is, is_skipped, pieces, words};
 pub use laws::{
     clean_lines_come_back, cut_texts_are_joined, joined_pieces_come_back, lines_are_few,

@@ -1,6 +1,8 @@
 use crate::{
-    Numeral, Text, first_line, first_words, is, is_skipped, number, number_up_to, pieces, words,
+    Numeral, Pieces, Text, first_line, first_words, is, is_skipped, number, number_up_to, pieces,
+    words,
 };
+use std::process::Abort;
 use std::test::Fail;
 
 /// The number of a text's lines.
@@ -48,6 +50,29 @@ fn words_are_cut(rt: HostRuntime) -> Result<(), Fail> {
     assert_eq!(rt; pieces(alloc, b':', b"0:1:3,4")?.len(), 3);
     assert!(rt; is(b"set", b"set"));
     Ok(())
+}
+
+// The pieces of a text at its colons, cut off one after another, are these.
+fn assert_pieces(rt: &impl Abort, text: &[u8], wanted: &[&[u8]]) {
+    let mut pieces = Pieces::new(b':', text);
+    for piece in wanted {
+        assert!(rt; !pieces.is_empty());
+        assert_eq!(rt; pieces.next(), Some(*piece), "at {text:?}");
+    }
+    assert!(rt; pieces.is_empty());
+    assert_eq!(rt; pieces.next(), None, "at {text:?}");
+    assert_eq!(rt; pieces.next(), None, "at {text:?}");
+}
+
+#[test]
+fn pieces_are_cut_off(rt: HostRuntime) {
+    assert_pieces(&rt, b"0:12:3,4", &[b"0", b"12", b"3,4"]);
+    assert_pieces(&rt, b"", &[b""]);
+    assert_pieces(&rt, b":", &[b"", b""]);
+    assert_pieces(&rt, b"::a", &[b"", b"", b"a"]);
+    assert_pieces(&rt, b"a b", &[b"a b"]);
+    assert_eq!(rt; Pieces::words(b" a  b").count(), 4);
+    assert_eq!(rt; Pieces::words(b"order t u").last(), Some(b"u".as_slice()));
 }
 
 #[test]

@@ -26,7 +26,8 @@ pub fn print_reply(text: &mut Text, script: &Script, reply: &Reply) -> Result<()
 
 fn print_reply_line(text: &mut Text, script: &Script, reply: &Reply) -> Result<(), AllocError>
     ensures text { OnOk result (text.new ≡ text.old ++ line_text (reply_line script.now reply.now)) }
-    ensures typed { OnOk result (AllByRecursion IsTypedGot (gots_of reply.now.state) → IsTypedReplyState reply.now.state) }
+    ensures typed { OnOk result (AllByRecursion IsTypedGot (gots_of reply.now.state)
+        → IsTypedReplyState reply.now.state) }
 {
     text.push(kind_text(is_program(script, reply.request)))?;
     text.word(name_at(script, reply.request))?;

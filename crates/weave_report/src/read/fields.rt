@@ -1,5 +1,5 @@
 //! Fields of lines.
-ghost use Rattle.std.specs.Prelude.{◌≡◌, [], map};
+ghost use Rattle.std.specs.Prelude.{◌≡◌, []};
 ghost use Rattle.weave_report.specs.ReadAnswers.{Gives};
 ghost use Rattle.weave_report.specs.ReadingFields.{name_in, names_in, names_from, number_in, reason_in, small_number_in, this_number_in};
 
@@ -7,7 +7,7 @@ use crate::fault::{LineFault, ReportCause};
 use graph_ops::{Name, Reason};
 use std::alloc::Global;
 use weave_data::Items;
-use weave_text::{is, number};
+use weave_text::{Pieces, is, number};
 
 /// A name.
 pub(crate) fn name_in(word: &[u8]) -> Result<Name, LineFault>
@@ -20,8 +20,8 @@ pub(crate) fn name_in(word: &[u8]) -> Result<Name, LineFault>
 }
 
 /// Names.
-pub(crate) fn names_in(alloc: Global, words: &[&[u8]]) -> Result<Items<Name>, LineFault>
-    ensures { Gives result (names_in (map (λ word. word.now) words.now)) }
+pub(crate) fn names_in(alloc: Global, words: Pieces) -> Result<Items<Name>, LineFault>
+    ensures { Gives result (names_in words.entry) }
 {
     let mut names = Items::new(alloc);
     for word in words {

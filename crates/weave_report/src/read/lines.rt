@@ -1,73 +1,29 @@
 //! Lines at their places.
-ghost use Rattle.std.specs.Prelude.{◌≡◌, [], ◌∷◌, map, Ok, IfOk};
-ghost use Rattle.weave_report.specs.JudgedWords.{IsJudgedBy, begins_list, has_list};
+ghost use Rattle.std.specs.Prelude.{◌≡◌, [], ◌∷◌, Ok, IfOk};
 ghost use Rattle.weave_report.specs.ReadAnswers.{Gives};
-ghost use Rattle.weave_report.specs.Reading.{after_answers, after_first, after_got, after_line, after_pairs, after_replies, behind_commit, behind_reply, did_in, next_get, order_in, pair_in, reading, with_answer, with_order, with_pair, with_reply};
-ghost use Rattle.weave_report.specs.ReadingReplies.{named_from};
-ghost use Rattle.weave_text.specs.Cutting.{words_of};
+ghost use Rattle.weave_report.specs.Reading.{after_answers, after_first, after_got, after_line, after_pairs, after_replies, behind_commit, behind_reply, next_get, order_in, pair_in, reading, with_answer, with_order, with_pair, with_reply};
+ghost use Rattle.weave_report.specs.ReadingLists.{with_named};
 
 use crate::fault::{LineFault, ReportCause};
-use crate::read::fields::{name_in, names_in, this_number_in};
+use crate::read::fields::name_in;
 use crate::read::named::{Named, any_named};
 use crate::read::parts::{Commit, Place, Reading, ReplyLine};
 use crate::read::reply::{got_in, program_in, transaction_in};
-use crate::read::state::{is_step_form, step_answer_in};
+use crate::read::step::did_in;
 use graph_ops::{Got, Name};
 use report_rules::{Pair, Reply, ReplyState, Report, StepAnswer};
 use std::alloc::{AllocError, Global};
 use weave_data::Items;
-use weave_text::{first_words, is, words};
-
-/// A line that goes on with a list may have more words than these; no other line of a report has as many.
-const MANY_WORDS: usize = 9;
+use weave_text::{Pieces, is};
 
 /// What is read behind one more line.
 pub(crate) fn after_line(
     alloc: Global,
     script: &Named,
     reading: Reading,
-    line: &[u8],
+    words: Pieces,
 ) -> Result<Reading, LineFault>
-    ensures { Gives result (after_line script.now reading (words_of line.now)) }
-{
-    let words = judged_words(alloc, line)?;
-    after_words(alloc, script, reading, &words)
-}
-
-// The words by which a line is judged: those behind the first ones only where the line may go on with a list.
-fn judged_words(alloc: Global, line: &[u8]) -> Result<Vec<&[u8]>, AllocError>
-    ensures { IfOk result (λ words. IsJudgedBy (words_of line.now) (map (λ word. word.now) words.items)) }
-{
-    let first = first_words(alloc, MANY_WORDS, line)?;
-    if !has_list(&first) {
-        return Ok(first);
-    }
-    words(alloc, line)
-}
-
-// Whether these words are many, and begin a line that goes on with a list.
-fn has_list(words: &[&[u8]]) -> bool
-    ensures { result ≡ has_list (map (λ word. word.now) words.now) }
-{
-    words.len() == MANY_WORDS && begins_list(words)
-}
-
-fn begins_list(words: &[&[u8]]) -> bool
-    ensures { result ≡ begins_list (map (λ word. word.now) words.now) }
-{
-    match words.split_first() {
-        Some((word, _)) => is(word, b"order") || is(word, b"got") || is(word, b"prog"),
-        None => false,
-    }
-}
-
-fn after_words(
-    alloc: Global,
-    script: &Named,
-    reading: Reading,
-    words: &[&[u8]],
-) -> Result<Reading, LineFault>
-    ensures { Gives result (after_line script.now reading (map (λ word. word.now) words.now)) }
+    ensures { Gives result (after_line script.now reading words.entry) }
 {
     let Reading { report, place } = reading;
     match place {
@@ -80,43 +36,47 @@ fn after_words(
     }
 }
 
-fn after_first(report: Report, words: &[&[u8]]) -> Result<Reading, LineFault>
-    ensures { Gives result (after_first report (map (λ word. word.now) words.now)) }
+fn after_first(report: Report, mut words: Pieces) -> Result<Reading, LineFault>
+    ensures { Gives result (after_first report words.entry) }
 {
-    match words {
-        [word, version] => {
-            if !(is(word, b"report") && is(version, b"1")) {
-                return Err(LineFault::Refused(ReportCause::Line));
-            }
-            Ok(Reading {
-                report,
-                place: Place::Replies,
-            })
-        }
-        _ => Err(LineFault::Refused(ReportCause::Line)),
+    let Some(word) = words.next() else {
+        return Err(LineFault::Refused(ReportCause::Line));
+    };
+    let Some(version) = words.next() else {
+        return Err(LineFault::Refused(ReportCause::Line));
+    };
+    if let Some(_) = words.next() {
+        return Err(LineFault::Refused(ReportCause::Line));
     }
+    if !(is(word, b"report") && is(version, b"1")) {
+        return Err(LineFault::Refused(ReportCause::Line));
+    }
+    Ok(Reading {
+        report,
+        place: Place::Replies,
+    })
 }
 
 fn after_replies(
     alloc: Global,
     script: &Named,
     report: Report,
-    words: &[&[u8]],
+    mut words: Pieces,
 ) -> Result<Reading, LineFault>
-    ensures { Gives result (after_replies script.now report (map (λ word. word.now) words.now)) }
+    ensures { Gives result (after_replies script.now report words.entry) }
 {
-    let Some((word, more)) = words.split_first() else {
+    let Some(word) = words.next() else {
         return Err(LineFault::Refused(ReportCause::Line));
     };
     if is(word, b"tx") {
-        let line = transaction_in(alloc, script, more)?;
+        let line = transaction_in(alloc, script, words)?;
         return behind_reply(alloc, report, line);
     }
     if is(word, b"prog") {
-        let line = program_in(alloc, script, more)?;
+        let line = program_in(alloc, script, words)?;
         return behind_reply(alloc, report, line);
     }
-    after_pairs(alloc, script, report, words)
+    pair_or_order(alloc, script, report, word, words)
 }
 
 fn behind_reply(alloc: Global, report: Report, line: ReplyLine) -> Result<Reading, LineFault>
@@ -168,9 +128,9 @@ fn after_got(
     report: Report,
     commit: Commit,
     mut answers: Items<Got>,
-    words: &[&[u8]],
+    words: Pieces,
 ) -> Result<Reading, LineFault>
-    ensures { Gives result (after_got (next_get commit answers) report commit answers (map (λ word. word.now) words.now)) }
+    ensures { Gives result (after_got (next_get commit answers) report commit answers words.entry) }
 {
     let Some(op) = next_get(&commit, &answers) else {
         return Err(LineFault::Refused(ReportCause::Line));
@@ -195,13 +155,26 @@ fn after_pairs(
     alloc: Global,
     script: &Named,
     report: Report,
-    words: &[&[u8]],
+    mut words: Pieces,
 ) -> Result<Reading, LineFault>
-    ensures { Gives result (after_pairs script.now report (map (λ word. word.now) words.now)) }
+    ensures { Gives result (after_pairs script.now report words.entry) }
 {
-    let Some((word, more)) = words.split_first() else {
+    let Some(word) = words.next() else {
         return Err(LineFault::Refused(ReportCause::Line));
     };
+    pair_or_order(alloc, script, report, word, words)
+}
+
+// Behind a pair or the order, by the first word of its line and those behind it.
+fn pair_or_order(
+    alloc: Global,
+    script: &Named,
+    report: Report,
+    word: &[u8],
+    more: Pieces,
+) -> Result<Reading, LineFault>
+    ensures { Gives result (after_pairs script.now report (word.now ∷ more.entry)) }
+{
     if is(word, b"settled") {
         let pair = pair_in(script, more)?;
         return with_pair(report, pair);
@@ -237,13 +210,22 @@ fn with_order(mut report: Report, order: Items<u32>) -> Reading
 }
 
 // A pair, by the words behind `settled`.
-fn pair_in(script: &Named, words: &[&[u8]]) -> Result<Pair, LineFault>
-    ensures { Gives result (pair_in script.now (map (λ word. word.now) words.now)) }
+fn pair_in(script: &Named, mut words: Pieces) -> Result<Pair, LineFault>
+    ensures { Gives result (pair_in script.now words.entry) }
 {
-    match words {
-        [vertex, earlier, later] => pair_of(script, vertex, earlier, later),
-        _ => Err(LineFault::Refused(ReportCause::Line)),
+    let Some(vertex) = words.next() else {
+        return Err(LineFault::Refused(ReportCause::Line));
+    };
+    let Some(earlier) = words.next() else {
+        return Err(LineFault::Refused(ReportCause::Line));
+    };
+    let Some(later) = words.next() else {
+        return Err(LineFault::Refused(ReportCause::Line));
+    };
+    if let Some(_) = words.next() {
+        return Err(LineFault::Refused(ReportCause::Line));
     }
+    pair_of(script, vertex, earlier, later)
 }
 
 fn pair_of(script: &Named, vertex: &[u8], earlier: &[u8], later: &[u8]) -> Result<Pair, LineFault>
@@ -261,36 +243,51 @@ fn pair_of(script: &Named, vertex: &[u8], earlier: &[u8], later: &[u8]) -> Resul
     })
 }
 
-// The order, by the words behind `order`.
-fn order_in(alloc: Global, script: &Named, words: &[&[u8]]) -> Result<Items<u32>, LineFault>
-    ensures { Gives result (order_in script.now (map (λ word. word.now) words.now)) }
+// The order, by the words behind `order`. A word that is no name is told before a name that is no request's.
+fn order_in(alloc: Global, script: &Named, words: Pieces) -> Result<Items<u32>, LineFault>
+    ensures { Gives result (order_in script.now words.entry) }
 {
-    let names = names_in(alloc, words)?;
-    all_named(alloc, script, names.as_slice())
-}
-
-fn all_named(alloc: Global, script: &Named, names: &[Name]) -> Result<Items<u32>, LineFault>
-    ensures { Gives result (named_from script.now [] names.now) }
-{
-    let mut order = Items::new(alloc);
-    for name in names {
-        order.push(any_named(script, *name)?)?;
+    let mut order = Some(Items::new(alloc));
+    for word in words {
+        let name = name_in(word)?;
+        order = with_named(script, order, name)?;
     }
-    Ok(order)
+    match order {
+        Some(order) => Ok(order),
+        None => Err(LineFault::Refused(ReportCause::Request)),
+    }
 }
 
-fn after_answers(report: Report, words: &[&[u8]]) -> Result<Reading, LineFault>
-    ensures { Gives result (after_answers report (map (λ word. word.now) words.now)) }
+// The requests so far with the one of a name; none once there is none of a name.
+fn with_named(
+    script: &Named,
+    order: Option<Items<u32>>,
+    name: Name,
+) -> Result<Option<Items<u32>>, AllocError>
+    ensures { IfOk result (λ next. next ≡ with_named script.now order name) }
 {
-    let Some((word, more)) = words.split_first() else {
+    let Some(mut order) = order else {
+        return Ok(None);
+    };
+    let Some(place) = script.place(name) else {
+        return Ok(None);
+    };
+    order.push(place)?;
+    Ok(Some(order))
+}
+
+fn after_answers(report: Report, mut words: Pieces) -> Result<Reading, LineFault>
+    ensures { Gives result (after_answers report words.entry) }
+{
+    let Some(word) = words.next() else {
         return Err(LineFault::Refused(ReportCause::Line));
     };
     if is(word, b"did") {
         let number = report.answers.as_slice().len() as u64 + 1;
-        let answer = did_in(number, more)?;
+        let answer = did_in(number, words)?;
         return with_answer(report, answer);
     }
-    if is(word, b"end") && more.is_empty() {
+    if is(word, b"end") && words.is_empty() {
         return Ok(Reading {
             report,
             place: Place::Ended,
@@ -309,18 +306,4 @@ fn with_answer(mut report: Report, answer: StepAnswer) -> Result<Reading, LineFa
         report,
         place: Place::Answers,
     })
-}
-
-// A step's answer, by the words behind `did`, where the step has this number.
-fn did_in(number: u64, words: &[&[u8]]) -> Result<StepAnswer, LineFault>
-    ensures { Gives result (did_in number (map (λ word. word.now) words.now)) }
-{
-    let Some((word, answer)) = words.split_first() else {
-        return Err(LineFault::Refused(ReportCause::Line));
-    };
-    if !is_step_form(answer) {
-        return Err(LineFault::Refused(ReportCause::Line));
-    }
-    this_number_in(number, word)?;
-    step_answer_in(answer)
 }

@@ -1,7 +1,6 @@
 //! The requests of a script by their names.
 ghost use Rattle.std.specs.Prelude.{◌≡◌, ◌<◌, ◌^◌, ℕ, List, length, option_copied, IfOk, OnOk};
-ghost use Rattle.std.specs.BTreeMap.{get};
-ghost use Rattle.weave_data.specs.Names.{name_cmp};
+ghost use Rattle.weave_data.specs.Pairs.{at_key};
 ghost use Rattle.std.specs.List.{AllByRecursion};
 ghost use Rattle.program_defs.specs.Works.{ops_of};
 ghost use Rattle.weave_report.specs.ReadAnswers.{Gives};
@@ -15,7 +14,7 @@ use crate::fault::{LineFault, ReportCause};
 use graph_ops::{Name, Op};
 use program_defs::{Program, Request, Script, Work};
 use std::alloc::{AllocError, Global};
-use std::collections::BTreeMap;
+use std::collections::HashMap;
 use std::marker::Model;
 use weave_data::Items;
 
@@ -23,7 +22,7 @@ use weave_data::Items;
 #[derive(Drop)]
 pub(crate) struct Named<'a> {
     script: &'a Script,
-    places: BTreeMap<Name, u32>,
+    places: HashMap<Name, u32>,
 }
 
 impl<'a> Model for Named<'a> {
@@ -111,12 +110,13 @@ impl<'a> Named<'a> {
 }
 
 // For each name the number of the first request that has it.
-fn places(alloc: Global, requests: &[Request]) -> Result<BTreeMap<Name, u32>, AllocError>
+fn places(alloc: Global, requests: &[Request]) -> Result<HashMap<Name, u32>, AllocError>
     requires { length requests.now < 2 ^ 32 }
-    ensures places { IfOk result (λ places. (name : List ℕ) → get name_cmp places name ≡ request_from 0 name requests.now) }
+    ensures places { IfOk result (λ places. (name : List ℕ)
+        → at_key name places.entries ≡ request_from 0 name requests.now) }
     ensures names { OnOk result (AllByRecursion IsName (names_of requests.now)) }
 {
-    let mut places = BTreeMap::new(alloc);
+    let mut places = HashMap::new(alloc);
     let mut place = requests.len();
     while place > 0 {
         place -= 1;

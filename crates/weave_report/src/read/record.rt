@@ -9,11 +9,11 @@ use crate::read::parts::Item;
 use graph_ops::{Edge, Name, Record};
 use std::alloc::Global;
 use weave_data::NameMap;
-use weave_text::pieces;
+use weave_text::Pieces;
 
 /// The record of these items.
-pub(crate) fn items_in(alloc: Global, words: &[&[u8]]) -> Result<Record, LineFault>
-    ensures { Gives result (items_in empty_record (map (λ word. word.now) words.now)) }
+pub(crate) fn items_in(alloc: Global, words: Pieces) -> Result<Record, LineFault>
+    ensures { Gives result (items_in empty_record words.entry) }
 {
     let mut held = Record {
         props: NameMap::new(alloc),
@@ -89,8 +89,7 @@ fn item_of(alloc: Global, before: &[u8], mark: u8, behind: &[u8]) -> Result<Item
         return Ok(Item::Property { key, value });
     }
     let name = name_in(before)?;
-    let words = pieces(alloc, b',', behind)?;
-    let edge = edge_of(alloc, &words)?;
+    let edge = edge_of(alloc, Pieces::new(b',', behind))?;
     Ok(Item::Link { name, edge })
 }
 
@@ -112,19 +111,19 @@ fn item_mark(word: &[u8]) -> Option<usize>
 }
 
 // An edge: its target, and its tags.
-fn edge_of(alloc: Global, words: &[&[u8]]) -> Result<Edge, LineFault>
-    ensures { Gives result (edge_of (map (λ word. word.now) words.now)) }
+fn edge_of(alloc: Global, mut words: Pieces) -> Result<Edge, LineFault>
+    ensures { Gives result (edge_of words.entry) }
 {
-    let Some((target, tags)) = words.split_first() else {
+    let Some(target) = words.next() else {
         return Err(LineFault::Refused(ReportCause::Name));
     };
     let target = name_in(target)?;
-    let tags = tags_in(alloc, tags)?;
+    let tags = tags_in(alloc, words)?;
     Ok(Edge { target, tags })
 }
 
-fn tags_in(alloc: Global, words: &[&[u8]]) -> Result<NameMap<Name>, LineFault>
-    ensures { Gives result (tags_in [] (map (λ word. word.now) words.now)) }
+fn tags_in(alloc: Global, words: Pieces) -> Result<NameMap<Name>, LineFault>
+    ensures { Gives result (tags_in [] words.entry) }
 {
     let mut tags = NameMap::new(alloc);
     for word in words {

@@ -1,8 +1,9 @@
 //! The lines of replies.
-ghost use Rattle.std.specs.Prelude.{◌≡◌, ◌&&◌, [], ◌∷◌, map, Some, codes};
+ghost use Rattle.std.specs.Prelude.{◌≡◌, ◌&&◌, [], ◌∷◌, Some, codes, Err, if◌then◌else◌};
 ghost use Rattle.std.specs.Str.{bytes_eq};
 ghost use Rattle.weave_report.specs.ReadAnswers.{Gives};
-ghost use Rattle.weave_report.specs.ReadingReplies.{begun_in, committed_in, conflict_in, finished_by, finished_in, got_in, program_in, refusal_in, refused_in, transaction_in, unbegun_in, verdict_in};
+ghost use Rattle.weave_report.specs.declared.fault.ReportCause.TheVariants.{Line};
+ghost use Rattle.weave_report.specs.ReadingReplies.{begun_in, committed_in, conflict_in, finished_by, finished_in, got_in, program_in, refused_in, transaction_in, unbegun_in, verdict_in};
 
 use crate::fault::{LineFault, ReportCause};
 use crate::read::fields::{name_in, number_in, reason_in, small_number_in, this_number_in};
@@ -14,26 +15,26 @@ use graph_ops::Got;
 use program_defs::Program;
 use report_rules::{Reply, ReplyState};
 use std::alloc::Global;
-use weave_text::is;
+use weave_text::{Pieces, is};
 
 /// A transaction's reply, by the words behind `tx`.
 pub(crate) fn transaction_in(
     alloc: Global,
     script: &Named,
-    words: &[&[u8]],
+    mut words: Pieces,
 ) -> Result<ReplyLine, LineFault>
-    ensures { Gives result (transaction_in script.now (map (λ word. word.now) words.now)) }
+    ensures { Gives result (transaction_in script.now words.entry) }
 {
-    match words {
-        [name, state] => {
-            if !is(state, b"unbegun") {
-                return Err(LineFault::Refused(ReportCause::Line));
-            }
-            unbegun_in(false, script, name)
-        }
-        [name, stamp, state, more @ ..] => verdict_in(alloc, script, name, stamp, state, more),
-        _ => Err(LineFault::Refused(ReportCause::Line)),
-    }
+    let Some(name) = words.next() else {
+        return Err(LineFault::Refused(ReportCause::Line));
+    };
+    let Some(stamp) = words.next() else {
+        return Err(LineFault::Refused(ReportCause::Line));
+    };
+    let Some(state) = words.next() else {
+        return unbegun_told(false, script, name, stamp);
+    };
+    verdict_in(alloc, script, name, stamp, state, words)
 }
 
 // A begun transaction's reply, by the word that tells how it stands and those behind it.
@@ -43,26 +44,76 @@ fn verdict_in(
     name: &[u8],
     stamp: &[u8],
     state: &[u8],
-    more: &[&[u8]],
+    mut more: Pieces,
 ) -> Result<ReplyLine, LineFault>
-    ensures { Gives result (verdict_in script.now name.now stamp.now state.now (map (λ word. word.now) more.now)) }
+    ensures { Gives result (verdict_in script.now name.now stamp.now state.now more.entry) }
 {
-    match more {
-        [] => {
-            if !is(state, b"begun") {
-                return Err(LineFault::Refused(ReportCause::Line));
-            }
-            begun_in(alloc, false, script, name, stamp)
-        }
-        [number] => {
-            if !is(state, b"committed") {
-                return Err(LineFault::Refused(ReportCause::Line));
-            }
-            committed_in(alloc, script, name, stamp, number)
-        }
-        [vertex, newer] => conflict_told(alloc, script, name, stamp, state, vertex, newer),
-        _ => refusal_in(alloc, script, name, stamp, state, more),
+    let Some(first) = more.next() else {
+        return begun_told(alloc, script, name, stamp, state);
+    };
+    let Some(second) = more.next() else {
+        return commit_told(alloc, script, name, stamp, state, first);
+    };
+    let Some(third) = more.next() else {
+        return conflict_told(alloc, script, name, stamp, state, first, second);
+    };
+    let Some(fourth) = more.next() else {
+        return Err(LineFault::Refused(ReportCause::Line));
+    };
+    if let Some(_) = more.next() {
+        return Err(LineFault::Refused(ReportCause::Line));
     }
+    if !is_refusal(state, third) {
+        return Err(LineFault::Refused(ReportCause::Line));
+    }
+    refused_in(alloc, script, name, stamp, first, second, fourth)
+}
+
+// Where there is no stamp.
+fn unbegun_told(
+    program: bool,
+    script: &Named,
+    name: &[u8],
+    state: &[u8],
+) -> Result<ReplyLine, LineFault>
+    ensures { Gives result (if bytes_eq state.now (codes "unbegun")
+        then unbegun_in program script.now name.now else Err Line) }
+{
+    if !is(state, b"unbegun") {
+        return Err(LineFault::Refused(ReportCause::Line));
+    }
+    unbegun_in(program, script, name)
+}
+
+fn begun_told(
+    alloc: Global,
+    script: &Named,
+    name: &[u8],
+    stamp: &[u8],
+    state: &[u8],
+) -> Result<ReplyLine, LineFault>
+    ensures { Gives result (verdict_in script.now name.now stamp.now state.now []) }
+{
+    if !is(state, b"begun") {
+        return Err(LineFault::Refused(ReportCause::Line));
+    }
+    begun_in(alloc, false, script, name, stamp)
+}
+
+fn commit_told(
+    alloc: Global,
+    script: &Named,
+    name: &[u8],
+    stamp: &[u8],
+    state: &[u8],
+    number: &[u8],
+) -> Result<ReplyLine, LineFault>
+    ensures { Gives result (verdict_in script.now name.now stamp.now state.now (number.now ∷ [])) }
+{
+    if !is(state, b"committed") {
+        return Err(LineFault::Refused(ReportCause::Line));
+    }
+    committed_in(alloc, script, name, stamp, number)
 }
 
 fn conflict_told(
@@ -82,28 +133,6 @@ fn conflict_told(
     conflict_in(alloc, script, name, stamp, vertex, newer)
 }
 
-// A refusal, by the word that tells of it and those behind it.
-fn refusal_in(
-    alloc: Global,
-    script: &Named,
-    name: &[u8],
-    stamp: &[u8],
-    state: &[u8],
-    more: &[&[u8]],
-) -> Result<ReplyLine, LineFault>
-    ensures { Gives result (refusal_in script.now name.now stamp.now state.now (map (λ word. word.now) more.now)) }
-{
-    match more {
-        [op, reason, word, at] => {
-            if !is_refusal(state, word) {
-                return Err(LineFault::Refused(ReportCause::Line));
-            }
-            refused_in(alloc, script, name, stamp, op, reason, at)
-        }
-        _ => Err(LineFault::Refused(ReportCause::Line)),
-    }
-}
-
 // Whether these are the words of a refusal.
 fn is_refusal(state: &[u8], word: &[u8]) -> bool
     ensures { result ≡ (bytes_eq state.now (codes "refused") && bytes_eq word.now (codes "at")) }
@@ -115,28 +144,26 @@ fn is_refusal(state: &[u8], word: &[u8]) -> bool
 pub(crate) fn program_in(
     alloc: Global,
     script: &Named,
-    words: &[&[u8]],
+    mut words: Pieces,
 ) -> Result<ReplyLine, LineFault>
-    ensures { Gives result (program_in script.now (map (λ word. word.now) words.now)) }
+    ensures { Gives result (program_in script.now words.entry) }
 {
-    match words {
-        [name, state] => {
-            if !is(state, b"unbegun") {
-                return Err(LineFault::Refused(ReportCause::Line));
-            }
-            unbegun_in(true, script, name)
-        }
-        [name, stamp, state, answer @ ..] => {
-            if is(state, b"done") {
-                return finished_in(alloc, script, name, stamp, answer);
-            }
-            if !(is(state, b"running") && answer.is_empty()) {
-                return Err(LineFault::Refused(ReportCause::Line));
-            }
-            begun_in(alloc, true, script, name, stamp)
-        }
-        _ => Err(LineFault::Refused(ReportCause::Line)),
+    let Some(name) = words.next() else {
+        return Err(LineFault::Refused(ReportCause::Line));
+    };
+    let Some(stamp) = words.next() else {
+        return Err(LineFault::Refused(ReportCause::Line));
+    };
+    let Some(state) = words.next() else {
+        return unbegun_told(true, script, name, stamp);
+    };
+    if is(state, b"done") {
+        return finished_in(alloc, script, name, stamp, words);
     }
+    if !(is(state, b"running") && words.is_empty()) {
+        return Err(LineFault::Refused(ReportCause::Line));
+    }
+    begun_in(alloc, true, script, name, stamp)
 }
 
 fn unbegun_in(program: bool, script: &Named, name: &[u8]) -> Result<ReplyLine, LineFault>
@@ -244,9 +271,9 @@ fn finished_in(
     script: &Named,
     name: &[u8],
     stamp: &[u8],
-    answer: &[&[u8]],
+    answer: Pieces,
 ) -> Result<ReplyLine, LineFault>
-    ensures { Gives result (finished_in script.now name.now stamp.now (map (λ word. word.now) answer.now)) }
+    ensures { Gives result (finished_in script.now name.now stamp.now answer.entry) }
 {
     let name = name_in(name)?;
     match script.program(name) {
@@ -264,15 +291,18 @@ fn finished(
     request: u32,
     program: &Program,
     stamp: &[u8],
-    answer: &[&[u8]],
+    mut answer: Pieces,
 ) -> Result<ReplyLine, LineFault>
-    ensures { Gives result (finished_by (Some (request, program.now)) script.now stamp.now (map (λ word. word.now) answer.now)) }
+    ensures { Gives result (finished_by (Some (request, program.now)) script.now stamp.now answer.entry) }
 {
-    if !is_answer_form(program, answer) {
+    let Some(form) = answer.next() else {
+        return Err(LineFault::Refused(ReportCause::Line));
+    };
+    if !is_answer_form(program, form, &answer) {
         return Err(LineFault::Refused(ReportCause::Line));
     }
     let stamp = stamp_in(alloc, script.gates(), stamp)?;
-    let answer = answer_in(alloc, program, answer)?;
+    let answer = answer_in(alloc, program, form, answer)?;
     Ok(ReplyLine::Whole(Reply {
         request,
         stamp: Some(stamp),
@@ -281,15 +311,22 @@ fn finished(
 }
 
 /// What a `get` read, by its line, where it is to be this operation.
-pub(crate) fn got_in(alloc: Global, op: u32, words: &[&[u8]]) -> Result<Got, LineFault>
-    ensures { Gives result (got_in op (map (λ word. word.now) words.now)) }
+pub(crate) fn got_in(alloc: Global, op: u32, mut words: Pieces) -> Result<Got, LineFault>
+    ensures { Gives result (got_in op words.entry) }
 {
-    match words {
-        [word, number, state @ ..] if is(word, b"got") && is_state_form(state) => {
-            this_number_in(u64::from(op), number)?;
-            let state = state_in(alloc, state)?;
-            Ok(Got { op, state })
-        }
-        _ => Err(LineFault::Refused(ReportCause::Line)),
+    let Some(word) = words.next() else {
+        return Err(LineFault::Refused(ReportCause::Line));
+    };
+    let Some(number) = words.next() else {
+        return Err(LineFault::Refused(ReportCause::Line));
+    };
+    let Some(form) = words.next() else {
+        return Err(LineFault::Refused(ReportCause::Line));
+    };
+    if !(is(word, b"got") && is_state_form(form, &words)) {
+        return Err(LineFault::Refused(ReportCause::Line));
     }
+    this_number_in(u64::from(op), number)?;
+    let state = state_in(alloc, form, words)?;
+    Ok(Got { op, state })
 }

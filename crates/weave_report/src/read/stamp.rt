@@ -1,36 +1,58 @@
 //! Stamps.
-ghost use Rattle.std.specs.Prelude.{◌≡◌, [], map};
+ghost use Rattle.std.specs.Prelude.{◌≡◌, []};
 ghost use Rattle.weave_report.specs.ReadAnswers.{Gives};
-ghost use Rattle.weave_report.specs.ReadingFields.{count_in, counts_from, stamp_in, stamp_of, stamp_parts};
+ghost use Rattle.weave_report.specs.ReadingLists.{counted_stamp, few_counts};
+ghost use Rattle.weave_report.specs.ReadingFields.{count_in, stamp_in, stamp_of, stamp_parts};
 
 use crate::fault::{LineFault, ReportCause};
 use std::alloc::Global;
 use vector_stamp::{Clock, Stamp};
 use weave_data::Items;
-use weave_text::{number, pieces};
+use weave_text::{Pieces, number};
+
+/// The most counts of a stamp.
+const MOST_COUNTS: usize = 8;
 
 /// A stamp, where there are so many gatekeepers.
 pub(crate) fn stamp_in(alloc: Global, gates: u32, word: &[u8]) -> Result<Stamp, LineFault>
     ensures { Gives result (stamp_in gates word.now) }
 {
-    let parts = pieces(alloc, b':', word)?;
-    stamp_parts(alloc, gates, &parts)
+    stamp_parts(alloc, gates, Pieces::new(b':', word))
 }
 
 // The stamp of the parts between colons.
-fn stamp_parts(alloc: Global, gates: u32, parts: &[&[u8]]) -> Result<Stamp, LineFault>
-    ensures { Gives result (stamp_parts gates (map (λ part. part.now) parts.now)) }
+fn stamp_parts(alloc: Global, gates: u32, mut parts: Pieces) -> Result<Stamp, LineFault>
+    ensures { Gives result (stamp_parts gates parts.entry) }
 {
-    match parts {
-        [epoch, home, counts] => {
-            let epoch = count_in(epoch)?;
-            let home = count_in(home)?;
-            let words = pieces(alloc, b',', counts)?;
-            let counts = counts_in(alloc, &words)?;
-            stamp_of(gates, epoch, home, counts.as_slice())
-        }
-        _ => Err(LineFault::Refused(ReportCause::Stamp)),
+    let Some(epoch) = parts.next() else {
+        return Err(LineFault::Refused(ReportCause::Stamp));
+    };
+    let Some(home) = parts.next() else {
+        return Err(LineFault::Refused(ReportCause::Stamp));
+    };
+    let Some(counts) = parts.next() else {
+        return Err(LineFault::Refused(ReportCause::Stamp));
+    };
+    if let Some(_) = parts.next() {
+        return Err(LineFault::Refused(ReportCause::Stamp));
     }
+    let epoch = count_in(epoch)?;
+    let home = count_in(home)?;
+    counted_stamp(alloc, gates, epoch, home, Pieces::new(b',', counts))
+}
+
+// The stamp of an epoch, a home, and the words of its counts.
+fn counted_stamp(
+    alloc: Global,
+    gates: u32,
+    epoch: u64,
+    home: u64,
+    words: Pieces,
+) -> Result<Stamp, LineFault>
+    ensures { Gives result (counted_stamp gates epoch home words.entry) }
+{
+    let counts = counts_in(alloc, words)?;
+    stamp_of(gates, epoch, home, counts.as_slice())
 }
 
 fn count_in(word: &[u8]) -> Result<u64, LineFault>
@@ -42,11 +64,15 @@ fn count_in(word: &[u8]) -> Result<u64, LineFault>
     }
 }
 
-fn counts_in(alloc: Global, words: &[&[u8]]) -> Result<Items<u64>, LineFault>
-    ensures { Gives result (counts_from [] (map (λ word. word.now) words.now)) }
+// The counts, of which there are eight at most.
+fn counts_in(alloc: Global, words: Pieces) -> Result<Items<u64>, LineFault>
+    ensures { Gives result (few_counts [] words.entry) }
 {
     let mut counts = Items::new(alloc);
     for word in words {
+        if counts.as_slice().len() == MOST_COUNTS {
+            return Err(LineFault::Refused(ReportCause::Stamp));
+        }
         counts.push(count_in(word)?)?;
     }
     Ok(counts)

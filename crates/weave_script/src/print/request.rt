@@ -29,7 +29,8 @@ pub fn print_request(text: &mut Text, request: &Request) -> Result<(), AllocErro
 }
 
 fn print_opening(text: &mut Text, request: &Request) -> Result<(), AllocError>
-    ensures { OnOk result (text.new ≡ text.old ++ line_text (opening_line request.now.name request.now.session request.now.gate)) }
+    ensures { OnOk result (text.new
+        ≡ text.old ++ line_text (opening_line request.now.name request.now.session request.now.gate)) }
 {
     text.push(b"tx")?;
     print_place(text, request)?;
@@ -42,7 +43,8 @@ fn print_program_line(
     request: &Request,
     program: &Program,
 ) -> Result<(), AllocError>
-    ensures { OnOk result (text.new ≡ text.old ++ line_text (program_line request.now.name request.now.session request.now.gate program.now)) }
+    ensures { OnOk result (text.new
+        ≡ text.old ++ line_text (program_line request.now.name request.now.session request.now.gate program.now)) }
 {
     text.push(b"prog")?;
     print_place(text, request)?;
@@ -53,7 +55,8 @@ fn print_program_line(
 
 // A request's name, session and gatekeeper, with a space before each.
 fn print_place(text: &mut Text, request: &Request) -> Result<(), AllocError>
-    ensures { OnOk result (text.new ≡ text.old ++ spaced_words (request.now.name ∷ decimal request.now.session ∷ decimal request.now.gate ∷ [])) }
+    ensures { OnOk result (text.new
+        ≡ text.old ++ spaced_words (request.now.name ∷ decimal request.now.session ∷ decimal request.now.gate ∷ [])) }
 {
     text.word(request.name.bytes())?;
     text.number_word(u64::from(request.session))?;

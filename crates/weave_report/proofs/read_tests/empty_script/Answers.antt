@@ -1,9 +1,9 @@
-use Rattle.std.proofs.Common.{◌≡◌, ℕ, ◌<◌, ◌^◌, List, [], length, sym, subst, arith}
+use Rattle.std.proofs.Common.{◌≡◌, ◌<◌, ◌^◌, List, [], length, sym, subst, arith}
 use Rattle.std.specs.List.{AllByRecursion, IsDistinct}
 use Rattle.weave_data.specs.Names.{same_name}
 use Rattle.program_defs.specs.declared.script.Request.{Request}
 use Rattle.program_defs.specs.Works.{ops_of}
-use Rattle.weave_report.specs.TextOf.{HasDistinctNames, names_of}
+use Rattle.weave_report.specs.TextOf.{names_of}
 use Rattle.weave_report.proofs.read_tests.empty_script.Goals as goal
 
 none_differ : IsDistinct same_name (names_of [])

@@ -1,15 +1,12 @@
 use Rattle.std.proofs.Common.{◌≡◌, ℕ, ◌<◌, ◌^◌, List, [], ◌∷◌, length, refl, sym, ap, ◌∙◌, subst, arith, lit<}
-use Rattle.std.specs.Prelude.{codes, None}
+use Rattle.std.specs.Prelude.{codes}
 use Rattle.std.specs.List.{AllByRecursion, IsDistinct}
 use Rattle.std.proofs.lemmas.Result.{IfOk-at_ok}
 use Rattle.weave_data.specs.Names.{same_name}
-use Rattle.graph_ops.specs.declared.op.Op.{Op}
 use Rattle.program_defs.specs.declared.script.Request.{Request}
-use Rattle.program_defs.specs.declared.script.Script.{Script}
 use Rattle.program_defs.specs.declared.script.Work.{Work}
-use Rattle.program_defs.specs.declared.script.Work.TheVariants.{Change, Look}
 use Rattle.program_defs.specs.Works.{ops_of}
-use Rattle.weave_report.specs.TextOf.{HasDistinctNames, names_of}
+use Rattle.weave_report.specs.TextOf.{names_of}
 use Rattle.weave_report.proofs.read_tests.script.Goals as goal
 
 six_differ : IsDistinct same_name (codes "t" ∷ codes "u" ∷ codes "p" ∷ codes "q" ∷ codes "r" ∷ codes "s" ∷ [])

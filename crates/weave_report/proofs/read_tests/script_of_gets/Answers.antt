@@ -1,4 +1,4 @@
-use Rattle.std.proofs.Common.{◌≡◌, ℕ, ◌<◌, ◌^◌, List, [], ◌∷◌, length, refl, sym, ap, ◌∙◌, subst, arith, lit<}
+use Rattle.std.proofs.Common.{◌≡◌, ℕ, ◌<◌, ◌^◌, List, [], ◌∷◌, length, sym, ap, ◌∙◌, subst, arith, lit<}
 use Rattle.std.specs.Prelude.{codes}
 use Rattle.std.specs.List.{AllByRecursion, IsDistinct}
 use Rattle.std.proofs.lemmas.Result.{IfOk-at_ok}
@@ -6,7 +6,7 @@ use Rattle.weave_data.specs.Names.{same_name}
 use Rattle.program_defs.specs.declared.script.Request.{Request}
 use Rattle.program_defs.specs.declared.script.Work.{Work}
 use Rattle.program_defs.specs.Works.{ops_of}
-use Rattle.weave_report.specs.TextOf.{HasDistinctNames, names_of}
+use Rattle.weave_report.specs.TextOf.{names_of}
 use Rattle.weave_report.proofs.read_tests.script_of_gets.Goals as goal
 
 one_name : IsDistinct same_name (codes "t" ∷ [])

@@ -1,7 +1,7 @@
-use Rattle.std.proofs.Common.{◌≡◌, [], drop, map}
+use Rattle.std.proofs.Common.{◌≡◌, []}
 use Rattle.weave_report.specs.ReadingFields.{names_from}
 use Rattle.weave_report.proofs.read.fields.names_in.Given as goal
 
 -- reading what is left comes to what reading all comes to
 abbrev pub invariant-loop-word : goal.invariant-loop-word
-invariant-loop-word l = names_from l.names (drop l.word-index (map (λ word. word.now) l.words)) ≡ names_from [] (map (λ word. word.now) l.words)
+invariant-loop-word l = names_from l.names l.word-iterator ≡ names_from [] l.fn.words

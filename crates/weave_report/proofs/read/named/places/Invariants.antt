@@ -1,7 +1,6 @@
 use Rattle.std.proofs.Common.{◌≡◌, ◌≤◌, ℕ, List, length, drop}
-use Rattle.std.specs.BTreeMap.{get}
 use Rattle.std.specs.List.{AllByRecursion}
-use Rattle.weave_data.specs.Names.{name_cmp}
+use Rattle.weave_data.specs.Pairs.{at_key}
 use Rattle.weave_report.specs.ReadingReplies.{request_from}
 use Rattle.weave_report.specs.TextOf.{IsName, names_of}
 use Rattle.weave_report.proofs.read.named.places.Given as goal
@@ -10,7 +9,7 @@ use Rattle.weave_report.proofs.read.named.places.Given as goal
 abbrev pub invariant-loop-place : goal.invariant-loop-place
 invariant-loop-place l = record {
   within : l.place ≤ length l.requests;
-  places : (name : List ℕ) → get name_cmp l.places name ≡ request_from l.place name (drop l.place l.requests);
+  places : (name : List ℕ) → at_key name l.places.entries ≡ request_from l.place name (drop l.place l.requests);
   names : AllByRecursion IsName (names_of (drop l.place l.requests));
 }
 

@@ -1,5 +1,4 @@
-use Rattle.std.proofs.Common.{◌≡◌, ℕ, ◌-◌, suc, List, [], ◌∷◌, Some, length, slice_get, sym, ap, ◌∙◌, subst, arith}
-use Rattle.weave_report.specs.ReadingStates.{goes_last}
+use Rattle.std.proofs.Common.{◌≡◌, ℕ, ◌-◌, suc, List, [], ◌∷◌, Some, length, slice_get, sym, ◌∙◌, subst, arith}
 use Rattle.weave_report.proofs.KeysInOrder.{last_decides}
 use Rattle.weave_report.proofs.read.record.goes_last.Goals as goal
 

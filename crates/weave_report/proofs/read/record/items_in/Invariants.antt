@@ -1,7 +1,7 @@
-use Rattle.std.proofs.Common.{◌≡◌, drop, map}
+use Rattle.std.proofs.Common.{◌≡◌}
 use Rattle.weave_report.specs.ReadingStates.{empty_record, items_in}
 use Rattle.weave_report.proofs.read.record.items_in.Given as goal
 
 -- reading what is left comes to what reading all comes to
 abbrev pub invariant-loop-word : goal.invariant-loop-word
-invariant-loop-word l = items_in l.held (drop l.word-index (map (λ word. word.now) l.words)) ≡ items_in empty_record (map (λ word. word.now) l.words)
+invariant-loop-word l = items_in l.held l.word-iterator ≡ items_in empty_record l.fn.words

@@ -1,7 +1,7 @@
-use Rattle.std.proofs.Common.{◌≡◌, [], drop, map}
+use Rattle.std.proofs.Common.{◌≡◌, []}
 use Rattle.weave_report.specs.ReadingStates.{tags_in}
 use Rattle.weave_report.proofs.read.record.tags_in.Given as goal
 
 -- reading what is left comes to what reading all comes to
 abbrev pub invariant-loop-word : goal.invariant-loop-word
-invariant-loop-word l = tags_in l.tags (drop l.word-index (map (λ word. word.now) l.words)) ≡ tags_in [] (map (λ word. word.now) l.words)
+invariant-loop-word l = tags_in l.tags l.word-iterator ≡ tags_in [] l.fn.words
