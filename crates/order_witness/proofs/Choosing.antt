@@ -48,14 +48,14 @@ module _ (report : Report) (precedence : Test) (remaining : List ℕ) where
       at_least true e it_is = absurd (both_ways _ none (and_from _ _ e it_is))
       at_least false e it_is = ltb-false _ _ e
 
-  module _ (i r : ℕ) (lt : i < length remaining) (is : get_or remaining i 0 ≡ r) where
-    more : take (i + 1) remaining ≡ take i remaining ++ r ∷ []
-    more = take_more remaining i 0 lt ∙ ap (λ x. take i remaining ++ x ∷ []) is
+  module _ (asked : List ℕ) (i r : ℕ) (lt : i < length asked) (is : get_or asked i 0 ≡ r) where
+    more : take (i + 1) asked ≡ take i asked ++ r ∷ []
+    more = take_more asked i 0 lt ∙ ap (λ x. take i asked ++ x ∷ []) is
 
-    pub chosen : (best : Option ℕ) → IsBest report precedence remaining (take i remaining) best → (is_better report best r && free r) ≡ true → IsBest report precedence remaining (take (i + 1) remaining) (Some r)
+    pub chosen : (best : Option ℕ) → IsBest report precedence remaining (take i asked) best → (is_better report best r && free r) ≡ true → IsBest report precedence remaining (take (i + 1) asked) (Some r)
     chosen best h it_is =
         let parts = and_parts (is_better report best r) (free r) it_is in
-        subst (λ (xs : List ℕ). IsBest report precedence remaining xs (Some r)) (sym more) (chosen_one best (take i remaining) r h parts.0 parts.1)
+        subst (λ (xs : List ℕ). IsBest report precedence remaining xs (Some r)) (sym more) (chosen_one best (take i asked) r h parts.0 parts.1)
 
-    pub kept : (best : Option ℕ) → IsBest report precedence remaining (take i remaining) best → (is_better report best r && free r) ≡ false → IsBest report precedence remaining (take (i + 1) remaining) best
-    kept best h not_so = subst (λ (xs : List ℕ). IsBest report precedence remaining xs best) (sym more) (kept_one best (take i remaining) r h not_so)
+    pub kept : (best : Option ℕ) → IsBest report precedence remaining (take i asked) best → (is_better report best r && free r) ≡ false → IsBest report precedence remaining (take (i + 1) asked) best
+    kept best h not_so = subst (λ (xs : List ℕ). IsBest report precedence remaining xs best) (sym more) (kept_one best (take i asked) r h not_so)

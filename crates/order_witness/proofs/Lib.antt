@@ -20,6 +20,11 @@ pub mod Printing
 pub mod Placing
 pub mod InTurn
 pub mod RisingSteps
+pub mod Cutting
+pub mod Leading
+pub mod Taking
 pub mod InPlace
 pub mod Seeing
 pub mod TurnSteps
+pub mod BegunCoherent
+pub mod Visiting

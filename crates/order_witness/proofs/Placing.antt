@@ -5,7 +5,8 @@ use Rattle.std.proofs.lemmas.List.{get_or-set_same, get_or-set_other}
 use Rattle.vector_stamp.specs.declared.clock.Stamp.{Stamp}
 use Rattle.vector_stamp.specs.Order.{stamp_before}
 use Rattle.report_rules.specs.declared.report.Report.{Report}
-use Rattle.report_rules.specs.Lookups.{is_some_and, is_none_or, stamp_at}
+use Rattle.report_rules.specs.Lookups.{are_both, is_some_and, is_none_or, stamp_at}
+use Rattle.order_witness.specs.Begun.{is_request_before}
 use Rattle.order_witness.specs.Places.{place_in, latest_at, is_before_one, IsPutNext, IsAtOrBefore, ArePlaced}
 
 -- the order of stamps is a strict one
@@ -21,6 +22,16 @@ at_before strict a b c g h = elim g [ inl same ↦ subst (λ x. IsTrue (stamp_be
 
 pub at_at : IsStrict → (a b c : Stamp) → IsAtOrBefore a b → IsAtOrBefore b c → IsAtOrBefore a c
 at_at strict a b c g h = elim h [ inl same ↦ subst (λ x. IsAtOrBefore a x) same g | inr more ↦ inr (at_before strict a b c g more) ]
+
+-- one request's stamp is before another's, and that one's before a third's
+pub before_trans : IsStrict → (report : Report) (a b c : ℕ) → IsTrue (is_request_before report a b) → IsTrue (is_request_before report b c) → IsTrue (is_request_before report a c)
+before_trans strict report a b c g h = of_options (stamp_at report a) (stamp_at report b) (stamp_at report c) g h
+  where
+    of_options : (o p q : Option Stamp) → IsTrue (are_both stamp_before o p) → IsTrue (are_both stamp_before p q) → IsTrue (are_both stamp_before o q)
+    of_options None p q g h = cc
+    of_options (Some s) None q g h = cc
+    of_options (Some s) (Some t) None g h = cc
+    of_options (Some s) (Some t) (Some u) g h = strict.transitive s t u g h
 
 pub one_stamp : (s t : Stamp) → Some s ≡ Some t → s ≡ t
 one_stamp s t e = cc

@@ -1,13 +1,12 @@
 -- The requests taken in turn are the printed order.
-use Rattle.std.proofs.Common.{◌≡◌, ℕ, suc, ◌<◌, ◌≤◌, Bool, true, false, not, cond, ◌||◌, ◌&&◌, IsTrue, List, [], ◌∷◌, ◌++◌, length, Option, Some, None, eqb, ◌⊎◌, inl, inr, refl, sym, ap, ◌∙◌, subst, arith}
-use Rattle.std.specs.Prelude.{nat_eq, slice_get, MatchBool, ◌↔◌}
-use Rattle.std.proofs.lemmas.Option.{slice_get_within}
+use Rattle.std.proofs.Common.{◌≡◌, ℕ, suc, ◌<◌, ◌≤◌, Bool, true, false, not, cond, IsTrue, List, [], ◌∷◌, ◌++◌, length, Option, Some, None, eqb, ◌⊎◌, inl, inr, refl, sym, ap, ◌∙◌, subst, arith}
+use Rattle.std.specs.Prelude.{nat_eq, slice_get}
 use Rattle.std.specs.List.{list_any, filter, cons_option, AllByRecursion}
 use Rattle.std.specs.Option.{option_and_then, option_map}
-use Rattle.std.proofs.lemmas.Bool.{and_parts, both_ways, or_cases, or_left, or_right, or_from, cases_Bool, cases_eq, cases_lt, cases_order, not-true, not_from_false, false_from_ne_true, eqb-true, eq-eqb, ne_eqb}
+use Rattle.std.proofs.lemmas.Bool.{both_ways, or_cases, or_left, or_right, or_from, cases_Bool, cases_eq, cases_lt, not-true, not_from_false, false_from_ne_true, eqb-true, eq-eqb, ne_eqb}
 use Rattle.vector_stamp.specs.declared.clock.Stamp.{Stamp}
-use Rattle.vector_stamp.specs.Order.{stamp_before, id_before, are_apart}
-use Rattle.vector_stamp.specs.Precedence.{Precedes, ByStamps, precedes}
+use Rattle.vector_stamp.specs.Order.{stamp_before}
+use Rattle.vector_stamp.specs.Precedence.{Precedes, ByStamps}
 use Rattle.program_defs.specs.declared.script.Script.{Script}
 use Rattle.report_rules.specs.declared.report.Report.{Report}
 use Rattle.report_rules.specs.declared.report.Reply.{Reply}
@@ -16,34 +15,44 @@ use Rattle.report_rules.specs.RightReport.{replies_clause}
 use Rattle.report_rules.specs.PrintedOrder.{IsFree, IsOfLesserHome, IsNext, without_request, TakesAll}
 use Rattle.report_rules.specs.Lookups.{is_in, AreBoth, stamp_at, given_pairs, RequestPrecedes}
 use Rattle.order_witness.specs.Closure.{Test, IsTransitive}
-use Rattle.order_witness.specs.Begun.{NonePrecedesItself, request_precedes}
+use Rattle.order_witness.specs.Begun.{request_precedes}
 use Rattle.order_witness.specs.Choices.{IsBest, begun_in, is_free, home_in, home_at}
-use Rattle.order_witness.proofs.BegunLaws.{AreClosed, both_there, trans}
+use Rattle.order_witness.proofs.BegunLaws.{AreClosed, trans}
+use Rattle.order_witness.proofs.BegunCoherent.{one_home}
 use Rattle.order_witness.proofs.Testing.{IsDecided, way, tested}
-use Rattle.order_witness.proofs.Replying.{is_numbered, apart_so, reply_of}
+use Rattle.order_witness.proofs.Replying.{is_numbered}
 
 -- Lists of numbers
 
 module _ (P : ℕ → Type 0) where
-  all_at : (xs : List ℕ) (r : ℕ) → AllByRecursion P xs → IsTrue (is_in r xs) → P r
+  pub all_at : (xs : List ℕ) (r : ℕ) → AllByRecursion P xs → IsTrue (is_in r xs) → P r
   all_at [] r h there = cc
   all_at (x ∷ xs) r h there = elim (or_cases (nat_eq r x) _ there) [ inl here ↦ subst P (sym (eqb-true r x here)) h.0 | inr later ↦ all_at xs r h.1 later ]
 
-  all_from : (xs : List ℕ) → ((r : ℕ) → IsTrue (is_in r xs) → P r) → AllByRecursion P xs
+  pub all_from : (xs : List ℕ) → ((r : ℕ) → IsTrue (is_in r xs) → P r) → AllByRecursion P xs
   all_from [] f = tt
   all_from (x ∷ xs) f = (f x (or_left _ _ (eq-eqb x x refl)), all_from xs (λ r there. f r (or_right (nat_eq r x) _ there)))
 
-  all_filter : (test : ℕ → Bool) (xs : List ℕ) → AllByRecursion P xs → AllByRecursion P (filter test xs)
-  all_filter test [] h = tt
-  all_filter test (x ∷ xs) h = elim (test x) as (λ b. AllByRecursion P (cond b (x ∷ filter test xs) (filter test xs))) [ true ↦ (h.0, all_filter test xs h.1) | false ↦ all_filter test xs h.1 ]
-
-any_in : (test : ℕ → Bool) (xs : List ℕ) (r : ℕ) → IsTrue (is_in r xs) → IsTrue (test r) → IsTrue (list_any test xs)
+pub any_in : (test : ℕ → Bool) (xs : List ℕ) (r : ℕ) → IsTrue (is_in r xs) → IsTrue (test r) → IsTrue (list_any test xs)
 any_in test [] r there is = cc
 any_in test (x ∷ xs) r there is = elim (or_cases (nat_eq r x) _ there) [ inl here ↦ or_left _ _ (ap test (sym (eqb-true r x here)) ∙ is) | inr later ↦ or_right (test x) _ (any_in test xs r later is) ]
 
 any_more : (p q : ℕ → Bool) → ((x : ℕ) → IsTrue (p x) → IsTrue (q x)) → (xs : List ℕ) → IsTrue (list_any p xs) → IsTrue (list_any q xs)
 any_more p q f [] h = cc
 any_more p q f (x ∷ xs) h = elim (or_cases (p x) _ h) [ inl here ↦ or_left _ _ (f x here) | inr later ↦ or_right (q x) _ (any_more p q f xs later) ]
+
+-- what passes stays
+pub kept_in : (test : ℕ → Bool) (xs : List ℕ) (r : ℕ) → IsTrue (is_in r xs) → IsTrue (test r) → IsTrue (is_in r (filter test xs))
+kept_in test [] r h g = h
+kept_in test (x ∷ xs) r h g =
+    elim (or_cases (nat_eq r x) _ h) [
+      | inl here ↦ subst (λ b. IsTrue (is_in r (cond b (x ∷ filter test xs) (filter test xs)))) (sym (ap test (sym (eqb-true r x here)) ∙ g)) (or_left _ _ here)
+      | inr later ↦ of_test (test x) (kept_in test xs r later g)
+    ]
+  where
+    of_test : (b : Bool) → IsTrue (is_in r (filter test xs)) → IsTrue (is_in r (cond b (x ∷ filter test xs) (filter test xs)))
+    of_test true there = or_right (nat_eq r x) _ there
+    of_test false there = there
 
 at_most_as_long : (test : ℕ → Bool) (xs : List ℕ) → length (filter test xs) ≤ length xs
 at_most_as_long test [] = omega arith
@@ -79,9 +88,6 @@ module _ (report : Report) where
   all_taken start [] remaining h none = sym h ∙ none
   all_taken start (r ∷ taken) remaining h none = (h.0, all_taken (without_request r start) taken remaining h.1 none)
 
-  pub begun_without : (r : ℕ) (xs : List ℕ) → AllByRecursion IsBegun xs → AllByRecursion IsBegun (without_request r xs)
-  begun_without r xs h = all_filter IsBegun (λ other. not (eqb other r)) xs h
-
   begun_of : (r : ℕ) (s : Option Stamp) (rest : List ℕ) → ((stamp : Stamp) → s ≡ Some stamp → IsBegun r) → AllByRecursion IsBegun rest → AllByRecursion IsBegun (cons_option (option_map (λ (stamp : Stamp). r) s) rest)
   begun_of r None rest f h = h
   begun_of r (Some stamp) rest f h = (f stamp refl, h)
@@ -95,39 +101,9 @@ module _ (script : Script) (report : Report) (holds : AllHold (replies_clause sc
   pub all_begun : AllByRecursion (IsBegun report) (begun_in report.replies)
   all_begun = begun_each report report.replies (λ i reply s at is. (s, ap (stamp_at report) (is_numbered script report holds i reply at) ∙ ap (option_and_then (λ (r : Reply). r.stamp)) at ∙ is))
 
-  module _ (decided : IsDecided) (all_closed : AreClosed) (acyclic : (r : ℕ) → ¬ RequestPrecedes report r r) (precedence : Test) (same : (a b : ℕ) → precedence a b ≡ request_precedes report a b) where
+  module _ (decided : IsDecided) (all_closed : AreClosed) (precedence : Test) (same : (a b : ℕ) → precedence a b ≡ request_precedes report a b) where
     transitive : IsTransitive precedence
     transitive a b c g h = same a c ∙ trans report all_closed a b c (sym (same a b) ∙ g) (sym (same b c) ∙ h)
-
-    never_itself : (r : ℕ) → precedence r r ≡ false
-    never_itself r = false_from_ne_true _ (λ h. acyclic r (way decided script report precedence same r r h))
-
-    -- Of requests that are there one is free
-
-    record SomeFree (xs : List ℕ) : Type 0 where
-      pub m : ℕ
-      pub there : IsTrue (is_in m xs)
-      pub none : list_any (λ other. precedence other m) xs ≡ false
-
-    some_free : (x : ℕ) (xs : List ℕ) → SomeFree (x ∷ xs)
-    some_free x [] = record { m = x; there = or_left _ _ (eq-eqb x x refl); none = or_from _ _ (never_itself x) refl }
-    some_free x (y ∷ ys) =
-        let rest = some_free y ys in
-        elim (cases_Bool (precedence x rest.m)) [
-          | inr none ↦ record { m = rest.m; there = or_right (nat_eq rest.m x) _ rest.there; none = or_from _ _ none rest.none }
-          | inl before ↦ record {
-            m = x;
-            there = or_left _ _ (eq-eqb x x refl);
-            none = or_from _ _ (never_itself x) (false_from_ne_true _ (λ h. both_ways _ rest.none (any_more (λ other. precedence other x) (λ other. precedence other rest.m) (λ other g. transitive other x rest.m g before) (y ∷ ys) h)));
-          }
-        ]
-
-    -- so where none is free, none remains
-    pub none_left : (xs : List ℕ) → AllByRecursion (λ r. is_free precedence xs r ≡ false) xs → xs ≡ []
-    none_left [] h = refl
-    none_left (x ∷ xs) h =
-        let free = some_free x xs in
-        absurd (both_ways _ (all_at (λ r. is_free precedence (x ∷ xs) r ≡ false) (x ∷ xs) free.m h free.there) (not_from_false _ free.none))
 
     -- The best one is the next
 
@@ -148,23 +124,10 @@ module _ (script : Script) (report : Report) (holds : AllHold (replies_clause sc
     -- of two begun requests of one home one precedes the other
     ordered : (a b : ℕ) (s t : Stamp) → (a ≡ b → ⊥) → stamp_at report a ≡ Some s → stamp_at report b ≡ Some t → s.home ≡ t.home → RequestPrecedes report a b ⊎ RequestPrecedes report b a
     ordered a b s t differ at_a at_b home =
-        elim (cases_order a b) [
-          | inl is ↦ absurd (differ is)
-          | inr other ↦ elim other [
-            | inl less ↦ apart a b s t at_a at_b home (apart_so script report holds a b s t less at_a at_b)
-            | inr more ↦ elim (apart b a t s at_b at_a (sym home) (apart_so script report holds b a t s more at_b at_a)) [ inl first ↦ inr first | inr second ↦ inl second ]
-          ]
+        elim (one_home report script holds a b s t at_a at_b differ home) [
+          | inl first ↦ inl (by_stamps a b s t at_a at_b first.1)
+          | inr second ↦ inr (by_stamps b a t s at_b at_a second.1)
         ]
-      where
-        apart : (a b : ℕ) (s t : Stamp) → stamp_at report a ≡ Some s → stamp_at report b ≡ Some t → s.home ≡ t.home → IsTrue (are_apart s t) → RequestPrecedes report a b ⊎ RequestPrecedes report b a
-        apart a b s t at_a at_b home h =
-            elim (or_cases (not (eqb s.home t.home) || (id_before s t && stamp_before s t)) (id_before t s && stamp_before t s) h) [
-              | inr after ↦ inr (by_stamps b a t s at_b at_a (and_parts (id_before t s) (stamp_before t s) after).1)
-              | inl first ↦ elim (or_cases (not (eqb s.home t.home)) (id_before s t && stamp_before s t) first) [
-                | inl other ↦ absurd (both_ways _ (not-true _ other) (eq-eqb s.home t.home home))
-                | inr before ↦ inl (by_stamps a b s t at_a at_b (and_parts (id_before s t) (stamp_before s t) before).1)
-              ]
-            ]
 
     lesser : (a b : ℕ) (s t : Stamp) → stamp_at report a ≡ Some s → stamp_at report b ≡ Some t → s.home < t.home → IsOfLesserHome report a b
     lesser a b s t at_a at_b less =
@@ -189,19 +152,44 @@ module _ (script : Script) (report : Report) (holds : AllHold (replies_clause sc
           ]);
     }
 
--- The test that none precedes itself
+    module _ (acyclic : (r : ℕ) → ¬ RequestPrecedes report r r) where
+      never_itself : (r : ℕ) → precedence r r ≡ false
+      never_itself r = false_from_ne_true _ (λ h. acyclic r (way decided script report precedence same r r h))
 
-module _ (script : Script) (report : Report) (holds : AllHold (replies_clause script report)) (decided : IsDecided) (precedence : Test) (same : (a b : ℕ) → precedence a b ≡ request_precedes report a b) where
-  begun_within : (r : ℕ) → RequestPrecedes report r r → r < length report.replies
-  begun_within r h =
-      let there = both_there (precedes (given_pairs report)) (stamp_at report r) (stamp_at report r) (sym (same r r) ∙ tested decided script report precedence same r r h) in
-      let reply = reply_of script report holds r there.x there.first_is in
-      slice_get_within report.replies r reply.0 reply.1
+      -- Of requests that are there one is free
 
-  pub none_told : (b : Bool) (count : ℕ) → count ≡ length report.replies → MatchBool b ((r : ℕ) → r < count → precedence r r ≡ false) ((r : ℕ) × IsTrue (precedence r r))
-      → IsTrue b ↔ (AllHold (replies_clause script report) × NonePrecedesItself report)
-  none_told true count is h = (
-    λ _. (holds, λ r before. both_ways _ (h r (omega (arith, is, begun_within r before))) (tested decided script report precedence same r r before)),
-    λ _. refl,
-  )
-  none_told false count is h = (λ e. cc, λ both. absurd (both.1 h.0 (way decided script report precedence same h.0 h.0 h.1)))
+      record SomeFree (xs : List ℕ) : Type 0 where
+        pub m : ℕ
+        pub there : IsTrue (is_in m xs)
+        pub none : list_any (λ other. precedence other m) xs ≡ false
+
+      some_free : (x : ℕ) (xs : List ℕ) → SomeFree (x ∷ xs)
+      some_free x [] = record { m = x; there = or_left _ _ (eq-eqb x x refl); none = or_from _ _ (never_itself x) refl }
+      some_free x (y ∷ ys) =
+          let rest = some_free y ys in
+          elim (cases_Bool (precedence x rest.m)) [
+            | inr none ↦ record { m = rest.m; there = or_right (nat_eq rest.m x) _ rest.there; none = or_from _ _ none rest.none }
+            | inl before ↦ record {
+              m = x;
+              there = or_left _ _ (eq-eqb x x refl);
+              none = or_from _ _ (never_itself x) (false_from_ne_true _ (λ h. both_ways _ rest.none (any_more (λ other. precedence other x) (λ other. precedence other rest.m) (λ other g. transitive other x rest.m g before) (y ∷ ys) h)));
+            }
+          ]
+
+      -- so where none is free, none remains
+      pub none_left : (xs : List ℕ) → AllByRecursion (λ r. is_free precedence xs r ≡ false) xs → xs ≡ []
+      none_left [] h = refl
+      none_left (x ∷ xs) h =
+          let free = some_free x xs in
+          absurd (both_ways _ (all_at (λ r. is_free precedence (x ∷ xs) r ≡ false) (x ∷ xs) free.m h free.there) (not_from_false _ free.none))
+
+-- What is taken in turn doesn't precede itself
+
+module _ (report : Report) where
+  pub taken_itself : (taken start : List ℕ) → TakesAll report start taken → (r : ℕ) → IsTrue (is_in r start) → ¬ RequestPrecedes report r r
+  taken_itself [] start h r there before = absurd (let none : is_in r start ≡ false = ap (is_in r) h in both_ways _ none there)
+  taken_itself (x ∷ taken) start h r there before =
+      elim (cases_eq r x) [
+        | inl same ↦ all_at (λ other. ¬ RequestPrecedes report other x) start x h.0.free h.0.remains (subst (λ n. RequestPrecedes report n n) same before)
+        | inr other ↦ taken_itself taken (without_request x start) h.1 r (kept_in (λ n. not (eqb n x)) start r there (not_from_false _ (ne_eqb r x other))) before
+      ]

@@ -1,8 +1,8 @@
 -- The order, replayed request after request.
-use Rattle.std.proofs.Common.{◌≡◌, ℕ, zero, suc, ◌+◌, ◌<◌, Bool, true, false, List, [], ◌∷◌, take, get_or, length, IsTrue, Ok, Err, refl, sym, ap, ◌∙◌, subst, arith}
-use Rattle.std.specs.Prelude.{MatchBool}
+use Rattle.std.proofs.Common.{◌≡◌, ℕ, zero, suc, ◌+◌, ◌<◌, Bool, true, false, cond, eqb, List, [], ◌∷◌, ◌++◌, take, get_or, length, IsTrue, Ok, Err, refl, sym, ap, ◌∙◌, subst, arith}
+use Rattle.std.specs.Prelude.{MatchBool, nat_eq}
 use Rattle.std.specs.Cmp.Lexicographic.{pointwise}
-use Rattle.std.proofs.lemmas.Bool.{both_ways}
+use Rattle.std.proofs.lemmas.Bool.{both_ways, or_left, or_right, eq-eqb, ne_eqb, false_from_ne_true}
 use Rattle.order_witness.specs.Answers.{same_got}
 use Rattle.order_witness.proofs.SameRecords.{lists_tell, gots_tell}
 use Rattle.graph_ops.specs.PlainGraph.{PlainGraph, TxOutcome, graph_left}
@@ -11,8 +11,8 @@ use Rattle.program_defs.specs.declared.script.Script.{Script}
 use Rattle.report_rules.specs.declared.report.Report.{Report}
 use Rattle.report_rules.specs.declared.report.ReplyState.TheVariants.{Committed}
 use Rattle.proof_base.specs.Facts.{AllHold, BreaksFirstAt}
-use Rattle.report_rules.specs.Replay.{OutcomeMatchesReply, replay_from, graph_after}
-use Rattle.report_rules.specs.Lookups.{request_at}
+use Rattle.report_rules.specs.Replay.{OutcomeMatchesReply, replay_from, graph_after, graph_before}
+use Rattle.report_rules.specs.Lookups.{is_in, request_at}
 use Rattle.order_witness.specs.Replayed.{ComesToReply, GivesAnswers, TellsOf}
 
 -- what committed replies tell are their answers
@@ -71,3 +71,19 @@ module _ (script : Script) (report : Report) where
         let same : i + 1 ≡ suc i = omega arith in
         subst (λ n. BreaksFirstAt (replay_from start script report order) n) (sym same)
         (next_breaks start order i d lt so_far.hold (λ fact. told (subst (λ g. ComesToReply g script report r) (sym so_far.left) (subst (λ x. ComesToReply (graph_through start (take i order)) script report x) (sym is) fact))))
+
+-- The graph at a request's place, if the requests before it are others
+
+module _ (script : Script) (report : Report) (r : ℕ) where
+  not_this : (x : ℕ) (before : List ℕ) → is_in r (x ∷ before) ≡ false → (eqb x r ≡ false) × (is_in r before ≡ false)
+  not_this x before none = (
+    ne_eqb x r (λ same. both_ways _ none (or_left _ _ (eq-eqb r x (sym same)))),
+    false_from_ne_true _ (λ there. both_ways _ none (or_right (nat_eq r x) _ there)),
+  )
+
+  pub graph_here : (graph : PlainGraph) (before after : List ℕ) → is_in r before ≡ false → graph_before r graph script (before ++ r ∷ after) ≡ graph_through script report graph before
+  graph_here graph [] after none = ap (λ b. cond b graph (graph_before r (graph_after graph (request_at script r)) script after)) (eq-eqb r r refl)
+  graph_here graph (x ∷ before) after none =
+      let parts = not_this x before none in
+      ap (λ b. cond b graph (graph_before r (graph_after graph (request_at script x)) script (before ++ r ∷ after))) parts.0
+      ∙ graph_here (graph_after graph (request_at script x)) before after parts.1

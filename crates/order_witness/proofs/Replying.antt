@@ -16,7 +16,8 @@ use Rattle.proof_base.proofs.Lists.{append-step}
 use Rattle.order_witness.specs.Begun.{StampsDiffer}
 use Rattle.order_witness.proofs.Testing.{passes_at}
 
-hold_front : (facts more : Facts) → AllHold (facts ++ more) → AllHold facts
+-- facts at the front of others
+pub hold_front : (facts more : Facts) → AllHold (facts ++ more) → AllHold facts
 hold_front [] more h = tt
 hold_front (Fact ∷ facts) more h = (h.0, hold_front facts more h.1)
 
@@ -25,7 +26,7 @@ one_value x y e = cc
 
 module _ {A : Type 0} (F : List A → A → Type 0) where
   -- the fact at a place
-  fact_of : (before xs : List A) (i : ℕ) (x : A) → AllHold (facts_after before F xs) → slice_get xs i ≡ Some x → F (before ++ take i xs) x
+  pub fact_of : (before xs : List A) (i : ℕ) (x : A) → AllHold (facts_after before F xs) → slice_get xs i ≡ Some x → F (before ++ take i xs) x
   fact_of before [] i x h at = cc
   fact_of before (y ∷ xs) zero x h at = subst (F (before ++ [])) (one_value y x at) (subst (λ b. F b y) (sym (append-nil before)) h.0)
   fact_of before (y ∷ xs) (suc i) x h at = subst (λ b. F b x) (sym (append-step before y (take i xs))) (fact_of (before ++ y ∷ []) xs i x h.1 at)

@@ -137,17 +137,19 @@ module _ (strict : IsStrict) (replies : List Reply) where
   with_stamps : (a b : ℕ) (s t : Stamp) → stamp_in replies a ≡ Some s → stamp_in replies b ≡ Some t → IsTrue (request_comes_before replies a b) → IsTrue (comes_before s t)
   with_stamps a b s t at_a at_b h = subst (λ o. IsTrue (are_both comes_before (Some s) o)) at_b (subst (λ o. IsTrue (are_both comes_before o (stamp_in replies b))) at_a h)
 
-  pub stamps_apart : (entries sorted : List (ℕ × ℕ × ℕ × ℕ)) (places : List ℕ) → ((place : ℕ) (stamp : Stamp) → stamp_in replies place ≡ Some stamp → Contains (map (λ (one : ℕ × ℕ × ℕ × ℕ). one.3) entries) place)
-      → IsPermutation entries sorted → places ≡ map (λ (one : ℕ × ℕ × ℕ × ℕ). one.3) sorted → AreInTurnTo (request_comes_before replies) places (length places) → AreStampsApart replies
-  stamps_apart entries sorted places has moved is in_turn a b s t other at_a at_b =
+  pub stamps_apart : (places : List ℕ) → ((place : ℕ) (stamp : Stamp) → stamp_in replies place ≡ Some stamp → Contains places place)
+      → AreInTurnTo (request_comes_before replies) places (length places) → AreStampsApart replies
+  stamps_apart places there in_turn a b s t other at_a at_b =
       elim (two_of (request_comes_before replies) requests_so places in_turn a b (there a s at_a) (there b t at_b) other) [
         | inl first ↦ apart_first s t (with_stamps a b s t at_a at_b first)
         | inr second ↦ apart_second s t (with_stamps b a t s at_b at_a second)
       ]
-    where
-      there : (place : ℕ) (stamp : Stamp) → stamp_in replies place ≡ Some stamp → Contains places place
-      there place stamp at =
-          subst (λ (ps : List ℕ). Contains ps place) (sym is) (Contains-permutation (map (λ (one : ℕ × ℕ × ℕ × ℕ). one.3) entries) (map (λ (one : ℕ × ℕ × ℕ × ℕ). one.3) sorted) place (IsPermutation-map (λ (one : ℕ × ℕ × ℕ × ℕ). one.3) entries sorted moved) (has place stamp at))
+
+-- the places that are left of what is sorted
+pub places_moved : (entries sorted : List (ℕ × ℕ × ℕ × ℕ)) (places : List ℕ) → IsPermutation entries sorted → places ≡ map (λ (one : ℕ × ℕ × ℕ × ℕ). one.3) sorted
+    → (place : ℕ) → Contains (map (λ (one : ℕ × ℕ × ℕ × ℕ). one.3) entries) place → Contains places place
+places_moved entries sorted places moved is place has =
+    subst (λ (ps : List ℕ). Contains ps place) (sym is) (Contains-permutation (map (λ (one : ℕ × ℕ × ℕ × ℕ). one.3) entries) (map (λ (one : ℕ × ℕ × ℕ × ℕ). one.3) sorted) place (IsPermutation-map (λ (one : ℕ × ℕ × ℕ × ℕ). one.3) entries sorted moved) has)
 
 -- Sessions
 

@@ -1,17 +1,23 @@
 -- Answers that compare equal are equal.
-use Rattle.std.proofs.Common.{◌≡◌, ℕ, Bool, true, false, ◌&&◌, IsTrue, List, [], ◌∷◌, Option, Some, None, length, eqb, refl, ap, ◌∙◌, arith}
+use Rattle.std.proofs.Common.{◌≡◌, ℕ, Bool, true, false, ◌&&◌, IsTrue, List, [], ◌∷◌, Option, Some, None, length, eqb, refl, sym, ap, subst, ◌∙◌, arith}
+use Rattle.std.specs.Prelude.{MatchBool}
 use Rattle.std.specs.Cmp.{eq_by_cmp_equiv}
 use Rattle.std.specs.Cmp.Lexicographic.{pointwise, nat_list_cmp_total}
 use Rattle.std.specs.List.{list_all, zip}
 use Rattle.std.specs.Option.{option_eq}
-use Rattle.std.proofs.lemmas.Bool.{and_parts, and_from, eqb-true, eq-eqb}
+use Rattle.std.proofs.lemmas.Bool.{and_parts, and_from, both_ways, eqb-true, eq-eqb}
 use Rattle.weave_data.specs.Names.{same_name, one_name}
 use Rattle.weave_data.specs.declared.name.Name.{Name}
 use Rattle.graph_ops.specs.declared.record.Record.{Record}
 use Rattle.graph_ops.specs.declared.record.Edge.{Edge}
 use Rattle.graph_ops.specs.declared.tx.Got.{Got}
 use Rattle.graph_ops.specs.contracts.record.RecordPartialEq.TheImpl as record_eq
-use Rattle.order_witness.specs.Answers.{same_names, same_edge, same_record, same_got}
+use Rattle.graph_ops.specs.PlainGraph.{PlainGraph}
+use Rattle.program_defs.specs.PlainAnswer.{IsPlainAnswer}
+use Rattle.program_defs.specs.declared.program.Program.{Program}
+use Rattle.program_defs.specs.declared.program.Answer.{Answer}
+use Rattle.program_defs.specs.declared.program.Answer.TheVariants.{Shown, Reached, Found, Walk}
+use Rattle.order_witness.specs.Answers.{same_names, same_edge, same_record, same_got, same_truth, same_outcome}
 
 -- a test that tells whether two values are one
 pub record Tells {A : Type 0} (test : A → A → Bool) : Type 0 where
@@ -78,7 +84,7 @@ module _ {A : Type 0} (test : A → A → Bool) (tells : Tells test) where
       name_itself : (x : Name) → IsTrue (same_name x x)
       name_itself x = (eq_by_cmp_equiv nat_list_cmp_total).refl x
 
-names_tell : Tells same_name
+pub names_tell : Tells same_name
 names_tell = record { one = one_name; itself = λ x. (eq_by_cmp_equiv nat_list_cmp_total).refl x }
 
 maps_tell : Tells same_names
@@ -119,3 +125,53 @@ derived_state None None = refl
 derived_state None (Some y) = refl
 derived_state (Some x) None = refl
 derived_state (Some x) (Some y) = refl
+
+-- Answers of programs
+
+truth_one : (a b : Bool) → IsTrue (same_truth a b) → a ≡ b
+truth_one true b h = sym h
+truth_one false true h = cc
+truth_one false false h = refl
+
+truth_itself : (a : Bool) → IsTrue (same_truth a a)
+truth_itself true = refl
+truth_itself false = refl
+
+walks_tell : Tells (option_eq (pointwise same_name))
+walks_tell = options_tell (pointwise same_name) (lists_tell same_name names_tell)
+
+outcome_one : (a b : Answer) → IsTrue (same_outcome a b) → a ≡ b
+outcome_one (Shown a) (Shown b) h = ap Shown ((options_tell same_record records_tell).one a b h)
+outcome_one (Shown a) (Reached b) h = cc
+outcome_one (Shown a) (Found b) h = cc
+outcome_one (Shown a) (Walk b) h = cc
+outcome_one (Reached a) (Shown b) h = cc
+outcome_one (Reached a) (Reached b) h = ap Reached (truth_one a b h)
+outcome_one (Reached a) (Found b) h = cc
+outcome_one (Reached a) (Walk b) h = cc
+outcome_one (Found a) (Shown b) h = cc
+outcome_one (Found a) (Reached b) h = cc
+outcome_one (Found a) (Found b) h = ap Found ((lists_tell same_name names_tell).one a b h)
+outcome_one (Found a) (Walk b) h = cc
+outcome_one (Walk a) (Shown b) h = cc
+outcome_one (Walk a) (Reached b) h = cc
+outcome_one (Walk a) (Found b) h = cc
+outcome_one (Walk a) (Walk b) h = ap Walk (walks_tell.one a b h)
+
+outcome_itself : (a : Answer) → IsTrue (same_outcome a a)
+outcome_itself (Shown a) = (options_tell same_record records_tell).itself a
+outcome_itself (Reached a) = truth_itself a
+outcome_itself (Found a) = (lists_tell same_name names_tell).itself a
+outcome_itself (Walk a) = walks_tell.itself a
+
+pub outcomes_tell : Tells same_outcome
+outcomes_tell = record { one = outcome_one; itself = outcome_itself }
+
+-- since a program has one plain answer at most, the comparison says whether the reply has it
+pub answered : ((graph : PlainGraph) (program : Program) (a b : Answer) → IsPlainAnswer graph program a → IsPlainAnswer graph program b → a ≡ b)
+    → (graph : PlainGraph) (program : Program) (found said : Answer) → IsPlainAnswer graph program found → MatchBool (same_outcome found said) (IsPlainAnswer graph program said) (¬ IsPlainAnswer graph program said)
+answered one graph program found said is = by_test (same_outcome found said) refl
+  where
+    by_test : (b : Bool) → same_outcome found said ≡ b → MatchBool b (IsPlainAnswer graph program said) (¬ IsPlainAnswer graph program said)
+    by_test true e = subst (IsPlainAnswer graph program) (outcome_one found said e) is
+    by_test false e = λ too. both_ways _ e (subst (λ (a : Answer). IsTrue (same_outcome found a)) (one graph program found said is too) (outcome_itself found))

@@ -1,6 +1,6 @@
 -- What the code tests, and what the clauses say.
-use Rattle.std.proofs.Common.{◌≡◌, ℕ, zero, suc, Bool, not, ◌||◌, ◌&&◌, IsTrue, List, [], ◌∷◌, Option, Some, None, refl, sym, ◌∙◌, subst}
-use Rattle.std.specs.Prelude.{slice_get, is_some, nat_lt, ◌↔◌}
+use Rattle.std.proofs.Common.{◌≡◌, ℕ, zero, suc, ◌<◌, Bool, true, false, get_or, length, ap, arith, not, ◌||◌, ◌&&◌, IsTrue, List, [], ◌∷◌, Option, Some, None, refl, sym, ◌∙◌, subst}
+use Rattle.std.specs.Prelude.{slice_get, nat_lt, ◌↔◌}
 use Rattle.std.specs.List.{list_all, AllByRecursion}
 use Rattle.std.proofs.lemmas.Bool.{and_parts, and_from, both_ways, not-true, not_from_false, false_from_ne_true}
 use Rattle.vector_stamp.specs.declared.clock.Stamp.{Stamp}
@@ -16,13 +16,16 @@ use Rattle.report_rules.specs.declared.report.Reply.{Reply}
 use Rattle.report_rules.specs.declared.report.Pair.{Pair}
 use Rattle.report_rules.specs.declared.report.ReplyState.{ReplyState}
 use Rattle.report_rules.specs.declared.report.ReplyState.TheVariants.{Unbegun, Begun, Committed, Conflict, Refused, Finished}
-use Rattle.program_defs.specs.Works.{is_change}
-use Rattle.report_rules.specs.Lookups.{is_some_and, are_both, AreBoth, request_at, reply_at, stamp_at, same_session, names_vertex, work_names, number_of, is_committed, given_pairs, RequestPrecedes}
+use Rattle.program_defs.specs.Visits.{IsVisited}
+use Rattle.report_rules.specs.Replay.{graph_at_place}
+use Rattle.report_rules.specs.Lookups.{are_both, AreBoth, request_at, reply_at, stamp_at, same_session, names_vertex, given_pairs, RequestPrecedes}
 use Rattle.report_rules.specs.RightReport.{IsListedInOrder, IsConflictInPlace, conflicts_clause, IsPairInPlace, MayBeLaterAt, is_committed_and_names}
 use Rattle.proof_base.specs.Facts.{AllHold, facts_of_each}
 use Rattle.order_witness.specs.Closure.{Test}
 use Rattle.order_witness.specs.Begun.{request_precedes, is_request_before, is_listed_in_order, is_conflict_in_place}
-use Rattle.order_witness.specs.Judgement.{has_no_program, has_few_operations, has_short_transactions}
+use Rattle.order_witness.specs.Judgement.{has_numbered_operations, is_numbered_work}
+use Rattle.order_witness.specs.Refusals.{Marks}
+use Rattle.order_witness.specs.Visited.{IsMarkedPair, MarksVisit, is_pair_in_place, may_be_later}
 
 -- Precedence
 
@@ -139,51 +142,64 @@ module _ (has : (pairs : List Given) (a b : Stamp) → IsTrue (stamp_before a b)
   pub conflicts_hold : IsTrue (list_all (λ (reply : Reply). is_conflict_in_place script report (is_request_before report) reply.request reply.state) report.replies) → AllHold (conflicts_clause script report)
   conflicts_hold h = all_facts report.replies h
 
--- each request of a script without programs is a transaction
-pub is_changes : (script : Script) → IsTrue (has_no_program script) → (r : ℕ) (request : Request) → request_at script r ≡ Some request → IsTrue (is_change request.work)
-is_changes script none r request at = passes_at (λ (x : Request). is_change x.work) script.requests r request none at
-
 -- Pairs
 
-module _ (script : Script) (report : Report) where
-  -- the test of a pair, for a script without programs
-  abbrev pub is_pair_in_place : Pair → Bool
-  is_pair_in_place pair =
-      are_both unordered (stamp_at report pair.earlier) (stamp_at report pair.later)
-      && is_committed_and_names script report pair.vertex pair.earlier
-      && is_committed_and_names script report pair.vertex pair.later
+-- a mark that holds, and a fact that its mark has to say
+mark_holds : (mark : Bool) (Fact : Type 0) → Marks mark Fact → IsTrue mark → Fact
+mark_holds true Fact marks h = marks
+mark_holds false Fact marks h = cc
 
-  named_later : (v : Name) (r : ℕ) (work : Work) (state : ReplyState) → IsTrue (is_committed_and_names script report v r) → IsTrue (work_names v work) → MayBeLaterAt script report v r work state
-  named_later v r (Change ops) state h names = h
-  named_later v r (Look program) state h names = cc
+marks_so : (mark : Bool) (Fact : Type 0) → Marks mark Fact → Fact → IsTrue mark
+marks_so true Fact marks fact = refl
+marks_so false Fact marks fact = absurd (marks fact)
 
-  both_later : (v : Name) (r : ℕ) (request : Option Request) (reply : Option Reply) → IsTrue (is_committed_and_names script report v r) → IsTrue (is_some_and (λ (x : Request). work_names v x.work) request) → IsTrue (is_some_and (λ (x : Reply). is_some (number_of x.state)) reply)
-      → AreBoth (λ (request : Request) (reply : Reply). MayBeLaterAt script report v r request.work reply.state) request reply
-  both_later v r None reply h names is = cc
-  both_later v r (Some request) None h names is = cc
-  both_later v r (Some request) (Some reply) h names is = named_later v r request.work reply.state h names
+module _ (script : Script) (report : Report) (v : Name) (r : ℕ) (mark : Bool) where
+  later_fact : (work : Work) (state : ReplyState) → MarksVisit (graph_at_place script report r) v work state mark → IsTrue (may_be_later script report v r mark work state) → MayBeLaterAt script report v r work state
+  later_fact (Change ops) state marks h = h
+  later_fact (Look program) Unbegun marks h = tt
+  later_fact (Look program) Begun marks h = tt
+  later_fact (Look program) (Committed number answers) marks h = tt
+  later_fact (Look program) (Conflict vertex newer) marks h = tt
+  later_fact (Look program) (Refused op reason at) marks h = tt
+  later_fact (Look program) (Finished answer) marks h = mark_holds mark (IsVisited (graph_at_place script report r) program v) marks h
 
-  pub pair_fact : (pair : Pair) → IsTrue (is_pair_in_place pair) → IsPairInPlace script report pair
-  pair_fact pair h =
+  later_test : (work : Work) (state : ReplyState) → MarksVisit (graph_at_place script report r) v work state mark → MayBeLaterAt script report v r work state → IsTrue (may_be_later script report v r mark work state)
+  later_test (Change ops) state marks h = h
+  later_test (Look program) Unbegun marks h = refl
+  later_test (Look program) Begun marks h = refl
+  later_test (Look program) (Committed number answers) marks h = refl
+  later_test (Look program) (Conflict vertex newer) marks h = refl
+  later_test (Look program) (Refused op reason at) marks h = refl
+  later_test (Look program) (Finished answer) marks h = marks_so mark (IsVisited (graph_at_place script report r) program v) marks h
+
+  both_fact : (o : Option Request) (p : Option Reply) → ((request : Request) (reply : Reply) → o ≡ Some request → p ≡ Some reply → MarksVisit (graph_at_place script report r) v request.work reply.state mark)
+      → IsTrue (are_both (λ (request : Request) (reply : Reply). may_be_later script report v r mark request.work reply.state) o p) → AreBoth (λ (request : Request) (reply : Reply). MayBeLaterAt script report v r request.work reply.state) o p
+  both_fact None p marks h = cc
+  both_fact (Some request) None marks h = cc
+  both_fact (Some request) (Some reply) marks h = later_fact request.work reply.state (marks request reply refl refl) h
+
+  both_test : (o : Option Request) (p : Option Reply) → ((request : Request) (reply : Reply) → o ≡ Some request → p ≡ Some reply → MarksVisit (graph_at_place script report r) v request.work reply.state mark)
+      → AreBoth (λ (request : Request) (reply : Reply). MayBeLaterAt script report v r request.work reply.state) o p → IsTrue (are_both (λ (request : Request) (reply : Reply). may_be_later script report v r mark request.work reply.state) o p)
+  both_test None p marks h = absurd h
+  both_test (Some request) None marks h = absurd h
+  both_test (Some request) (Some reply) marks h = later_test request.work reply.state (marks request reply refl refl) h
+
+module _ (script : Script) (report : Report) (pair : Pair) (mark : Bool) (marks : IsMarkedPair script report pair mark) where
+  pub pair_fact : IsTrue (is_pair_in_place script report pair mark) → IsPairInPlace script report pair
+  pair_fact h =
       let parts = and_parts (are_both unordered (stamp_at report pair.earlier) (stamp_at report pair.later) && is_committed_and_names script report pair.vertex pair.earlier) _ h in
       let first = and_parts (are_both unordered (stamp_at report pair.earlier) (stamp_at report pair.later)) _ parts.0 in
-      let later = and_parts (is_committed report pair.later) (names_vertex script pair.later pair.vertex) parts.1 in
-      (first.0, first.1, both_later pair.vertex pair.later (request_at script pair.later) (reply_at report pair.later) parts.1 later.1 later.0)
+      (first.0, first.1, both_fact script report pair.vertex pair.later mark (request_at script pair.later) (reply_at report pair.later) marks parts.1)
 
-  changed_later : (v : Name) (r : ℕ) (work : Work) (state : ReplyState) → IsTrue (is_change work) → MayBeLaterAt script report v r work state → IsTrue (is_committed_and_names script report v r)
-  changed_later v r (Change ops) state change h = h
-  changed_later v r (Look program) state change h = cc
+  pub pair_test : IsPairInPlace script report pair → IsTrue (is_pair_in_place script report pair mark)
+  pair_test h = and_from _ _ (and_from _ _ h.0 h.1) (both_test script report pair.vertex pair.later mark (request_at script pair.later) (reply_at report pair.later) marks h.2)
 
-  later_test : (v : Name) (r : ℕ) (request : Option Request) (reply : Option Reply) → ((x : Request) → request ≡ Some x → IsTrue (is_change x.work))
-      → AreBoth (λ (request : Request) (reply : Reply). MayBeLaterAt script report v r request.work reply.state) request reply → IsTrue (is_committed_and_names script report v r)
-  later_test v r None reply change h = absurd h
-  later_test v r (Some request) None change h = absurd h
-  later_test v r (Some request) (Some reply) change h = changed_later v r request.work reply.state (change request refl) h
+-- the work of each request has few enough operations to be numbered
+pub is_numbered : (script : Script) → IsTrue (has_numbered_operations script) → (r : ℕ) (request : Request) → request_at script r ≡ Some request → IsTrue (is_numbered_work request.work)
+is_numbered script numbered r request at = passes_at (λ (x : Request). is_numbered_work x.work) script.requests r request numbered at
 
-  pub pair_test : IsTrue (has_no_program script) → (pair : Pair) → IsPairInPlace script report pair → IsTrue (is_pair_in_place pair)
-  pair_test none pair h =
-      and_from _ _ (and_from _ _ h.0 h.1) (later_test pair.vertex pair.later (request_at script pair.later) (reply_at report pair.later) (is_changes script none pair.later) h.2)
-
--- each transaction of a script of short ones is short
-pub is_short : (script : Script) → IsTrue (has_short_transactions script) → (r : ℕ) (request : Request) → request_at script r ≡ Some request → IsTrue (has_few_operations request.work)
-is_short script short r request at = passes_at (λ (x : Request). has_few_operations x.work) script.requests r request short at
+-- what is at a place
+pub got_at : {A : Type 0} (xs : List A) (i : ℕ) (x : A) → i < length xs → x ≡ get_or xs i x → slice_get xs i ≡ Some x
+got_at [] i x within is = absurd (omega (arith, within))
+got_at (y ∷ xs) zero x within is = ap Some (sym is)
+got_at (y ∷ xs) (suc i) x within is = got_at xs i x (omega (arith, within)) is

@@ -6,8 +6,11 @@ pub mod Answers
 pub mod Replayed
 pub mod Refusals
 pub mod Choices
+pub mod Heads
 pub mod Places
 pub mod ByNumber
 pub mod Rising
 pub mod Seen
 pub mod Turns
+pub mod Paired
+pub mod Visited

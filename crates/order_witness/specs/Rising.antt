@@ -1,5 +1,5 @@
 -- Requests in the order of their stamps or of their sessions, by tests of neighbours. No public contract cites it.
-use Rattle.std.specs.Prelude.{◌≡◌, ◌≢◌, ℕ, ◌+◌, ◌<◌, Bool, ◌&&◌, ◌||◌, nat_lt, ◌==◌, IsTrue, List, [], ◌∷◌, length, Option, Some, None, slice_get, slice_index}
+use Rattle.std.specs.Prelude.{◌≡◌, ◌≢◌, ℕ, ◌+◌, ◌<◌, Bool, ◌&&◌, ◌||◌, nat_lt, ◌==◌, IsTrue, Contains, List, [], ◌∷◌, length, Option, Some, None, slice_get, slice_index}
 use Rattle.vector_stamp.specs.declared.clock.Stamp.{Stamp}
 use Rattle.vector_stamp.specs.Order.{own_count, id_before, stamp_before, are_apart}
 use Rattle.program_defs.specs.declared.script.Script.{Script}
@@ -32,6 +32,14 @@ stamp_entry place (Some stamp) = (stamp.home, stamp.clock.epoch, own_count stamp
 abbrev pub session_entry : ℕ → Option Request → List (ℕ × ℕ)
 session_entry place None = []
 session_entry place (Some request) = (request.session, place) ∷ []
+
+-- the places of the begun requests are among these
+abbrev pub HasBegunPlaces : List Reply → List ℕ → Type 0
+HasBegunPlaces replies places = (place : ℕ) (stamp : Stamp) → stamp_in replies place ≡ Some stamp → Contains places place
+
+-- the places of the requests that have replies are among these
+abbrev pub HasRequestPlaces : Script → List Reply → List ℕ → Type 0
+HasRequestPlaces script replies places = (place : ℕ) (request : Request) → place < length replies → request_at script place ≡ Some request → Contains places place
 
 -- each of the first requests but one comes before the next one
 abbrev pub AreInTurnTo : (ℕ → ℕ → Bool) → List ℕ → ℕ → Type 0

@@ -44,7 +44,8 @@ impl ByNumber {
     /// Puts the item at the end of the number's list, if the number is below the bound.
     pub fn put(&mut self, number: u64, item: usize) -> Result<(), AllocError>
         ensures size { length self.new ≡ length self.old }
-        ensures after { OnOk result ((n : ℕ) → n < length self.old → list_at self.new n ≡ list_at self.old n ++ (if number == n then item ∷ [] else [])) }
+        ensures after { OnOk result ((n : ℕ) → n < length self.old
+            → list_at self.new n ≡ list_at self.old n ++ (if number == n then item ∷ [] else [])) }
     {
         if number as usize >= self.lists.len() {
             return Ok(());

@@ -1,19 +1,18 @@
 //! The clause on conflicts: the newer request is a committed transaction of another session, both name the vertex, and
 //! the aborted one precedes it.
-ghost use Rattle.std.specs.Prelude.{◌≡◌, ◌&&◌, ℕ, not, IfOk};
+ghost use Rattle.std.specs.Prelude.{◌≡◌, ◌&&◌, not, IfOk};
 ghost use Rattle.std.specs.List.{list_all};
 ghost use Rattle.report_rules.specs.declared.report.Reply.{Reply};
 ghost use Rattle.proof_base.specs.Facts.{AllHold};
 ghost use Rattle.report_rules.specs.RightReport as right;
 ghost use Rattle.report_rules.specs.Lookups as told;
-ghost use Rattle.order_witness.specs.Bits.{leads};
+ghost use Rattle.order_witness.specs.Paired.{IsPrecedenceOf};
 ghost use Rattle.order_witness.specs.Begun.{request_precedes, is_conflict_in_place, is_request_before};
 ghost use Rattle.order_witness.specs.Judgement.{IsFirstFault};
 
+use crate::paired::{Precedence, judged_precedence, leads};
 use crate::pairs::is_committed_and_names;
-use crate::precedence::precedence_of;
-use crate::relation::Relation;
-use crate::words::{names_vertex, same_session, stamp_at};
+use crate::words::{is_request_before, names_vertex, same_session};
 use program_defs::Script;
 use report_rules::{ReplyState, Report};
 use std::alloc::{AllocError, Global};
@@ -22,7 +21,7 @@ use weave_data::Name;
 
 /// The first reply line that breaks the clause, from 1, where the clause on replies holds.
 ///
-/// Precedence is found only if the stamps of a conflict leave its two requests open.
+/// Precedence by the pairs is found only if the stamps of a conflict leave its two requests open.
 pub fn first_fault(
     alloc: Global,
     script: &Script,
@@ -35,12 +34,13 @@ pub fn first_fault(
     if hold_by_stamps(script, report) {
         return Ok(None);
     }
-    let precedence = precedence_of(alloc, report)?;
+    let precedence = judged_precedence(alloc, script, report)?;
     Ok(first_out_of_place(script, report, &precedence))
 }
 
 fn hold_by_stamps(script: &Script, report: &Report) -> bool
-    ensures { result ≡ list_all (λ (reply : Reply). is_conflict_in_place script.now report.now (is_request_before report.now) reply.request reply.state) report.now.replies }
+    ensures { result ≡ list_all (λ (reply : Reply). is_conflict_in_place script.now report.now
+        (is_request_before report.now) reply.request reply.state) report.now.replies }
 {
     report.replies.as_slice().iter().all(|reply| is_in_place_by_stamps(
         script,
@@ -56,7 +56,7 @@ fn is_in_place_by_stamps(script: &Script, report: &Report, request: u32, state: 
     match state {
         ReplyState::Conflict { vertex, newer } => {
             may_be_newer(script, report, request, *vertex, *newer)
-                && is_request_before(report, request, *newer)
+                && is_request_before(report, request as usize, *newer as usize)
         }
         _ => true,
     }
@@ -64,24 +64,16 @@ fn is_in_place_by_stamps(script: &Script, report: &Report, request: u32, state: 
 
 // Whether the newer request is a committed transaction of another session, and both name the vertex.
 fn may_be_newer(script: &Script, report: &Report, request: u32, vertex: Name, newer: u32) -> bool
-    ensures { result ≡ (right.is_committed_and_names script.now report.now vertex newer && not (told.same_session script.now request newer) && told.names_vertex script.now request vertex) }
+    ensures { result ≡ (right.is_committed_and_names script.now report.now vertex newer
+        && not (told.same_session script.now request newer) && told.names_vertex script.now request vertex) }
 {
     is_committed_and_names(script, report, vertex, newer)
         && !same_session(script, request, newer)
         && names_vertex(script, request, vertex)
 }
 
-fn is_request_before(report: &Report, a: u32, b: u32) -> bool
-    ensures { result ≡ is_request_before report.now a b }
-{
-    match (stamp_at(report, a), stamp_at(report, b)) {
-        (Some(a), Some(b)) => a.is_before(&b),
-        _ => false,
-    }
-}
-
-fn first_out_of_place(script: &Script, report: &Report, precedence: &Relation) -> Option<u64>
-    requires { (a b : ℕ) → leads precedence.now a b ≡ request_precedes report.now a b }
+fn first_out_of_place(script: &Script, report: &Report, precedence: &Precedence) -> Option<u64>
+    requires { IsPrecedenceOf report.now precedence.now }
     ensures { IsFirstFault (right.conflicts_clause script.now report.now) result }
 {
     precedence_is_decided();
@@ -97,16 +89,17 @@ fn first_out_of_place(script: &Script, report: &Report, precedence: &Relation) -
 fn is_in_place(
     script: &Script,
     report: &Report,
-    precedence: &Relation,
+    precedence: &Precedence,
     request: u32,
     state: &ReplyState,
 ) -> bool
-    ensures { result ≡ is_conflict_in_place script.now report.now (leads precedence.now) request state.now }
+    requires { IsPrecedenceOf report.now precedence.now }
+    ensures { result ≡ is_conflict_in_place script.now report.now (request_precedes report.now) request state.now }
 {
     match state {
         ReplyState::Conflict { vertex, newer } => {
             may_be_newer(script, report, request, *vertex, *newer)
-                && precedence.leads(request as usize, *newer as usize)
+                && leads(precedence, report, request, *newer)
         }
         _ => true,
     }

@@ -1,5 +1,5 @@
 //! The judge of reports.
-ghost use Rattle.std.specs.Prelude.{◌≡◌, ◌↔◌, ℕ, IsTrue, IfOk};
+ghost use Rattle.std.specs.Prelude.{◌≡◌, ◌↔◌, ℕ, false, IsTrue, IfOk, replicate};
 ghost use Rattle.report_rules.specs.declared.report.Clause.{Clause};
 ghost use Rattle.report_rules.specs.RightReport.{BreaksFirst, IsRightReport};
 ghost use Rattle.order_witness.specs.Judgement as judgement;
@@ -19,36 +19,23 @@ pub enum Judged {
     No { clause: Clause, place: u64 },
 }
 
-/// Whether each request of the script is a transaction.
-pub fn has_no_program(script: &Script) -> bool
-    ensures { result ≡ judgement.has_no_program script.now }
-{
-    script
-        .requests
-        .as_slice()
-        .iter()
-        .all(|request| matches!(request.work, Work::Change(_)))
-}
-
-/// Whether each transaction has at most 64 operations, as in every script that is read.
-pub fn has_short_transactions(script: &Script) -> bool
-    ensures { result ≡ judgement.has_short_transactions script.now }
+/// Whether each transaction has fewer than 2^32 operations, which a reply numbers with 32 bits.
+pub fn has_numbered_operations(script: &Script) -> bool
+    ensures { result ≡ judgement.has_numbered_operations script.now }
 {
     script
         .requests
         .as_slice()
         .iter()
         .all(|request| match &request.work {
-            Work::Change(ops) => ops.as_slice().len() <= 64,
+            Work::Change(ops) => (ops.as_slice().len() as u64) < 4_294_967_296,
             Work::Look(_) => true,
         })
 }
 
-/// Whether the report is right for the script. The script must have no program, and no transaction of more than
-/// 64 operations.
+/// Whether the report is right for the script. Each transaction must have fewer than 2^32 operations, as in every script that is read.
 pub fn judge_report(alloc: Global, script: &Script, report: &Report) -> Result<Judged, AllocError>
-    requires programs { IsTrue (judgement.has_no_program script.now) }
-    requires short { IsTrue (judgement.has_short_transactions script.now) }
+    requires { IsTrue (judgement.has_numbered_operations script.now) }
     ensures yes { IfOk result (λ judged. (judged ≡ Judged.Yes) ↔ IsRightReport script.now report.now) }
     ensures no { IfOk result (λ judged. (clause : Clause) (place : ℕ) → (judged ≡ Judged.No clause place) ↔ BreaksFirst script.now report.now clause place) }
 {
@@ -58,8 +45,7 @@ pub fn judge_report(alloc: Global, script: &Script, report: &Report) -> Result<J
 }
 
 fn first_clause(alloc: Global, script: &Script, report: &Report) -> Result<Judged, AllocError>
-    requires programs { IsTrue (judgement.has_no_program script.now) }
-    requires short { IsTrue (judgement.has_short_transactions script.now) }
+    requires { IsTrue (judgement.has_numbered_operations script.now) }
     ensures { IfOk result (judgement.IsJudgement script.now report.now) }
 {
     if let Some(place) = replies::first_fault(alloc, script, report)? {
@@ -71,10 +57,11 @@ fn first_clause(alloc: Global, script: &Script, report: &Report) -> Result<Judge
     if let Some(place) = order::first_fault(alloc, script, report)? {
         return Ok(no(Clause::Iii, place));
     }
-    if let Some(place) = replay::first_fault(alloc, script, report)? {
+    let mut marks = no_marks(alloc, report.pairs.as_slice().len())?;
+    if let Some(place) = replay::first_fault(alloc, script, report, &mut marks)? {
         return Ok(no(Clause::Iv, place));
     }
-    if let Some(place) = pairs::first_fault(script, report) {
+    if let Some(place) = pairs::first_fault(script, report, marks.as_slice()) {
         return Ok(no(Clause::V, place));
     }
     if let Some(place) = conflicts::first_fault(alloc, script, report)? {
@@ -87,6 +74,12 @@ fn first_clause(alloc: Global, script: &Script, report: &Report) -> Result<Judge
         return Ok(no(Clause::Viii, place));
     }
     Ok(Judged::Yes)
+}
+
+fn no_marks(alloc: Global, count: usize) -> Result<Vec<bool>, AllocError>
+    ensures { IfOk result (λ marks. marks.items ≡ replicate count false) }
+{
+    vec![in alloc; false; count]
 }
 
 fn no(clause: Clause, place: u64) -> Judged

@@ -1,8 +1,10 @@
 //! The judge of reports: whether a report is right for its script; and the printed order.
 //!
-//! `judge_report` answers `Yes` exactly for right reports, and else the first clause in order that breaks, with the first place at which it does. `order_of` gives the report's one printed order; `has_order` says whether its conditions hold. The script that is judged has no program and no long transaction, which `has_no_program` and `has_short_transactions` say.
+//! `judge_report` answers `Yes` exactly for right reports, and else the first clause in order that breaks, with the first place at which it does. `order_of` gives the report's one printed order; `has_order` says whether its conditions hold. The transactions of the script have fewer than 2^32 operations, which `has_numbered_operations` says; each program is asked once.
 //!
-//! A clause that speaks of each two requests is first judged by a sort or one walk, which takes time by the report's length but for a logarithm. Where that finds no proof that the clause holds, each two requests are compared, and precedence is found by a closure over all begun requests, with a bit for each two of them: so a report whose pairs form a cycle is judged as any other.
+//! A clause that speaks of each two requests is first judged by a sort or one walk, which takes time by the report's length but for a logarithm. Only if that doesn't show that the clause holds are each two requests compared, and precedence found by a closure over all begun requests, with a bit for each two of them: so a report whose pairs form a cycle is judged as any other. Conflicts that the stamps leave open are judged by the graph of the report's pairs, and by the closure only if a pair may not be added to it.
+//!
+//! The printed order needs no closure: of each gatekeeper's begun requests, in the order of their stamps, only the first one left can be next. It is free if no other such stamp is before its own and the earlier ends of its pairs had their turns.
 #![tactic(auto)]
 
 mod bits;
@@ -11,7 +13,10 @@ mod by_number;
 mod cases;
 #[cfg(test)]
 mod clause_tests;
+#[cfg(test)]
+mod conflict_tests;
 mod conflicts;
+mod heads;
 mod judge;
 mod listing;
 #[cfg(test)]
@@ -19,10 +24,13 @@ mod long_tests;
 mod marks;
 mod numbers;
 mod order;
+mod paired;
 mod pairs;
 mod places;
 mod precedence;
 mod printed;
+#[cfg(test)]
+mod program_tests;
 mod records;
 mod refusals;
 mod relation;
@@ -37,8 +45,10 @@ mod tables;
 mod tests;
 mod trial;
 mod turns;
+#[cfg(test)]
+mod walk_tests;
 mod words;
 
-pub use judge::{Judged, has_no_program, has_short_transactions, judge_report};
+pub use judge::{Judged, has_numbered_operations, judge_report};
 pub use printed::{has_order, order_of};
 pub use report_rules::Clause;

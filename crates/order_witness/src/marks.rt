@@ -2,10 +2,9 @@
 ghost use Rattle.std.specs.Prelude.{◌≡◌, ◌≢◌, ℕ, ◌<◌, ◌≤◌, [], ◌∷◌, ◌++◌, IsTrue, IfOk, OnOk, Some, false, length, replicate, slice_get, slice_index_or};
 ghost use Rattle.std.specs.Option.{option_and_then};
 ghost use Rattle.graph_ops.specs.Graphs.{plain_of};
-ghost use Rattle.program_defs.specs.Works.{is_change};
 ghost use Rattle.report_rules.specs.Replay.{IsWorkRefused, graph_after_commit, graph_if_work_passed, the_only};
 ghost use Rattle.report_rules.specs.Lookups as told;
-ghost use Rattle.order_witness.specs.Judgement.{has_few_operations, has_no_program, has_short_transactions};
+ghost use Rattle.order_witness.specs.Judgement.{has_numbered_operations, is_numbered_work};
 ghost use Rattle.report_rules.specs.declared.report.Reply.{Reply};
 ghost use Rattle.order_witness.specs.ByNumber.{list_at, HasRefused, place_if_refused};
 ghost use Rattle.order_witness.specs.Refusals.{AreMarked, AreMarkedOn, IsMarkedOn, IsRefusedOn, IsThere, Marks, numbered_in};
@@ -18,10 +17,9 @@ use program_defs::{Script, Work};
 use report_rules::{Reply, ReplyState, Report};
 use std::alloc::{AllocError, Global};
 
-/// The marks of the replies, for a script without programs.
+/// The marks of the replies.
 pub fn marks_of(alloc: Global, script: &Script, report: &Report) -> Result<Vec<bool>, AllocError>
-    requires programs { IsTrue (has_no_program script.now) }
-    requires short { IsTrue (has_short_transactions script.now) }
+    requires numbered { IsTrue (has_numbered_operations script.now) }
     ensures { IfOk result (λ marks. AreMarked script.now report.now marks.items) }
 {
     let replies = report.replies.as_slice();
@@ -109,8 +107,7 @@ fn mark(
     places: &[usize],
     marks: &mut Vec<bool>,
 ) -> Result<(), AllocError>
-    requires programs { IsTrue (has_no_program script.now) }
-    requires short { IsTrue (has_short_transactions script.now) }
+    requires numbered { IsTrue (has_numbered_operations script.now) }
     requires size { length marks.old.items ≡ length replies.now }
     requires places { HasRefused after replies.now places.now }
     ensures size { length marks.new.items ≡ length marks.old.items }
@@ -132,8 +129,7 @@ fn mark_one(
     place: usize,
     marks: &mut Vec<bool>,
 ) -> Result<(), AllocError>
-    requires programs { IsTrue (has_no_program script.now) }
-    requires short { IsTrue (has_short_transactions script.now) }
+    requires numbered { IsTrue (has_numbered_operations script.now) }
     requires size { length marks.old.items ≡ length replies.now }
     ensures size { length marks.new.items ≡ length marks.old.items }
     ensures unchanged { graph.new ≡ graph.old }
@@ -157,8 +153,7 @@ fn mark_of(
     after: u64,
     old: bool,
 ) -> Result<bool, AllocError>
-    requires programs { IsTrue (has_no_program script.now) }
-    requires short { IsTrue (has_short_transactions script.now) }
+    requires numbered { IsTrue (has_numbered_operations script.now) }
     ensures unchanged { graph.new ≡ graph.old }
     ensures mark { IfOk result (IsMarkedOn script.now (plain_of graph.old) after reply.now.request reply.now.state old) }
 {
@@ -182,8 +177,7 @@ fn is_refused(
     op: u32,
     reason: Reason,
 ) -> Result<bool, AllocError>
-    requires programs { IsTrue (has_no_program script.now) }
-    requires short { IsTrue (has_short_transactions script.now) }
+    requires numbered { IsTrue (has_numbered_operations script.now) }
     ensures unchanged { graph.new ≡ graph.old }
     ensures mark { IfOk result (λ refused. Marks refused (IsRefusedOn (Some (plain_of graph.old)) (told.request_at script.now request) op reason)) }
 {
@@ -200,8 +194,7 @@ fn work_stops(
     op: u32,
     reason: Reason,
 ) -> Result<bool, AllocError>
-    requires change { IsTrue (is_change work.now) }
-    requires short { IsTrue (has_few_operations work.now) }
+    requires numbered { IsTrue (is_numbered_work work.now) }
     ensures unchanged { graph.new ≡ graph.old }
     ensures mark { IfOk result (λ refused. Marks refused (IsWorkRefused (plain_of graph.old) work.now op reason)) }
 {
@@ -218,8 +211,7 @@ fn commit(
     script: &Script,
     requests: &[usize],
 ) -> Result<bool, AllocError>
-    requires programs { IsTrue (has_no_program script.now) }
-    requires short { IsTrue (has_short_transactions script.now) }
+    requires numbered { IsTrue (has_numbered_operations script.now) }
     ensures { IfOk result (IsThere (graph_after_commit (option_and_then (told.request_at script.now) (the_only requests.now)) (Some (plain_of graph.old))) (plain_of graph.new)) }
 {
     let Some(only) = the_only(requests) else {
@@ -232,8 +224,7 @@ fn commit(
 }
 
 fn work_passes(alloc: Global, graph: &mut Graph, work: &Work) -> Result<bool, AllocError>
-    requires change { IsTrue (is_change work.now) }
-    requires short { IsTrue (has_few_operations work.now) }
+    requires numbered { IsTrue (is_numbered_work work.now) }
     ensures { IfOk result (IsThere (graph_if_work_passed work.now (plain_of graph.old)) (plain_of graph.new)) }
 {
     match work {

@@ -73,7 +73,8 @@ fn put_pairs(relation: &mut Relation, replies: &[Reply], pairs: &[Pair])
     }
 }
 
-fn is_begun(replies: &[Reply], request: u32) -> bool
+/// Whether the request is begun.
+pub fn is_begun(replies: &[Reply], request: u32) -> bool
     ensures { result ≡ is_some (stamp_in replies.now request) }
 {
     match replies.get(request as usize) {

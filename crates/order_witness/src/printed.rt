@@ -1,18 +1,18 @@
 //! The printed order.
-ghost use Rattle.std.specs.Prelude.{◌≡◌, ◌==◌, ◌&&◌, ℕ, [], ◌∷◌, ◌++◌, ◌<◌, ◌↔◌, false, not, IsTrue, IfOk, OnOk, MatchBool};
-ghost use Rattle.std.specs.List.{filter, list_any};
+ghost use Rattle.std.specs.Prelude.{◌≡◌, ◌++◌, ◌↔◌, IsTrue, IfOk, OnOk, MatchOption, Some, length, replicate};
+ghost use Rattle.std.specs.List.{list_all};
 ghost use Rattle.proof_base.specs.Facts.{AllHold};
 ghost use Rattle.report_rules.specs.RightReport.{replies_clause};
-ghost use Rattle.report_rules.specs.PrintedOrder.{IsPrintedOrder};
+ghost use Rattle.report_rules.specs.PrintedOrder.{IsPrintedOrder, begun_requests};
 ghost use Rattle.report_rules.specs.Lookups as told;
-ghost use Rattle.order_witness.specs.Bits.{leads};
 ghost use Rattle.order_witness.specs.Begun.{NonePrecedesItself};
-ghost use Rattle.order_witness.specs.Choices.{IsBest, begun_in, home_at, is_better, is_free};
+ghost use Rattle.order_witness.specs.Heads.{AreWaiting, left_of, listed_in};
 
-use crate::precedence::precedence_of;
-use crate::relation::Relation;
+use crate::by_number::ByNumber;
+use crate::heads::{Run, earlier_ends, never_begun, next, runs_of};
 use crate::replies;
-use crate::words::{may_be_listed, stamp_at};
+use crate::rising::places_by_stamps;
+use crate::words::is_committed_or_finished;
 use program_defs::Script;
 use report_rules::{Reply, Report};
 use std::alloc::{AllocError, Global};
@@ -20,126 +20,119 @@ use vector_stamp::laws::precedence_is_decided;
 
 /// Whether the report has a printed order: the clause on replies holds, and no request precedes itself.
 pub fn has_order(alloc: Global, script: &Script, report: &Report) -> Result<bool, AllocError>
-    ensures { IfOk result (λ has. IsTrue has ↔ (AllHold (replies_clause script.now report.now) × NonePrecedesItself report.now)) }
+    ensures { IfOk result (λ has. IsTrue has
+        ↔ (AllHold (replies_clause script.now report.now) × NonePrecedesItself report.now)) }
 {
-    precedence_is_decided();
     if let Some(_) = replies::first_fault(alloc, script, report)? {
         return Ok(false);
     }
-    let precedence = precedence_of(alloc, report)?;
-    Ok(none_precedes_itself(&precedence, report.replies.as_slice().len()))
+    let order = taken_in_turn(alloc, script, report)?;
+    Ok(order.is_some())
 }
 
-fn none_precedes_itself(precedence: &Relation, count: usize) -> bool
-    ensures { MatchBool result ((r : ℕ) → r < count → leads precedence.now r r ≡ false) ((r : ℕ) × IsTrue (leads precedence.now r r)) }
-{
-    for request in 0..count {
-        if precedence.leads(request, request) {
-            return false;
-        }
-    }
-    true
-}
-
-/// The printed order: again and again, among the remaining begun requests that no remaining one precedes, the one of the
-/// least home is taken; those that are neither committed nor finished are then left out. Condition: the clause on replies
-/// holds, and no request precedes itself.
+/// The printed order: again and again, among the remaining begun requests that no remaining one precedes, the one of
+/// the least home is taken; those that are neither committed nor finished are then left out. Condition: the clause on
+/// replies holds, and no request precedes itself.
+///
+/// A sort, and then a turn for each request, in which the first requests left of the gatekeepers are compared with one
+/// another; each pair is looked at once.
 pub fn order_of(alloc: Global, script: &Script, report: &Report) -> Result<Vec<u32>, AllocError>
     requires replies { AllHold (replies_clause script.now report.now) }
     requires acyclic { NonePrecedesItself report.now }
     ensures { IfOk result (λ order. IsPrintedOrder report.now order.items) }
 {
-    precedence_is_decided();
-    let precedence = precedence_of(alloc, report)?;
-    let mut remaining = begun_requests(alloc, report.replies.as_slice())?;
-    let mut order = Vec::new(alloc);
-    while let Some(request) = next(report, &precedence, remaining.as_slice()) {
-        remaining = without(alloc, remaining.as_slice(), request)?;
-        add(report, &mut order, request)?;
+    match taken_in_turn(alloc, script, report)? {
+        Some(order) => Ok(order),
+        None => Ok(Vec::new(alloc)),
     }
+}
+
+// The printed order, if no request precedes itself: the requests are taken in turn until none is next.
+fn taken_in_turn(
+    alloc: Global,
+    script: &Script,
+    report: &Report,
+) -> Result<Option<Vec<u32>>, AllocError>
+    requires { AllHold (replies_clause script.now report.now) }
+    ensures { IfOk result (λ order. MatchOption order (¬ NonePrecedesItself report.now)
+        (λ order. IsPrintedOrder report.now order.items × NonePrecedesItself report.now)) }
+{
+    let replies = report.replies.as_slice();
+    let befores = earlier_ends(alloc, replies, report.pairs.as_slice())?;
+    let line = places_by_stamps(alloc, replies)?;
+    let mut runs = runs_of(alloc, report, line.as_slice())?;
+    let mut seen = none_seen(alloc, replies.len())?;
+    let mut done = never_begun(alloc, replies)?;
+    let order = take_all(
+        alloc,
+        script,
+        report,
+        line.as_slice(),
+        &befores,
+        runs.as_mut_slice(),
+        seen.as_mut_slice(),
+        done.as_mut_slice(),
+    )?;
     Ok(order)
 }
 
-fn begun_requests(alloc: Global, replies: &[Reply]) -> Result<Vec<u32>, AllocError>
-    ensures { IfOk result (λ begun. begun.items ≡ begun_in replies.now) }
+// Takes the next request again and again; none if some are left.
+fn take_all(
+    alloc: Global,
+    script: &Script,
+    report: &Report,
+    line: &[usize],
+    befores: &ByNumber,
+    runs: &mut [Run],
+    seen: &mut [usize],
+    done: &mut [bool],
+) -> Result<Option<Vec<u32>>, AllocError>
+    requires replies { AllHold (replies_clause script.now report.now) }
+    requires waiting { AreWaiting report.now line.now befores.now runs.old seen.old done.old }
+    requires size { length done.old ≡ length report.now.replies }
+    requires start { left_of report.now done.old ≡ begun_requests report.now }
+    ensures { IfOk result (λ order. MatchOption order (¬ NonePrecedesItself report.now)
+        (λ order. IsPrintedOrder report.now order.items × NonePrecedesItself report.now)) }
 {
-    let mut begun = Vec::new(alloc);
-    for reply in replies {
-        if reply.stamp.is_some() {
-            begun.push(reply.request)?;
-        }
+    precedence_is_decided();
+    let mut order = Vec::new(alloc);
+    while let Some(request) = next(alloc, script, report, line, befores, runs, seen, done)? {
+        add(report, &mut order, request)?;
+        done[request] = true;
     }
-    Ok(begun)
+    if !are_done(done) {
+        return Ok(None);
+    }
+    Ok(Some(order))
+}
+
+fn none_seen(alloc: Global, count: usize) -> Result<Vec<usize>, AllocError>
+    ensures { IfOk result (λ seen. seen.items ≡ replicate count 0) }
+{
+    vec![in alloc; 0; count]
 }
 
 // Adds the request to the order, where it may be listed.
-fn add(report: &Report, order: &mut Vec<u32>, request: u32) -> Result<(), AllocError>
-    ensures { OnOk result (order.new.items ≡ order.old.items ++ filter (told.may_be_listed report.now) (request ∷ [])) }
+fn add(report: &Report, order: &mut Vec<u32>, request: usize) -> Result<(), AllocError>
+    ensures { OnOk result (order.new.items ≡ order.old.items ++ listed_in (told.reply_at report.now request)) }
 {
-    if may_be_listed(report, request) {
-        order.push(request)?;
+    match report.replies.as_slice().get(request) {
+        Some(reply) => add_reply(order, reply),
+        None => Ok(()),
+    }
+}
+
+fn add_reply(order: &mut Vec<u32>, reply: &Reply) -> Result<(), AllocError>
+    ensures { OnOk result (order.new.items ≡ order.old.items ++ listed_in (Some reply.now)) }
+{
+    if is_committed_or_finished(&reply.state) {
+        order.push(reply.request)?;
     }
     Ok(())
 }
 
-fn without(alloc: Global, requests: &[u32], request: u32) -> Result<Vec<u32>, AllocError>
-    ensures { IfOk result (λ rest. rest.items ≡ filter (λ other. not (other == request)) requests.now) }
+fn are_done(done: &[bool]) -> bool
+    ensures { result ≡ list_all (λ is. is) done.now }
 {
-    requests
-        .iter()
-        .copied()
-        .filter(|other| *other != request)
-        .collect(alloc)
-}
-
-// Of those that none of them precedes, the first of the least home.
-fn next(report: &Report, precedence: &Relation, remaining: &[u32]) -> Option<u32>
-    ensures { IsBest report.now (leads precedence.now) remaining.now remaining.now result }
-{
-    let mut best = None;
-    for request in remaining {
-        if is_choice(report, precedence, remaining, &best, *request) {
-            best = Some(*request);
-        }
-    }
-    best
-}
-
-// Whether it is better than the best one yet, and none of the remaining ones precedes it.
-fn is_choice(
-    report: &Report,
-    precedence: &Relation,
-    remaining: &[u32],
-    best: &Option<u32>,
-    request: u32,
-) -> bool
-    ensures { result ≡ (is_better report.now best.now request && is_free (leads precedence.now) remaining.now request) }
-{
-    is_better(report, best, request) && !is_preceded(precedence, remaining, request)
-}
-
-// Whether one of the remaining ones precedes it.
-fn is_preceded(precedence: &Relation, remaining: &[u32], request: u32) -> bool
-    ensures { result ≡ list_any (λ other. leads precedence.now other request) remaining.now }
-{
-    remaining.iter().any(|other| precedence.leads(*other as usize, request as usize))
-}
-
-// Whether there is none yet, or its home is below that one's.
-fn is_better(report: &Report, best: &Option<u32>, request: u32) -> bool
-    ensures { result ≡ is_better report.now best.now request }
-{
-    match best {
-        None => true,
-        Some(best) => home_of(report, request) < home_of(report, *best),
-    }
-}
-
-fn home_of(report: &Report, request: u32) -> u32
-    ensures { result ≡ home_at report.now request }
-{
-    match stamp_at(report, request) {
-        Some(stamp) => stamp.home,
-        None => 0,
-    }
+    done.iter().all(|is| *is)
 }

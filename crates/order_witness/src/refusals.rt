@@ -7,7 +7,7 @@ ghost use Rattle.proof_base.specs.Facts.{AllHold};
 ghost use Rattle.order_witness.specs.Turns.{AreAllKept, AreNumbersKept};
 ghost use Rattle.report_rules.specs.RightReport as right;
 ghost use Rattle.report_rules.specs.Lookups as told;
-ghost use Rattle.order_witness.specs.Judgement.{IsFirstFault, has_no_program, has_short_transactions};
+ghost use Rattle.order_witness.specs.Judgement.{IsFirstFault, has_numbered_operations};
 ghost use Rattle.order_witness.specs.Refusals.{AreMarked, is_refusal_in_place, refused_after};
 
 use crate::marks::marks_of;
@@ -25,8 +25,7 @@ pub fn first_fault(
     script: &Script,
     report: &Report,
 ) -> Result<Option<u64>, AllocError>
-    requires programs { IsTrue (has_no_program script.now) }
-    requires short { IsTrue (has_short_transactions script.now) }
+    requires numbered { IsTrue (has_numbered_operations script.now) }
     requires replies { AllHold (right.replies_clause script.now report.now) }
     ensures { IfOk result (IsFirstFault (right.refusals_clause script.now report.now)) }
 {

@@ -1,12 +1,10 @@
-//! Whether the stamps of begun requests are apart, and whether the requests of each session begin in turn: each by a sort, and a look at neighbours.
-ghost use Rattle.std.specs.Prelude.{◌≡◌, ℕ, ◌<◌, ◌||◌, ◌&&◌, ◌==◌, ◌++◌, IsTrue, IfOk, OnOk, Some, length, map, nat_lt, option_copied, Contains};
-ghost use Rattle.vector_stamp.specs.declared.clock.Stamp.{Stamp};
+//! Whether the stamps of begun requests are apart, and whether the requests of each session begin in turn: each by a
+//! sort, and a look at neighbours.
+ghost use Rattle.std.specs.Prelude.{◌≡◌, ℕ, ◌||◌, ◌&&◌, ◌==◌, ◌++◌, IsTrue, IfOk, OnOk, length, map, nat_lt, option_copied};
 ghost use Rattle.vector_stamp.specs.Order as stamps;
-ghost use Rattle.program_defs.specs.declared.script.Request.{Request};
 ghost use Rattle.report_rules.specs.RightReport as right;
-ghost use Rattle.report_rules.specs.Lookups as told;
 ghost use Rattle.order_witness.specs.Begun.{stamp_in};
-ghost use Rattle.order_witness.specs.Rising.{AreInTurnTo, AreStampsApart, DoSessionsTakeTurns, comes_before, request_comes_before, session_comes_before, session_entry, stamp_entry};
+ghost use Rattle.order_witness.specs.Rising.{HasBegunPlaces, HasRequestPlaces, AreInTurnTo, AreStampsApart, DoSessionsTakeTurns, comes_before, request_comes_before, session_comes_before, session_entry, stamp_entry};
 
 use crate::words::request_in;
 use program_defs::{Request, Script};
@@ -20,12 +18,19 @@ pub fn are_stamps_apart(alloc: Global, replies: &[Reply]) -> Result<bool, AllocE
     ensures { IfOk result (λ holds. IsTrue holds → AreStampsApart replies.now) }
 {
     stamps_are_ordered();
-    let mut begun = begun_by_stamps(alloc, replies)?;
-    begun.sort_unstable();
-    let sorted = begun.as_slice();
-    let parts = last_parts(alloc, sorted)?;
+    let parts = places_by_stamps(alloc, replies)?;
     let places = parts.as_slice();
     Ok(stamps_rise(replies, places))
+}
+
+/// The places of the begun requests, sorted by their homes, epochs and own counts.
+pub fn places_by_stamps(alloc: Global, replies: &[Reply]) -> Result<Vec<usize>, AllocError>
+    ensures { IfOk result (λ places. HasBegunPlaces replies.now places.items) }
+{
+    let mut begun = begun_by_stamps(alloc, replies)?;
+    begun.sort_unstable();
+    let places = last_parts(alloc, begun.as_slice())?;
+    Ok(places)
 }
 
 // The begun requests, each after its home, epoch and own count.
@@ -33,7 +38,8 @@ fn begun_by_stamps(
     alloc: Global,
     replies: &[Reply],
 ) -> Result<Vec<(u32, u64, u64, usize)>, AllocError>
-    ensures { IfOk result (λ begun. (place : ℕ) (stamp : Stamp) → stamp_in replies.now place ≡ Some stamp → Contains (map (λ (one : ℕ × ℕ × ℕ × ℕ). one.3) begun.items) place) }
+    ensures { IfOk result (λ begun.
+        HasBegunPlaces replies.now (map (λ (one : ℕ × ℕ × ℕ × ℕ). one.3) begun.items)) }
 {
     let mut begun = Vec::new(alloc);
     for (place, reply) in replies.iter().enumerate() {
@@ -131,7 +137,8 @@ fn requests_by_session(
     script: &Script,
     replies: &[Reply],
 ) -> Result<Vec<(u32, usize)>, AllocError>
-    ensures { IfOk result (λ requests. (place : ℕ) (request : Request) → place < length replies.now → told.request_at script.now place ≡ Some request → Contains (map (λ (one : ℕ × ℕ). one.1) requests.items) place) }
+    ensures { IfOk result (λ requests.
+        HasRequestPlaces script.now replies.now (map (λ (one : ℕ × ℕ). one.1) requests.items)) }
 {
     let mut requests = Vec::new(alloc);
     for place in 0..replies.len() {
@@ -145,7 +152,8 @@ fn put_request(
     place: usize,
     request: Option<&Request>,
 ) -> Result<(), AllocError>
-    ensures { OnOk result (requests.new.items ≡ requests.old.items ++ session_entry place (option_copied request.entry)) }
+    ensures { OnOk result (requests.new.items
+        ≡ requests.old.items ++ session_entry place (option_copied request.entry)) }
 {
     if let Some(request) = request {
         requests.push((request.session, place))?;
@@ -164,7 +172,8 @@ fn second_parts(alloc: Global, requests: &[(u32, usize)]) -> Result<Vec<usize>, 
 }
 
 fn sessions_rise(script: &Script, replies: &[Reply], places: &[usize]) -> bool
-    ensures { IsTrue result → AreInTurnTo (session_comes_before script.now replies.now) places.now (length places.now) }
+    ensures { IsTrue result
+        → AreInTurnTo (session_comes_before script.now replies.now) places.now (length places.now) }
 {
     for next in 1..places.len() {
         let in_turn = session_comes_before(script, replies, places[next - 1], places[next]);
@@ -185,7 +194,8 @@ fn session_comes_before(script: &Script, replies: &[Reply], a: usize, b: usize) 
 }
 
 fn are_in_turn(replies: &[Reply], x: &Request, y: &Request, a: usize, b: usize) -> bool
-    ensures { result ≡ (nat_lt x.now.session y.now.session || ((x.now.session == y.now.session) && nat_lt a b && right.are_begun_in_turn (stamp_in replies.now a) (stamp_in replies.now b))) }
+    ensures { result ≡ (nat_lt x.now.session y.now.session || ((x.now.session == y.now.session) && nat_lt a b
+        && right.are_begun_in_turn (stamp_in replies.now a) (stamp_in replies.now b))) }
 {
     x.session < y.session
         || (x.session == y.session

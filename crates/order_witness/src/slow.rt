@@ -2,12 +2,12 @@
 
 use crate::{Clause, Judged};
 use graph_ops::{Got, Graph, Op, TxFault};
-use program_defs::{Request, Script, Work};
+use program_defs::{Answer, Program, Request, Script, Work, ask, ask_with_visits};
 use report_rules::{Reply, ReplyState, Report};
 use std::alloc::Global;
 use std::process::Abort;
 use vector_stamp::Stamp;
-use weave_data::Name;
+use weave_data::{Items, Name};
 
 /// The first clause that breaks, and its first place.
 pub fn slow_judge(rt: &impl Abort, alloc: Global, script: &Script, report: &Report) -> Judged {
@@ -71,7 +71,7 @@ fn holds(
         Clause::Ii => is_listing_right(report, place),
         Clause::Iii => is_order_right(script, report, place),
         Clause::Iv => is_replay_right(rt, alloc, script, report, place),
-        Clause::V => is_pair_right(script, report, place),
+        Clause::V => is_pair_right(rt, alloc, script, report, place),
         Clause::Vi => is_conflict_right(script, report, place),
         Clause::Vii => is_refusal_right(rt, alloc, script, report, place),
         Clause::Viii => is_number_right(report, place),
@@ -212,15 +212,19 @@ fn are_told_apart(x: &Stamp, y: &Stamp) -> bool {
 fn is_listing_right(report: &Report, place: usize) -> bool {
     let order = report.order.as_slice();
     let Some(request) = order.get(place) else {
-        return report.replies.as_slice().iter().all(|reply| number(reply).is_none()
+        return report.replies.as_slice().iter().all(|reply| !is_listed(reply)
             || order.contains(&reply.request));
     };
     let again = order.iter().take(place).any(|other| *other == *request);
-    let committed = match reply_of(report, *request) {
-        Some(reply) => number(reply).is_some(),
+    let may = match reply_of(report, *request) {
+        Some(reply) => is_listed(reply),
         None => false,
     };
-    committed && !again
+    may && !again
+}
+
+fn is_listed(reply: &Reply) -> bool {
+    number(reply).is_some() || matches!(reply.state, ReplyState::Finished(_))
 }
 
 fn is_order_right(script: &Script, report: &Report, place: usize) -> bool {
@@ -262,22 +266,97 @@ fn is_replay_right(
     place: usize,
 ) -> bool {
     let order = report.order.as_slice();
-    let mut graph = Graph::new(alloc);
-    for earlier in order.iter().take(place) {
-        let _ = run(rt, alloc, script, &mut graph, *earlier).is_ok();
-    }
+    let mut graph = graph_before(rt, alloc, script, report, place);
     let Some(request) = order.get(place) else {
         return true;
     };
     let Some(reply) = reply_of(report, *request) else {
         return false;
     };
+    if let Some(program) = program_of(script, *request) {
+        return is_answer(rt, alloc, &graph, program, &reply.state);
+    }
     match (run(rt, alloc, script, &mut graph, *request), &reply.state) {
         (Ok(gots), ReplyState::Committed { answers, .. }) => {
             are_same(gots.as_slice(), answers.as_slice())
         }
         _ => false,
     }
+}
+
+// The graph that the first of the order leave.
+fn graph_before(
+    rt: &impl Abort,
+    alloc: Global,
+    script: &Script,
+    report: &Report,
+    place: usize,
+) -> Graph {
+    let mut graph = Graph::new(alloc);
+    for earlier in report.order.as_slice().iter().take(place) {
+        let _ = run(rt, alloc, script, &mut graph, *earlier).is_ok();
+    }
+    graph
+}
+
+fn program_of(script: &Script, r: u32) -> Option<&Program> {
+    match &request_of(script, r)?.work {
+        Work::Change(_) => None,
+        Work::Look(program) => Some(program),
+    }
+}
+
+fn is_answer(
+    rt: &impl Abort,
+    alloc: Global,
+    graph: &Graph,
+    program: &Program,
+    state: &ReplyState,
+) -> bool {
+    let ReplyState::Finished(said) = state else {
+        return false;
+    };
+    let found = ask(alloc, graph, program).expect(rt, "memory");
+    match (&found, said) {
+        (Answer::Shown(a), Answer::Shown(b)) => *a == *b,
+        (Answer::Reached(a), Answer::Reached(b)) => *a == *b,
+        (Answer::Found(a), Answer::Found(b)) => a.as_slice() == b.as_slice(),
+        (Answer::Walk(a), Answer::Walk(b)) => vertices(a) == vertices(b),
+        _ => false,
+    }
+}
+
+fn vertices(walk: &Option<Items<Name>>) -> Option<&[Name]> {
+    match walk {
+        Some(vertices) => Some(vertices.as_slice()),
+        None => None,
+    }
+}
+
+// Whether a program that is finished visits the vertex at its place; one that isn't may.
+fn may_visit(
+    rt: &impl Abort,
+    alloc: Global,
+    script: &Script,
+    report: &Report,
+    r: u32,
+    v: Name,
+) -> bool {
+    let (Some(program), Some(reply)) = (program_of(script, r), reply_of(report, r)) else {
+        return false;
+    };
+    if !matches!(reply.state, ReplyState::Finished(_)) {
+        return true;
+    }
+    let mut place = 0;
+    for (at, listed) in report.order.as_slice().iter().enumerate() {
+        if *listed == r {
+            place = at;
+        }
+    }
+    let graph = graph_before(rt, alloc, script, report, place);
+    let asked = ask_with_visits(alloc, &graph, program).expect(rt, "memory");
+    asked.visits.has(v)
 }
 
 fn are_same(gots: &[Got], answers: &[Got]) -> bool {
@@ -292,7 +371,13 @@ fn are_same(gots: &[Got], answers: &[Got]) -> bool {
     true
 }
 
-fn is_pair_right(script: &Script, report: &Report, place: usize) -> bool {
+fn is_pair_right(
+    rt: &impl Abort,
+    alloc: Global,
+    script: &Script,
+    report: &Report,
+    place: usize,
+) -> bool {
     let Some(pair) = report.pairs.as_slice().get(place) else {
         return true;
     };
@@ -302,7 +387,8 @@ fn is_pair_right(script: &Script, report: &Report, place: usize) -> bool {
     };
     unordered
         && commits_at(script, report, pair.earlier, pair.vertex)
-        && commits_at(script, report, pair.later, pair.vertex)
+        && (commits_at(script, report, pair.later, pair.vertex)
+            || may_visit(rt, alloc, script, report, pair.later, pair.vertex))
 }
 
 fn is_conflict_right(script: &Script, report: &Report, place: usize) -> bool {

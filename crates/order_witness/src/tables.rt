@@ -2,7 +2,7 @@
 
 use crate::cases::{Asked, Line, report, script};
 use crate::slow::slow_judge;
-use crate::{Clause, Judged, has_no_program, has_short_transactions, judge_report};
+use crate::{Clause, Judged, has_numbered_operations, judge_report};
 use program_defs::Script;
 use report_rules::Report;
 use std::alloc::Global;
@@ -16,8 +16,7 @@ pub type Row<'a> = (&'a [Line<'a>], &'a [(u8, u32, u32)], &'a [u32], Want);
 
 /// What the judge says.
 pub fn judge(rt: &impl Abort, alloc: Global, script: &Script, report: &Report) -> Judged {
-    assert!(rt; has_no_program(script));
-    assert!(rt; has_short_transactions(script));
+    assert!(rt; has_numbered_operations(script));
     judge_report(alloc, script, report).expect(rt, "memory")
 }
 

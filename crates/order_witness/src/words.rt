@@ -1,10 +1,10 @@
 //! What a script and a report say of a request.
-ghost use Rattle.std.specs.Prelude.{◌≡◌, option_copied, slice_get, length};
+ghost use Rattle.std.specs.Prelude.{◌≡◌, option_copied, length};
 ghost use Rattle.std.specs.List.{list_any};
 ghost use Rattle.weave_data.specs.Names.{same_name};
 ghost use Rattle.graph_ops.specs.Operations.{vertex_of};
 ghost use Rattle.graph_ops.specs.declared.op.Op.{Op};
-ghost use Rattle.order_witness.specs.Begun.{numbers_in};
+ghost use Rattle.order_witness.specs.Begun.{is_request_before, numbers_in};
 ghost use Rattle.report_rules.specs.Lookups as told;
 
 use graph_ops::Op;
@@ -41,6 +41,26 @@ pub fn stamp_at(report: &Report, r: u32) -> Option<Stamp>
     match reply_at(report, r) {
         Some(reply) => reply.stamp,
         None => None,
+    }
+}
+
+/// The stamp of the request at a place in the report, from 0, where it is begun.
+pub fn stamp_of(report: &Report, place: usize) -> Option<Stamp>
+    ensures { result ≡ told.stamp_at report.now place }
+{
+    match report.replies.as_slice().get(place) {
+        Some(reply) => reply.stamp,
+        None => None,
+    }
+}
+
+/// Whether the first request's stamp is before the second's, both begun.
+pub fn is_request_before(report: &Report, a: usize, b: usize) -> bool
+    ensures { result ≡ is_request_before report.now a b }
+{
+    match (stamp_of(report, a), stamp_of(report, b)) {
+        (Some(a), Some(b)) => a.is_before(&b),
+        _ => false,
     }
 }
 

@@ -10,7 +10,7 @@ use Rattle.report_rules.specs.Meetings.{MeetingsAreOrdered, PhasesAreKept}
 use Rattle.report_rules.specs.PrintedOrder.{IsPrintedOrder}
 use Rattle.weave_report.specs.ReportText.{report_text}
 use Rattle.weave_script.specs.ScriptLines.{IsTextOf}
-use Rattle.weaver_top.specs.Built.{has_program, is_unbuilt}
+use Rattle.weaver_top.specs.Built.{is_unbuilt}
 use Rattle.weave_report.specs.TextOf.{IsReportTextOf}
 use Rattle.weave_script.specs.CheckText.{IsCheckTextOf}
 use Rattle.weaver_top.specs.Acceptance.{IsAcceptedByCheck}
@@ -51,8 +51,8 @@ abbrev pub FollowScripts : Type 0
 FollowScripts = (front text : List ℕ) (script : Script) (report : Report) → IsTextOf (front ++ 10 ∷ []) script → IsReportTextOf script text report → IsCheckTextOf (front ++ 10 ∷ text) script report
 
 -- `check` says of it that the report is right
-pub accepted : FollowScripts → (input text : List ℕ) (script : Script) (report : Report) → IsTextOf input script → IsReportTextOf script text report → has_program script ≡ false → IsRightReport script report → IsAcceptedByCheck input text
-accepted follow input text script report is_text is_report built right front ends short =
+pub accepted : FollowScripts → (input text : List ℕ) (script : Script) (report : Report) → IsTextOf input script → IsReportTextOf script text report → IsRightReport script report → IsAcceptedByCheck input text
+accepted follow input text script report is_text is_report right front ends short =
     let together : front ++ 10 ∷ text ≡ input ++ text = sym (ap (λ (bytes : List ℕ). bytes ++ text) ends ∙ append_assoc front (10 ∷ []) text) in
     let both = follow front text script report (subst (λ bytes. IsTextOf bytes script) ends is_text) is_report in
     record {
@@ -60,7 +60,6 @@ accepted follow input text script report is_text is_report built right front end
       script = script;
       report = report;
       input_is_their_text = subst (λ bytes. IsCheckTextOf bytes script report) together both;
-      built = built;
       report_is_right = right;
       line = refl;
     }

@@ -1,4 +1,4 @@
--- What the commands don't take yet.
+-- What `run` doesn't take yet.
 use Rattle.std.specs.Prelude.{Bool, ◌||◌, nat_lt}
 use Rattle.std.specs.List.{list_any}
 use Rattle.program_defs.specs.Works.{is_look}

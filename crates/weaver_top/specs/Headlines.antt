@@ -10,7 +10,7 @@ use Rattle.report_rules.specs.RightReport.{IsRightReport}
 use Rattle.weave_report.specs.ReportText.{report_text}
 use Rattle.weave_script.specs.CheckText.{IsCheckTextOf}
 use Rattle.weave_script.specs.ScriptLines.{IsTextOf}
-use Rattle.weaver_top.specs.Built.{has_program, is_unbuilt}
+use Rattle.weaver_top.specs.Built.{is_unbuilt}
 use Rattle.weaver_top.specs.VerdictLines.{yes_line}
 
 -- `run`: the input is a valid script that `run` takes, and the text is a right report for it, printed. The report's order is the printed order; of two requests that meet at a vertex one precedes the other, and the script's phases are kept; every request has its final reply, and there are no answers of steps.
@@ -29,12 +29,11 @@ pub record TellsRightReport (input text : List ℕ) : Type 0 where
   pub no_steps : report.answers ≡ []
   pub text_is_printed : text ≡ report_text script report
 
--- `check`: the input is a valid script without programs and then a report for it, the report is right for the script, and the text is `yes`
+-- `check`: the input is a valid script and then a report for it, the report is right for the script, and the text is `yes`
 pub record TellsYes (input text : List ℕ) : Type 0 where
   pub input_is_short : length input ≤ 4194304
   pub script : Script
   pub report : Report
   pub input_is_their_text : IsCheckTextOf input script report
-  pub built : has_program script ≡ false
   pub report_is_right : IsRightReport script report
   pub line : text ≡ yes_line

@@ -8,7 +8,7 @@ use Rattle.weave_script.specs.CheckText.{IsCheckTextOf}
 use Rattle.weave_script.specs.CheckReading.{check_text}
 use Rattle.weave_script.specs.ReadText.{Fault, read_text}
 use Rattle.weave_script.specs.ScriptLines.{IsTextOf}
-use Rattle.weaver_top.specs.Built.{has_program, is_unbuilt}
+use Rattle.weaver_top.specs.Built.{is_unbuilt}
 use Rattle.weaver_top.specs.declared.command.Command.{Command}
 use Rattle.weaver_top.specs.declared.command.Command.TheVariants.{Run, Check}
 
@@ -23,12 +23,12 @@ pub record InputKind : Type 1 where
 abbrev pub run_input : InputKind
 run_input = record { Value = Script; IsText = IsTextOf; is_unbuilt = is_unbuilt; read = read_text }
 
--- `check` reads a script and then a report for it
+-- `check` reads a script and then a report for it, and takes each
 abbrev pub check_input : InputKind
 check_input = record {
   Value = Script × Report;
   IsText = λ input both. IsCheckTextOf input both.0 both.1;
-  is_unbuilt = λ both. has_program both.0;
+  is_unbuilt = λ both. false;
   read = check_text;
 }
 

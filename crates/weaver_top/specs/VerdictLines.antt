@@ -1,5 +1,5 @@
 -- What `check` writes: `yes`, or the first clause of a right report that the report breaks, with the first place.
-use Rattle.std.specs.Prelude.{◌≡◌, ◌≤◌, ℕ, false, List, [], ◌∷◌, ◌++◌, length, codes}
+use Rattle.std.specs.Prelude.{◌≡◌, ◌≤◌, ℕ, List, [], ◌∷◌, ◌++◌, length, codes}
 use Rattle.std.specs.Fmt.{decimal}
 use Rattle.program_defs.specs.declared.script.Script.{Script}
 use Rattle.report_rules.specs.declared.report.Clause.{Clause}
@@ -7,7 +7,6 @@ use Rattle.report_rules.specs.declared.report.Clause.TheVariants.{I, Ii, Iii, Iv
 use Rattle.report_rules.specs.declared.report.Report.{Report}
 use Rattle.report_rules.specs.RightReport.{BreaksFirst}
 use Rattle.weave_script.specs.CheckText.{IsCheckTextOf}
-use Rattle.weaver_top.specs.Built.{has_program}
 
 -- the word of a clause
 abbrev pub clause_text : Clause → List ℕ
@@ -28,13 +27,12 @@ yes_line = codes "yes" ++ 10 ∷ []
 abbrev pub no_line : Clause → ℕ → List ℕ
 no_line clause place = codes "no " ++ clause_text clause ++ codes " " ++ decimal place ++ 10 ∷ []
 
--- the input is a valid script without programs and then a report for it that isn't right, and the text names the first clause that breaks and the first place at which it does
+-- the input is a valid script and then a report for it that isn't right, and the text names the first clause that breaks and the first place at which it does
 pub record TellsNo (input text : List ℕ) : Type 0 where
   pub input_is_short : length input ≤ 4194304
   pub script : Script
   pub report : Report
   pub input_is_their_text : IsCheckTextOf input script report
-  pub built : has_program script ≡ false
   pub clause : Clause
   pub place : ℕ
   pub breaks : BreaksFirst script report clause place

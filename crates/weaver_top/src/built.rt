@@ -1,4 +1,4 @@
-//! What the commands don't take yet.
+//! What `run` doesn't take yet.
 ghost use Rattle.std.specs.Prelude.{◌≡◌};
 ghost use Rattle.program_defs.specs.Works.{is_look};
 ghost use Rattle.weaver_top.specs.Built.{has_program, has_more_gatekeepers};

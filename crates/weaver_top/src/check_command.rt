@@ -6,19 +6,16 @@ ghost use Rattle.weaver_top.specs.Answers.{IsAnswerTo};
 ghost use Rattle.weaver_top.specs.VerdictLines.{clause_text, no_line, yes_line};
 
 use crate::answer::{Answer, refusal};
-use crate::built::has_program;
 use crate::command::Command;
 use crate::status::Status;
 use order_witness::{Clause, Judged, judge_report};
 use program_defs::Script;
 use std::alloc::{AllocError, Global};
 use weave_report::Report;
-use weave_script::{
-    ScriptFault, checks_are_of_one_report, checks_are_read, read_check, scripts_are_small,
-};
+use weave_script::{ScriptFault, checks_are_read, read_check, scripts_are_small};
 use weave_text::Text;
 
-/// Reads the script and the report behind it, and says whether the report is right; or says why the input is refused.
+/// Reads the script and the report after it, and says whether the report is right; or says why the input can't be read.
 pub(crate) fn verdict_on(alloc: Global, input: &[u8]) -> Result<Answer, AllocError>
     requires { length input.now ≤ 4194304 }
     ensures { IfOk result (IsAnswerTo Command.Check input.now) }
@@ -31,16 +28,12 @@ pub(crate) fn verdict_on(alloc: Global, input: &[u8]) -> Result<Answer, AllocErr
     }
 }
 
-// Judges the report where the script has no program.
+// Judges the report.
 fn verdict_for(alloc: Global, script: &Script, report: &Report) -> Result<Answer, AllocError>
     requires { IsScript script.now }
     ensures { IfOk result (λ answer. (input : List ℕ) → length input ≤ 4194304 → IsCheckTextOf input script.now report.now → IsAnswerTo Command.Check input answer) }
 {
-    checks_are_of_one_report();
     scripts_are_small();
-    if has_program(script) {
-        return refusal(alloc, 0, b"unbuilt");
-    }
     match judge_report(alloc, script, report)? {
         Judged::Yes => Ok(Answer {
             status: Status::Done,

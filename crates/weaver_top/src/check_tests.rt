@@ -122,11 +122,128 @@ fn reports_of_one_session_that_are_not_right(rt: HostRuntime) -> Result<(), Fail
     Ok(())
 }
 
-// A script with a program.
+// A session writes at one gatekeeper and asks at another one, which hears of the write late.
+const LATE: &str =
+    "weaver 1 2 1\ntx t1 0 0\ncreate v\nend\nprog p 0 1 show v\nsteps\nbegin t1\njudge 0\nsend 0\nreply t1\nbegin p\ndeliver 0 0 1\napply 0 0\nvisit p\nsay 1\nhear 0 1\nnop 0 0\nnop 1 0\ndeliver 0 0 2\nvisit p\ndeliver 1 0 1\nvisit p\nreply p\n";
+
+// A program between two writes of one session: it sees the first, which is unordered with it, and not the second.
+const BETWEEN: &str =
+    "weaver 1 2 1\ntx t1 0 1\ncreate v\nend\nprog p 1 0 show v\ntx t2 0 1\nset v k x\nend\nsteps\nbegin t1\njudge 1\nsend 1\nreply t1\nbegin p\nsay 0\nhear 1 1\nbegin t2\njudge 1\nsend 1\nnop 0 0\ndeliver 1 0 1\ndeliver 1 0 2\napply 0 1\napply 0 1\ndeliver 0 0 1\nvisit p\nreply p\n";
+
+// A script with a program alone.
 const PROGRAM: &str = "weaver 1 1 1\nprog p 0 0 show v\n";
 
+#[test]
+fn reports_of_programs(rt: HostRuntime) -> Result<(), Fail> {
+    let cases = [
+        (
+            LATE,
+            "report 1\ntx t1 0:0:1,0 committed 1\nprog p 0:1:1,1 done record\norder t1 p\nend\n",
+            "yes",
+        ),
+        (
+            LATE,
+            "report 1\ntx t1 0:0:1,0 committed 1\nprog p 0:1:1,1 done absent\norder t1 p\nend\n",
+            "no iv 2",
+        ),
+        (
+            BETWEEN,
+            "report 1\ntx t1 0:1:0,1 committed 1\nprog p 0:0:1,0 done record\ntx t2 0:1:1,2 committed 2\nsettled v t1 p\norder t1 p t2\nend\n",
+            "yes",
+        ),
+        (
+            BETWEEN,
+            "report 1\ntx t1 0:1:0,1 committed 1\nprog p 0:0:1,0 done record\ntx t2 0:1:1,2 committed 2\nsettled v p t1\norder t1 p t2\nend\n",
+            "no iii 2",
+        ),
+        (
+            PROGRAM,
+            "report 1\nprog p 0:0:1 done absent\norder p\nend\n",
+            "yes",
+        ),
+        (PROGRAM, "report 1\nprog p unbegun\norder\nend\n", "yes"),
+        (
+            PROGRAM,
+            "report 1\nprog p 0:0:1 done record\norder p\nend\n",
+            "no iv 1",
+        ),
+    ];
+    for (script, report, line) in cases.iter() {
+        assert!(rt;
+            writes(&rt, rt.alloc(), script, report, ended(line), line)?,
+            "{line}"
+        );
+    }
+    Ok(())
+}
+
+// How `check` ends that writes this line.
+fn ended(line: &str) -> Status {
+    if line == "yes" {
+        Status::Done
+    } else {
+        Status::NotRight
+    }
+}
+
+// The vertices a, b, c and d; edges lead from a to c and twice to b, of which one has a tag, and from b and c to d.
+const FOUR: &str =
+    "weaver 1 2 1\ntx t 0 0\ncreate a\ncreate b\ncreate c\ncreate d\nlink a f c\nlink a g b\nlink a h b\nlink b f d\nlink c f d\ntag a g k x\nend\n";
+
+// A program on them, its reply, the vertex of a pair that puts it after them, the programs of the order, and what `check` writes.
+const ASKED: [(&str, &str, &str, &str, &str); 19] = [
+    ("show d", "done record", "d", " p", "yes"),
+    ("show d", "done absent", "d", " p", "no iv 2"),
+    ("show d", "done record", "a", " p", "no v 1"),
+    ("reach a d", "done yes", "d", " p", "yes"),
+    ("reach a d", "done no", "d", " p", "no iv 2"),
+    ("reach a b where k x", "done yes", "b", " p", "yes"),
+    ("reach a d where k x", "done no", "b", " p", "yes"),
+    ("reach a d where k x", "done yes", "b", " p", "no iv 2"),
+    ("reach a d where k x", "done no", "c", " p", "no v 1"),
+    ("around a 1", "done found a b c", "c", " p", "yes"),
+    ("around a 1", "done found a b c d", "c", " p", "no iv 2"),
+    ("around a 1", "done found a b c", "d", " p", "no v 1"),
+    ("around a 1", "running", "d", "", "yes"),
+    (
+        "around a 2 where k x",
+        "done found a b c d",
+        "b",
+        " p",
+        "no iv 2",
+    ),
+    ("path a d 2", "done path a b d", "d", " p", "yes"),
+    ("path a d 2", "done path a c d", "d", " p", "no iv 2"),
+    ("path a d 2", "done none", "d", " p", "no iv 2"),
+    ("path a d 1", "done none", "d", " p", "no v 1"),
+    ("path a d 1", "running", "d", "", "yes"),
+];
+
+#[test]
+fn answers_and_pairs_of_each_program(rt: HostRuntime) -> Result<(), Fail> {
+    let alloc = rt.alloc();
+    for (program, reply, vertex, order, line) in ASKED.iter() {
+        let script = format!(in alloc; "{FOUR}prog p 1 1 {program}\n")?;
+        let report = format!(in alloc;
+            "report 1\ntx t 0:0:1,0 committed 1\nprog p 0:1:0,1 {reply}\nsettled {vertex} t p\norder t{order}\nend\n"
+        )?;
+        assert!(rt;
+            writes(
+                &rt,
+                alloc,
+                script.as_str(),
+                report.as_str(),
+                ended(line),
+                line
+            )?,
+            "{program}: {line}"
+        );
+    }
+    Ok(())
+}
+
 // Scripts, what follows them, and why they are refused.
-const REFUSED: [(&str, &str, &str); 14] = [
+const REFUSED: [(&str, &str, &str); 12] = [
     ("", "", "refused 1 header"),
     ("weaver 1 9 1\n", TWO_REPORT, "refused 1 gatekeepers"),
     ("weaver 1 1 1\n", "", "refused 2 end"),
@@ -152,16 +269,6 @@ const REFUSED: [(&str, &str, &str); 14] = [
         TWO,
         "report 1\ntx t1 0:0:1 committed 1\norder\nend\n",
         "refused 16 stamp",
-    ),
-    (
-        PROGRAM,
-        "report 1\nprog p 0:0:1 done absent\norder p\nend\n",
-        "refused 0 unbuilt",
-    ),
-    (
-        PROGRAM,
-        "report 1\nprog p unbegun\norder\nend\n",
-        "refused 0 unbuilt",
     ),
     (
         PROGRAM,

@@ -7,7 +7,7 @@ ghost use Rattle.weaver_top.specs.Commands.{command_named, command_of};
 pub enum Command {
     /// Reads a script, runs it, and writes its report.
     Run,
-    /// Reads a script and a report behind it, and writes whether the report is right.
+    /// Reads a script and a report after it, and writes whether the report is right. It judges every script and report that can be read.
     Check,
 }
 

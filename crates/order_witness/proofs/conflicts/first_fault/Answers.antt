@@ -1,10 +1,6 @@
 use Rattle.std.proofs.Common.{sym, ◌∙◌}
-use Rattle.order_witness.proofs.Replying.{differ}
 use Rattle.order_witness.proofs.Testing.{conflicts_hold}
 use Rattle.order_witness.proofs.conflicts.first_fault.Goals as goal
-
-pub precedence_of-requires : goal.precedence_of-requires
-precedence_of-requires c = differ c.args.script.now c.args.report.now c.requires
 
 pub returns-then-hold_by_stamps : goal.returns-then-hold_by_stamps
 returns-then-hold_by_stamps c =

@@ -6,14 +6,11 @@ use Rattle.program_defs.specs.declared.script.Request.{Request}
 use Rattle.report_rules.specs.Lookups.{request_at}
 use Rattle.report_rules.specs.Replay.{graph_after_commit}
 use Rattle.order_witness.specs.Refusals.{IsThere}
-use Rattle.order_witness.proofs.Testing.{is_changes, is_short}
+use Rattle.order_witness.proofs.Testing.{is_numbered}
 use Rattle.order_witness.proofs.marks.commit.Goals as goal
 
-pub work_passes-requires-clause-change : goal.work_passes-requires-clause-change
-work_passes-requires-clause-change c = is_changes c.args.script.now c.requires.programs c.in-Some.only c.in-Some-request_in.request.now (sym c.in-Some-request_in.ensures)
-
-pub work_passes-requires-clause-short : goal.work_passes-requires-clause-short
-work_passes-requires-clause-short c = is_short c.args.script.now c.requires.short c.in-Some.only c.in-Some-request_in.request.now (sym c.in-Some-request_in.ensures)
+pub work_passes-requires : goal.work_passes-requires
+work_passes-requires c = record { numbered = is_numbered c.args.script.now c.requires.numbered c.in-Some.only c.in-Some-request_in.request.now (sym c.in-Some-request_in.ensures) }
 
 pub returns-in-Some-request_in : goal.returns-in-Some-request_in
 returns-in-Some-request_in c =

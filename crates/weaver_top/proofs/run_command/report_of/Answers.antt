@@ -35,4 +35,4 @@ returns c input short is_text =
     let names = c.script_names_are_distinct.ensures in
     let told : IsReportTextOf script (report_text script report) report = c.printed_text_is_text.ensures script report (names.told script valid) (names.typed script valid) run.of_script (subst IsTypedReport is c.in_ok-text.ensures.typed) in
     let here = subst (λ bytes. IsReportTextOf script bytes report) (sym (printed ∙ ap (report_text script) is)) told in
-    run_told input script _ _ short is_text c.requires.built plain is printed run (accepted c.report_texts_follow_script_texts.ensures input _ script report is_text here built.0 run.right)
+    run_told input script _ _ short is_text c.requires.built plain is printed run (accepted c.report_texts_follow_script_texts.ensures input _ script report is_text here run.right)

@@ -1,0 +1,191 @@
+-- The begun requests taken one after another: at first none is done, each turn one more, and in the end all or, where a request precedes itself, not all.
+use Rattle.std.proofs.Common.{◌≡◌, ℕ, zero, suc, ◌<◌, Bool, true, false, not, cond, IsTrue, Contains, List, [], ◌∷◌, length, map, replicate, Option, Some, None, inl, inr, refl, sym, ap, ◌∙◌, arith}
+use Rattle.std.specs.Prelude.{is_some, slice_get, slice_set}
+use Rattle.std.specs.List.{list_all, filter, AllByRecursion}
+use Rattle.std.proofs.lemmas.Bool.{and_parts, and_from, both_ways, cases_Bool, cases_eq, not-true, not_from_false, false_from_ne_true}
+use Rattle.std.proofs.lemmas.List.{get_or_past, get_or-set_same, get_or-set_other, length-map, length-replicate}
+use Rattle.std.proofs.lemmas.Option.{slice_get_within}
+use Rattle.vector_stamp.specs.declared.clock.Stamp.{Stamp}
+use Rattle.vector_stamp.specs.Precedence.{precedes}
+use Rattle.program_defs.specs.declared.script.Script.{Script}
+use Rattle.report_rules.specs.declared.report.Report.{Report}
+use Rattle.report_rules.specs.declared.report.Reply.{Reply}
+use Rattle.proof_base.specs.Facts.{AllHold}
+use Rattle.proof_base.proofs.Members.{has_none, has_read}
+use Rattle.report_rules.specs.RightReport.{replies_clause}
+use Rattle.report_rules.specs.PrintedOrder.{IsNext, IsPrintedOrder, TakesAll, begun_requests, without_request}
+use Rattle.report_rules.specs.Lookups.{is_in, is_some_and, is_committed_or_finished, may_be_listed, stamp_at, given_pairs, RequestPrecedes}
+use Rattle.order_witness.specs.declared.heads.Run.{Run}
+use Rattle.order_witness.specs.Begun.{request_precedes, stamp_in, NonePrecedesItself}
+use Rattle.order_witness.specs.ByNumber.{list_at}
+use Rattle.order_witness.specs.Choices.{IsBest, begun_in}
+use Rattle.order_witness.specs.Heads.{item, is_done, left_of, AreRising, IsReached, listed_in, seen_by, AreEarlierEnds, AreWaiting}
+use Rattle.order_witness.proofs.BegunLaws.{AreClosed, both_there}
+use Rattle.order_witness.proofs.Leading.{begun_there, left_there, left_begun, left_without}
+use Rattle.order_witness.proofs.Printing.{AreTaken, IsBegun, all_at, all_from, any_in, all_begun, all_taken, is_next, none_left, taken_itself}
+use Rattle.order_witness.proofs.Replying.{is_numbered, reply_of}
+use Rattle.order_witness.proofs.Testing.{IsDecided, tested}
+
+-- Tests of all
+
+pub all_done : (done : List Bool) → IsTrue (list_all (λ is. is) done) → (r : ℕ) → is_done done r ≡ true
+all_done [] h r = get_or_past [] r true (omega arith)
+all_done (x ∷ xs) h zero = (and_parts x (list_all (λ is. is) xs) h).0
+all_done (x ∷ xs) h (suc r) = all_done xs (and_parts x (list_all (λ is. is) xs) h).1 r
+
+pub done_all : (done : List Bool) → ((r : ℕ) → is_done done r ≡ true) → IsTrue (list_all (λ is. is) done)
+done_all [] f = refl
+done_all (x ∷ xs) f = and_from x (list_all (λ is. is) xs) (f 0) (done_all xs (λ r. f (suc r)))
+
+-- the place of a member
+place_of : (xs : List ℕ) (r : ℕ) → Contains xs r → (k : ℕ) × (k < length xs) × (item xs k ≡ r)
+place_of [] r h = absurd (has_none r h)
+place_of (x ∷ xs) r h =
+    elim (has_read x xs r h) [
+      | inl same ↦ (0, omega arith, same)
+      | inr later ↦ let rest = place_of xs r later in (suc rest.0, omega (arith, rest.1), rest.2)
+    ]
+
+filter_whole : (test : ℕ → Bool) (xs : List ℕ) → AllByRecursion (λ x. IsTrue (test x)) xs → filter test xs ≡ xs
+filter_whole test [] h = refl
+filter_whole test (x ∷ xs) h = ap (λ b. cond b (x ∷ filter test xs) (filter test xs)) h.0 ∙ ap (λ (ys : List ℕ). x ∷ ys) (filter_whole test xs h.1)
+
+none_passes : (test : ℕ → Bool) → ((x : ℕ) → test x ≡ false) → (xs : List ℕ) → filter test xs ≡ []
+none_passes test none [] = refl
+none_passes test none (x ∷ xs) = ap (λ b. cond b (x ∷ filter test xs) (filter test xs)) (none x) ∙ none_passes test none xs
+
+-- At first
+
+abbrev pub never : Reply → Bool
+never reply = not (is_some reply.stamp)
+
+start_done : (replies : List Reply) (r : ℕ) → is_done (map never replies) r ≡ not (is_some (stamp_in replies r))
+start_done [] r = get_or_past [] r true (omega arith)
+start_done (reply ∷ replies) zero = refl
+start_done (reply ∷ replies) (suc r) = start_done replies r
+
+some_stamp : (o : Option Stamp) → not (is_some o) ≡ false → (s : Stamp) × (o ≡ Some s)
+some_stamp None h = cc
+some_stamp (Some s) h = (s, refl)
+
+zeros : (n r : ℕ) → seen_by (replicate n 0) r ≡ 0
+zeros zero r = get_or_past [] r 0 (omega arith)
+zeros (suc n) zero = refl
+zeros (suc n) (suc r) = zeros n r
+
+module _ (report : Report) (done : List Bool) (done_is : done ≡ map never report.replies) where
+  done_at : (r : ℕ) → is_done done r ≡ not (is_some (stamp_at report r))
+  done_at r = ap (λ (ds : List Bool). is_done ds r) done_is ∙ start_done report.replies r
+
+  begun_at : (r : ℕ) → is_done done r ≡ false → IsBegun report r
+  begun_at r h = some_stamp (stamp_at report r) (sym (done_at r) ∙ h)
+
+  not_done : (r : ℕ) (s : Stamp) → stamp_at report r ≡ Some s → is_done done r ≡ false
+  not_done r s at = done_at r ∙ ap (λ (o : Option Stamp). not (is_some o)) at
+
+  pub start_size : length done ≡ length report.replies
+  start_size = ap (λ (ds : List Bool). length ds) done_is ∙ length-map report.replies never
+
+  pub start_left : (script : Script) → AllHold (replies_clause script report) → left_of report done ≡ begun_requests report
+  start_left script holds = filter_whole (λ r. not (is_done done r)) (begun_in report.replies) (all_from (λ r. IsTrue (not (is_done done r))) (begun_in report.replies) (λ r there.
+      let begun = all_at (IsBegun report) (begun_in report.replies) r (all_begun script report holds) there in
+      not_from_false _ (not_done r begun.0 begun.1)))
+
+  pub start_waiting : (line : List ℕ) (befores : List (List ℕ)) (runs : List Run) (seen : List ℕ) (count : ℕ) → ((place : ℕ) (stamp : Stamp) → stamp_in report.replies place ≡ Some stamp → Contains line place)
+      → AreRising report line runs → ((k : ℕ) → k < length line → IsReached runs k) → AreEarlierEnds report befores → count ≡ length report.replies → seen ≡ replicate count 0 → AreWaiting report line befores runs seen done
+  start_waiting line befores runs seen count has rising reached ends count_is seen_is = record {
+    size = ap (λ (xs : List ℕ). length xs) seen_is ∙ length-replicate count 0 ∙ count_is;
+    rising = rising;
+    found = λ r is_left.
+        let begun = begun_at r is_left in
+        let at = place_of line r (has r begun.0 begun.1) in
+        (at.0, reached at.0 at.1, at.2);
+    ends = ends;
+    seen_done = λ r k below. absurd (omega (arith, below, ap (λ (xs : List ℕ). seen_by xs r) seen_is ∙ zeros count r));
+    begun = begun_at;
+    closed = λ r left s at is_done_r left_is. absurd (both_ways _ (not_done r s at) is_done_r);
+  }
+
+-- One turn
+
+module _ (script : Script) (report : Report) (holds : AllHold (replies_clause script report)) (decided : IsDecided) (all_closed : AreClosed) where
+  abbrev prec : ℕ → ℕ → Bool
+  prec = request_precedes report
+
+  as_tested : (a b : ℕ) → RequestPrecedes report a b → IsTrue (prec a b)
+  as_tested a b h = tested decided script report prec (λ x y. refl) a b h
+
+  module _ (done : List Bool) (best : ℕ) (chosen : IsBest report prec (left_of report done) (left_of report done) (Some best)) (size : length done ≡ length report.replies) where
+    best_begun : IsBegun report best
+    best_begun = left_begun script report holds done best chosen.0
+
+    pub best_within : best < length report.replies
+    best_within = let reply = reply_of script report holds best best_begun.0 best_begun.1 in slice_get_within report.replies best reply.0 reply.1
+
+    pub best_inside : best < length done
+    best_inside = omega (arith, best_within, size)
+
+    pub left_then : without_request best (left_of report done) ≡ left_of report (slice_set done best true)
+    left_then = left_without script report holds done best best_inside
+
+    pub next_is : IsNext report (left_of report done) best
+    next_is = is_next script report holds decided all_closed prec (λ x y. refl) (left_of report done) best (all_from (IsBegun report) (left_of report done) (λ r there. left_begun script report holds done r there)) chosen
+
+    stays_done : (r : ℕ) → is_done done r ≡ true → is_done (slice_set done best true) r ≡ true
+    stays_done r h =
+        elim (cases_eq r best) [
+          | inl same ↦ ap (is_done (slice_set done best true)) same ∙ get_or-set_same done best true true best_inside
+          | inr other ↦ get_or-set_other done best r true true other ∙ h
+        ]
+
+    was_left : (r : ℕ) → is_done (slice_set done best true) r ≡ false → is_done done r ≡ false
+    was_left r h = false_from_ne_true _ (λ is. both_ways _ h (stays_done r is))
+
+    pub waiting_then : (line : List ℕ) (befores : List (List ℕ)) (runs : List Run) (seen : List ℕ) → AreWaiting report line befores runs seen done → AreWaiting report line befores runs seen (slice_set done best true)
+    waiting_then line befores runs seen waiting = record {
+      size = waiting.size;
+      rising = waiting.rising;
+      found = λ r is_left. waiting.found r (was_left r is_left);
+      ends = waiting.ends;
+      seen_done = λ r k below. stays_done (item (list_at befores r) k) (waiting.seen_done r k below);
+      begun = λ r is_left. waiting.begun r (was_left r is_left);
+      closed = λ r left s at done_r left_is.
+          let left_was = was_left left left_is in
+          elim (cases_eq r best) [
+            | inr other ↦ waiting.closed r left s at (sym (get_or-set_other done best r true true other) ∙ done_r) left_was
+            | inl same ↦
+                let there = left_there script report holds done left (waiting.begun left left_was) left_was in
+                ap (prec left) same ∙ false_from_ne_true _ (λ h. both_ways _ (not-true _ chosen.1) (any_in (λ other. prec other best) (left_of report done) left there h))
+          ];
+    }
+
+    -- what is put at the end of the order
+    pub listed_then : listed_in (slice_get report.replies best) ≡ filter (may_be_listed report) (best ∷ [])
+    listed_then =
+        let reply = reply_of script report holds best best_begun.0 best_begun.1 in
+        ap listed_in reply.1 ∙ ap (λ n. cond (is_committed_or_finished reply.0.state) (n ∷ []) []) (is_numbered script report holds best reply.0 reply.1)
+        ∙ ap (λ (o : Option Reply). cond (is_some_and (λ (r : Reply). is_committed_or_finished r.state) o) (best ∷ []) []) (sym reply.1)
+
+  -- The end
+
+  pub in_the_end : (done : List Bool) (taken order : List ℕ) → AreTaken report (begun_requests report) taken (left_of report done) → order ≡ filter (may_be_listed report) taken → ((r : ℕ) → is_done done r ≡ true) → IsPrintedOrder report order × NonePrecedesItself report
+  in_the_end done taken order in_turn listed all =
+      let none : left_of report done ≡ [] = filter_none (begun_in report.replies) in
+      let takes : TakesAll report (begun_requests report) taken = all_taken report (begun_requests report) taken (left_of report done) in_turn none in (
+        record { taken = taken; in_turn = takes; listed = listed },
+        λ r h. taken_itself report taken (begun_requests report) takes r (begun_of r h) h,
+      )
+    where
+      filter_none : (xs : List ℕ) → filter (λ r. not (is_done done r)) xs ≡ []
+      filter_none xs = none_passes (λ r. not (is_done done r)) (λ r. ap not (all r)) xs
+
+      begun_of : (r : ℕ) → RequestPrecedes report r r → IsTrue (is_in r (begun_in report.replies))
+      begun_of r h = let there = both_there (precedes (given_pairs report)) (stamp_at report r) (stamp_at report r) (as_tested r r h) in begun_there script report holds r (there.x, there.first_is)
+
+  pub not_in_the_end : (done : List Bool) → ((r : ℕ) → is_done done r ≡ false → IsBegun report r) → IsBest report prec (left_of report done) (left_of report done) None → ¬ IsTrue (list_all (λ is. is) done) → ¬ NonePrecedesItself report
+  not_in_the_end done begun best some acyclic =
+      let none : left_of report done ≡ [] = none_left script report holds decided all_closed prec (λ x y. refl) acyclic (left_of report done) best in
+      some (done_all done (λ r. elim (cases_Bool (is_done done r)) [
+        | inl is ↦ is
+        | inr is_left ↦ absurd (let nowhere : is_in r (left_of report done) ≡ false = ap (is_in r) none in both_ways _ nowhere (left_there script report holds done r (begun r is_left) is_left))
+      ]))
