@@ -1,0 +1,11 @@
+pub mod CoreState
+pub mod Requests
+pub mod Answers
+pub mod Entries
+pub mod Trace
+pub mod IsCore
+pub mod AccountLaws
+pub mod LogLaws
+pub mod StampLaws
+pub mod FurtherLaws
+pub mod LowerLaws

@@ -1,0 +1,66 @@
+//! What holds of a core's state from the start on, as contracts over the definitions alone.
+ghost use Rattle.std.specs.Prelude.{◌≡◌, ◌≢◌, List, [], ◌∷◌, ◌++◌};
+ghost use Rattle.program_defs.specs.declared.script.Script.{Script};
+ghost use Rattle.program_defs.specs.declared.script.Step.{Step};
+ghost use Rattle.report_rules.specs.declared.report.StepAnswer.TheVariants.{Ok};
+ghost use Rattle.step_rules.specs.CoreState.{CoreState, start_state};
+ghost use Rattle.step_rules.specs.Answers.{answer_of};
+ghost use Rattle.step_rules.specs.Entries.{state_with};
+ghost use Rattle.step_rules.specs.Trace.{state_after, trace_of, trace_start, traced_after};
+ghost use Rattle.weave_account.specs.GoesOn.{GoesOn};
+ghost use Rattle.program_defs.specs.Limits.{IsWithinLimits};
+ghost use Rattle.step_rules.specs.IsCore.{AreSteps, IsCore, IsSmall, IsSmallIfDone, IsStepOf};
+
+use crate::lower_laws::{
+    accounts_keep_their_laws, programs_keep_their_laws, the_crates_below_keep_their_laws,
+};
+use weave_account::laws::empty_logs_are_an_account;
+
+/// Before the first step the state is that of a core.
+pub fn start_is_a_core()
+    ensures { (script : Script) → IsCore script (start_state script) }
+{
+    empty_logs_are_an_account();
+}
+
+/// A step that answers `ok` makes its entries, and any other leaves the state as it was.
+pub fn refused_steps_change_nothing()
+    ensures done { (script : Script) (state : CoreState) (step : Step) → answer_of script state step ≡ Ok
+        → state_after script state step ≡ state_with script state step }
+    ensures refused { (script : Script) (state : CoreState) (step : Step) → answer_of script state step ≢ Ok
+        → state_after script state step ≡ state }
+{}
+
+/// A step that is done leaves a core, whose logs begin with those before it; any other leaves the state as it was.
+pub fn steps_keep_the_core()
+    ensures done { (script : Script) (state : CoreState) (step : Step) → IsWithinLimits script → IsStepOf script step
+        → IsSmall script state step → IsCore script state → answer_of script state step ≡ Ok
+        → IsCore script (state_with script state step) }
+    ensures tried { (script : Script) (state : CoreState) (step : Step) → IsWithinLimits script → IsStepOf script step
+        → IsSmallIfDone script state step → IsCore script state → IsCore script (state_after script state step) }
+    ensures goes_on { (script : Script) (state : CoreState) (step : Step) → IsWithinLimits script
+        → IsStepOf script step → IsCore script state → GoesOn state.account (state_after script state step).account }
+    ensures refused { (script : Script) (state : CoreState) (step : Step) → answer_of script state step ≢ Ok
+        → state_after script state step ≡ state }
+{
+    the_crates_below_keep_their_laws();
+    accounts_keep_their_laws();
+    programs_keep_their_laws();
+}
+
+/// The state after a list of steps is that of a core.
+pub fn trace_is_a_core()
+    ensures { (script : Script) (steps : List Step) → IsWithinLimits script
+        → AreSteps script (start_state script) steps → IsCore script (trace_of script steps).state }
+{
+    the_crates_below_keep_their_laws();
+    accounts_keep_their_laws();
+    programs_keep_their_laws();
+}
+
+/// A trace goes on with each further step.
+pub fn traces_go_on()
+    ensures at_first { (script : Script) → trace_of script [] ≡ trace_start script }
+    ensures next { (script : Script) (steps : List Step) (step : Step)
+        → trace_of script (steps ++ step ∷ []) ≡ traced_after script (trace_of script steps) step }
+{}
