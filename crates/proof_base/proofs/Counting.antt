@@ -1,8 +1,10 @@
--- How many: a list in which nothing comes twice is no longer than one that has all its members; and two places of a
--- list.
-use Rattle.std.proofs.Common.{◌≡◌, ◌≢◌, ℕ, suc, ◌≤◌, true, false, cond, nat_eq, List, [], ◌∷◌, ◌++◌, length, IsTrue, inl, inr, refl, sym, ap, subst, ◌∙◌, arith}
+-- How many: a list in which nothing comes twice is no longer than one that has all its members, in a longer list at
+-- least as many pass a test; and two places of a list.
+use Rattle.std.proofs.Common.{◌≡◌, ◌≢◌, ℕ, suc, ◌≤◌, Bool, true, false, cond, nat_eq, List, [], ◌∷◌, ◌++◌, length, count_by, IsTrue, inl, inr, refl, sym, ap, subst, ◌∙◌, arith}
 use Rattle.std.proofs.lemmas.Bool.{cases_eq, eq-eqb, ne_eqb}
 use Rattle.std.specs.List.{list_any}
+use Rattle.std.proofs.lemmas.List.{append_assoc, append-nil}
+use Rattle.proof_base.proofs.Ends.{by_last, count_push}
 use Rattle.proof_base.proofs.Numbers.{IsSorted, in-head, in-tail, in-cases}
 
 -- the list without one occurrence of a number
@@ -43,6 +45,16 @@ no-longer (x ∷ xs) ys once among =
     let rest = no-longer xs (drop_one x ys) once.1 (λ n h. in-drop_one x n ys (among n (in-tail n x xs h)) (λ same. once.0 n h (sym same))) in
     let long = length-drop_one x ys (among x (in-head x xs)) in
     omega (arith, rest, long)
+
+-- a longer list has at least as many that pass
+pub count-more : {A : Type 0} (p : A → Bool) (xs ys : List A) → count_by p xs ≤ count_by p (xs ++ ys)
+count-more p xs =
+    by_last (λ ys. count_by p xs ≤ count_by p (xs ++ ys))
+    (let e = ap (count_by p) (append-nil xs) in omega (arith, e))
+    (λ ys y more.
+    let longer = ap (count_by p) (append_assoc xs ys (y ∷ [])) in
+    let last = count_push p (xs ++ ys) y in
+    omega (arith, more, longer, last))
 
 -- Two places of a list
 

@@ -1,6 +1,6 @@
--- Members of mapped lists, the last element that passes a test, and lists of lists.
-use Rattle.std.proofs.Common.{◌≡◌, ℕ, zero, suc, ◌<◌, Bool, length, get_or, arith, List, [], ◌∷◌, map, Contains, IsTrue, None, inl, inr, sym, subst}
-use Rattle.std.specs.Prelude.{reverse}
+-- Members of mapped lists, the last element that passes a test, the element at a place, and lists of lists.
+use Rattle.std.proofs.Common.{◌≡◌, ℕ, zero, suc, ◌<◌, Bool, length, get_or, arith, List, [], ◌∷◌, map, Contains, IsTrue, None, Some, inl, inr, sym, subst}
+use Rattle.std.specs.Prelude.{reverse, slice_get}
 use Rattle.std.specs.List.{filter, find, flat_map}
 use Rattle.std.proofs.lemmas.List.{reverse-append}
 use Rattle.std.proofs.lemmas.List.Elements.{Contains-append_left, Contains-append_right}
@@ -19,6 +19,12 @@ module _ {A : Type 0} where
             | inl same ↦ Contains-append_right (reverse xs) (z ∷ []) x (subst (λ k. Contains (z ∷ []) k) same (has_head z []))
             | inr more ↦ Contains-append_left (reverse xs) (z ∷ []) x (in-reverse xs x more)
           ])
+
+-- the element at a place is a member
+pub get-has : {A : Type 0} (xs : List A) (i : ℕ) (x : A) → slice_get xs i ≡ Some x → Contains xs x
+get-has [] i x e = cc
+get-has (y ∷ xs) zero x e = let same : y ≡ x = cc in subst (λ z. Contains (z ∷ xs) x) (sym same) (has_head x xs)
+get-has (y ∷ xs) (suc i) x e = has_tail y xs x (get-has xs i x e)
 
 module _ {A B : Type 0} (f : A → B) where
   -- what a member of a mapped list is the image of

@@ -13,7 +13,7 @@ use Rattle.report_rules.specs.declared.report.StepAnswer.TheVariants.{Ok, Twice,
 use Rattle.step_rules.proofs.Computed.{traced_report}
 use Rattle.step_rules.proofs.RowWords.{script, tx, prog, stamp, raised_stamp, reply, pair, got, record_of, n_a, n_b, n_k, n_p, n_q, n_t1, n_t2, n_t3, n_t4, n_t5, n_u, n_v, n_w, n_x, n_y, n_c}
 
--- each refusal, and where two hold the first one; notices that are heard late; a refused transaction leaves nothing
+-- each refusal, and if two hold the first one; notices that are heard late; a refused transaction leaves nothing
 abbrev pub script_first_refusal_that_holds : Script
 script_first_refusal_that_holds = script 2 1 (
     tx n_t1 0 0 (Create n_v ∷ []) ∷

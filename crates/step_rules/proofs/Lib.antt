@@ -33,3 +33,4 @@ mod Rows
 mod MoreRows
 mod FurtherRows
 mod RowsKept
+mod FewSteps

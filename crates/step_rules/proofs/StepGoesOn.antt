@@ -21,20 +21,20 @@ use Rattle.weave_entries.specs.declared.session_log.SessionDeed.TheVariants as s
 use Rattle.weave_entries.specs.declared.message.Message.{Message}
 use Rattle.weave_entries.specs.declared.oracle_log.OracleEntry.{OracleEntry}
 use Rattle.weave_entries.specs.declared.store_log.StoreEntry.{StoreEntry}
-use Rattle.weave_entries.specs.GateReplay.{Begun, channel_of, flight_of, program_begun}
+use Rattle.weave_entries.specs.GateReplay.{Begun, channel_of, clock_of, flight_of, program_begun}
 use Rattle.weave_entries.specs.StoreReplay.{Judgement}
 use Rattle.weave_account.specs.declared.account.Account.{Account}
 use Rattle.weave_account.specs.Account.{gate_log, shard_log, session_log}
 use Rattle.weave_account.specs.GoesOn.{GoesOn, IsBeginningOf}
 use Rattle.program_defs.specs.Limits.{IsWithinLimits}
 use Rattle.step_rules.specs.CoreState.{CoreState, with_gate_deed, with_shard_deed, with_session_deed}
-use Rattle.step_rules.specs.Entries.{account_with, after_begin, after_deliver, after_hear, after_judge, after_reply, after_send, after_visit, after_work, at_request, judgement_in_flight, with_finish}
+use Rattle.step_rules.specs.Entries.{account_with, after_begin, after_deliver, after_hear, after_judge, after_reply, after_send, after_visit, after_work, at_request, judgement_in_flight, notices_with, with_finish}
 use Rattle.step_rules.specs.IsCore.{IsCore, IsStepOf}
 use Rattle.step_rules.specs.Requests.{has_ended, next_vertex}
 
 -- Beginnings
 
-same-log : {E : Type 0} (log : List E) → IsBeginningOf log log
+pub same-log : {E : Type 0} (log : List E) → IsBeginningOf log log
 same-log log = ([], sym (append-nil log))
 
 longer-log : {E : Type 0} (log middle last : List E) → IsBeginningOf log middle → IsBeginningOf middle last → IsBeginningOf log last
@@ -197,3 +197,20 @@ module _ (script : Script) (state : CoreState) (limits : IsWithinLimits script) 
   step-goes-on (Reply r) range = replies-on r (request_at script r) refl
   step-goes-on (Collect s) range = with-shard-deed account s _ (shard-within s range)
   step-goes-on (Epoch g epoch) range = with-gate-deed account g 0 _ (gate-within g range.0)
+
+-- Notices
+
+-- the notices begin with those before
+pub notices-on : (state : CoreState) (step : Step) → IsBeginningOf state.notices (notices_with state step)
+notices-on state (Begin r) = same-log state.notices
+notices-on state (Judge g) = same-log state.notices
+notices-on state (Send g) = same-log state.notices
+notices-on state (Say g) = (clock_of g (gate_log state.account g) ∷ [], refl)
+notices-on state (Hear g n) = same-log state.notices
+notices-on state (Nop g s) = same-log state.notices
+notices-on state (Deliver g s n) = same-log state.notices
+notices-on state (Apply s g) = same-log state.notices
+notices-on state (Visit r) = same-log state.notices
+notices-on state (Reply r) = same-log state.notices
+notices-on state (Collect s) = same-log state.notices
+notices-on state (Epoch g epoch) = same-log state.notices

@@ -6,7 +6,7 @@ use Rattle.program_defs.specs.declared.script.Step.{Step}
 use Rattle.program_defs.specs.declared.script.Step.TheVariants.{Begin, Judge, Send, Say, Hear, Nop, Deliver, Apply, Visit, Reply, Collect, Epoch}
 use Rattle.report_rules.specs.declared.report.StepAnswer.{StepAnswer}
 use Rattle.report_rules.specs.declared.report.StepAnswer.TheVariants.{Ok, Twice, Early, Busy, Idle, Old, Unknown, Repeat, Empty, Waits, Again}
-use Rattle.weave_account.specs.GoesOn.{GoesOn}
+use Rattle.weave_account.specs.GoesOn.{GoesOn, IsBeginningOf}
 use Rattle.program_defs.specs.Limits.{IsWithinLimits}
 use Rattle.step_rules.specs.CoreState.{CoreState}
 use Rattle.step_rules.specs.Answers.{answer_of}
@@ -23,7 +23,7 @@ use Rattle.step_rules.proofs.QuietSteps.{apply-keeps, collect-keeps, deliver-kee
 use Rattle.step_rules.proofs.Replying.{reply-keeps}
 use Rattle.step_rules.proofs.SendStep.{send-keeps}
 use Rattle.step_rules.proofs.Starting.{start-is-core}
-use Rattle.step_rules.proofs.StepGoesOn.{goes-same, step-goes-on}
+use Rattle.step_rules.proofs.StepGoesOn.{goes-same, notices-on, same-log, step-goes-on}
 use Rattle.step_rules.proofs.Visiting.{visit-keeps}
 
 ok-is : (answer : StepAnswer) → is_ok answer ≡ true → answer ≡ Ok
@@ -81,3 +81,11 @@ step-goes script state step limits range core = at (is_ok (answer_of script stat
     at : (b : Bool) → GoesOn state.account (cond b (state_with script state step) state).account
     at true = step-goes-on script state limits core step range
     at false = goes-same state.account
+
+-- and so do the notices
+pub notices-go : (script : Script) (state : CoreState) (step : Step) → IsBeginningOf state.notices (state_after script state step).notices
+notices-go script state step = at (is_ok (answer_of script state step))
+  where
+    at : (b : Bool) → IsBeginningOf state.notices (cond b (state_with script state step) state).notices
+    at true = notices-on state step
+    at false = same-log state.notices

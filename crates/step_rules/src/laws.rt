@@ -1,5 +1,5 @@
 //! What holds of a core's state from the start on, as contracts over the definitions alone.
-ghost use Rattle.std.specs.Prelude.{◌≡◌, ◌≢◌, List, [], ◌∷◌, ◌++◌};
+ghost use Rattle.std.specs.Prelude.{◌≡◌, ◌≢◌, ◌<◌, ◌^◌, List, [], ◌∷◌, ◌++◌, length, Contains};
 ghost use Rattle.program_defs.specs.declared.script.Script.{Script};
 ghost use Rattle.program_defs.specs.declared.script.Step.{Step};
 ghost use Rattle.report_rules.specs.declared.report.StepAnswer.TheVariants.{Ok};
@@ -7,7 +7,7 @@ ghost use Rattle.step_rules.specs.CoreState.{CoreState, start_state};
 ghost use Rattle.step_rules.specs.Answers.{answer_of};
 ghost use Rattle.step_rules.specs.Entries.{state_with};
 ghost use Rattle.step_rules.specs.Trace.{state_after, trace_of, trace_start, traced_after};
-ghost use Rattle.weave_account.specs.GoesOn.{GoesOn};
+ghost use Rattle.weave_account.specs.GoesOn.{GoesOn, IsBeginningOf};
 ghost use Rattle.program_defs.specs.Limits.{IsWithinLimits};
 ghost use Rattle.step_rules.specs.IsCore.{AreSteps, IsCore, IsSmall, IsSmallIfDone, IsStepOf};
 
@@ -31,7 +31,7 @@ pub fn refused_steps_change_nothing()
         → state_after script state step ≡ state }
 {}
 
-/// A step that is done leaves a core, whose logs begin with those before it; any other leaves the state as it was.
+/// A step that is done leaves a core, and any other leaves the state as it was. The logs and the notices begin with those before the step.
 pub fn steps_keep_the_core()
     ensures done { (script : Script) (state : CoreState) (step : Step) → IsWithinLimits script → IsStepOf script step
         → IsSmall script state step → IsCore script state → answer_of script state step ≡ Ok
@@ -40,6 +40,8 @@ pub fn steps_keep_the_core()
         → IsSmallIfDone script state step → IsCore script state → IsCore script (state_after script state step) }
     ensures goes_on { (script : Script) (state : CoreState) (step : Step) → IsWithinLimits script
         → IsStepOf script step → IsCore script state → GoesOn state.account (state_after script state step).account }
+    ensures notices { (script : Script) (state : CoreState) (step : Step)
+        → IsBeginningOf state.notices (state_after script state step).notices }
     ensures refused { (script : Script) (state : CoreState) (step : Step) → answer_of script state step ≢ Ok
         → state_after script state step ≡ state }
 {
@@ -48,10 +50,14 @@ pub fn steps_keep_the_core()
     programs_keep_their_laws();
 }
 
-/// The state after a list of steps is that of a core.
+/// The state after a list of steps is that of a core, if the stamp of each `begin` that is done has 64 bits.
+/// Fewer than 2^64 steps need no such premise: each makes at most one entry at a gatekeeper, so no count gets past 64 bits.
 pub fn trace_is_a_core()
-    ensures { (script : Script) (steps : List Step) → IsWithinLimits script
+    ensures core { (script : Script) (steps : List Step) → IsWithinLimits script
         → AreSteps script (start_state script) steps → IsCore script (trace_of script steps).state }
+    ensures few { (script : Script) (steps : List Step) → IsWithinLimits script
+        → ((step : Step) → Contains steps step → IsStepOf script step) → length steps < 2 ^ 64
+        → AreSteps script (start_state script) steps }
 {
     the_crates_below_keep_their_laws();
     accounts_keep_their_laws();

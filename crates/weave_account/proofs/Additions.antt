@@ -1,5 +1,4 @@
--- Where a judge adds a pair for an event, no earlier place has that event. It belongs into the crate of stamps,
--- beside the laws of settling.
+-- If a judge adds a pair for an event, no earlier place has that event.
 use Rattle.std.proofs.Common.{◌≡◌, ℕ, zero, suc, ◌+◌, ◌<◌, Bool, true, false, cond, List, [], ◌∷◌, ◌++◌, Contains, IsTrue, Some, inl, inr, refl, sym, ap, subst, arith}
 use Rattle.std.specs.Prelude.{slice_get}
 use Rattle.std.proofs.lemmas.Bool.{both_ways}

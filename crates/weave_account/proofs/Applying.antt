@@ -252,7 +252,7 @@ module _ (store : List StoreEntry) (v : Name) (WasSent : ℕ → ℕ → Message
   rests arrivals numbers so-far =
       subst (λ all. Shows all (numbers ++ [])) (sym (append-nil arrivals)) (subst (Shows arrivals) (sym (append-nil numbers)) so-far)
 
-  -- where nothing waits, each part's count is the number of updates applied
+  -- if nothing waits, each part's count is the number of updates applied
   pub waits-none : (m : Message) (log : List ShardEntry) → waits_at m log ≡ None → (part : Part) → Contains m.parts part
       → IsTrue (same_name part.vertex v) → part.before ≡ length (updates_of v log)
   waits-none m log e part h same =

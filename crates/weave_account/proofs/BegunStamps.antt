@@ -37,7 +37,7 @@ clock-there log begun h =
     has_flat (λ (e : GateEntry). clocks_by e.deed) log entry.0 begun.stamp.clock entry.1.0
     (begun-clock (entry.0).author (entry.0).deed begun entry.1.1)
 
--- where each count from some place on is 0, the rest of the counts are 0
+-- if each count from some place on is 0, the rest of the counts are 0
 zeros : (counts : List ℕ) (from : ℕ) → ((i : ℕ) → from ≤ i → get_or counts i 0 ≡ 0)
     → IsTrue (list_all (λ count. count == 0) (drop from counts))
 zeros [] zero none = refl

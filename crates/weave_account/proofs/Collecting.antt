@@ -1,4 +1,4 @@
--- What collections leave: the oldest version kept, where any was dropped, is before a bound, and each bound is at
+-- What collections leave: the oldest version kept, if any was dropped, is before a bound, and each bound is at
 -- most the stamps of the programs that are running. It rests on what a hand can have seen, of which an account has
 -- all.
 use Rattle.std.proofs.Common.{◌≡◌, ℕ, zero, suc, ◌+◌, ◌<◌, max, Bool, true, false, List, [], ◌∷◌, ◌++◌, map, fold, drop, Contains, IsTrue, Option, Some, None, ◌⊎◌, inl, inr, refl, sym, ap, subst, ◌∙◌, append_assoc, arith}
@@ -157,7 +157,7 @@ module _ (laws : LowerLaws) (shards : ℕ) (store : List StoreEntry) (passes : H
         | inr (inr more) ↦ unchanged log each entry (push ∙ max-first dropped older (inl more)) so-far some
       ]
 
-  -- where any version was dropped, the oldest one kept is before a bound
+  -- if any version was dropped, the oldest one kept is before a bound
   pub bound-below : (log : List ShardEntry) → Fits log → 0 < dropped_from v [] log 0 → IsBeforeABound v log
   bound-below =
       by_entries (λ before (entry : ShardEntry). TakesAs shards store shard before entry.deed)
@@ -306,7 +306,7 @@ sent-before gates shards seen shard before after sent = record {
 
 module _ (laws : LowerLaws) (gates shards : ℕ) (seen : Account) (shard : ℕ) (log : List ShardEntry) (has : HasSeen shards seen.store shard log) (sent : HasSeenSent gates shards seen shard log)
     (home : ℕ) (inside : home < gates) (program : Begun) (running : Contains (running_of (gate_log seen home)) program) (v : Name) (here : shard_of v shards ≡ shard) where
-  -- where any version was dropped, the oldest one kept is before the program
+  -- if any version was dropped, the oldest one kept is before the program
   oldest-seen : 0 < dropped_of v log
       → IsSomeAnd (oldest_kept v log) (λ (update : Update). IsTrue (stamp_before update.stamp program.stamp))
   oldest-seen some =

@@ -1,5 +1,4 @@
--- A transaction that passes answers each of its `get`s, in order. It belongs into the crate of report rules, as a law
--- beside `AnswersEachGet`.
+-- A transaction that passes answers each of its `get`s, in order.
 use Rattle.std.proofs.Common.{◌≡◌, ℕ, ◌+◌, Bool, true, false, List, [], ◌∷◌, map, refl, ap, Option, Some, None, Ok, Err}
 use Rattle.std.specs.Prelude.{⊤}
 use Rattle.graph_ops.specs.Operations.{State, Outcome, refused_if, on_vertex, on_edge, applied}

@@ -59,23 +59,12 @@ use Rattle.weave_account.specs.Gatekeepers.{BeginsAs}
 use Rattle.weave_account.specs.Oracle.{IsAskedByCommit}
 use Rattle.weave_account.specs.Sessions.{RepliesAs}
 use Rattle.weave_account.proofs.Beginning.{list-there}
-use Rattle.proof_base.proofs.Ends.{by_last, count_push}
-use Rattle.std.proofs.lemmas.List.{append-nil}
+use Rattle.proof_base.proofs.Counting.{count-more}
 
 more-precedes : (pairs more : List Given) (a b : Stamp) → Precedes pairs a b → Precedes (pairs ++ more) a b
 more-precedes pairs more _ _ (ByStamps a b h) = ByStamps a b h
 more-precedes pairs more _ _ (ByPair a b h) = ByPair a b (Contains-append_left pairs more (a, b) h)
 more-precedes pairs more _ _ (Through a b c g h) = Through a b c (more-precedes pairs more a b g) (more-precedes pairs more b c h)
-
--- a longer list has at least as many that pass
-pub count-more : {A : Type 0} (p : A → Bool) (xs ys : List A) → count_by p xs ≤ count_by p (xs ++ ys)
-count-more p xs =
-    by_last (λ ys. count_by p xs ≤ count_by p (xs ++ ys))
-    (let e = ap (count_by p) (append-nil xs) in omega (arith, e))
-    (λ ys y more.
-    let longer = ap (count_by p) (append_assoc xs ys (y ∷ [])) in
-    let last = count_push p (xs ++ ys) y in
-    omega (arith, more, longer, last))
 
 module _ (script : Script) (account next : Account) (on : GoesOn account next) where
   -- precedence grows
@@ -202,7 +191,7 @@ module _ (script : Script) (account next : Account) (on : GoesOn account next) w
       }
   shard-stays shard before (Collected bound) fits = fits
 
-  -- what was begun stays begun, with its stamp, where each request is begun at most once
+  -- what was begun stays begun, with its stamp, if each request is begun at most once
   pub begun-stays : (b : Begun) → Contains (all_begun account) b → Contains (all_begun next) b
   begun-stays b h =
       let log = flat-has begun_in account.gates b h in

@@ -66,3 +66,4 @@ pub mod Ticking
 pub mod Collecting
 pub mod OnTheWay
 pub mod ExampleReports
+pub mod StorePasses

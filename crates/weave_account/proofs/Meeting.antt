@@ -164,7 +164,7 @@ module _ (script : Script) (account : Account) (basis : Basis script account) (r
         | inr other ↦ inr (by-stamps p commit.request has.stamp commit.stamp stamp-p stamp-c (others-follow script account basis has.number has.inside has.log has.each p has.stamp v has.updates has.visit commit other))
       ]
 
-  -- where a listed request is in the order, what is before it passes and leaves the graph at its place
+  -- at the place of a listed request in the order, what is before it passes and leaves the graph at its place
   record IsPlacedAt (p : ℕ) : Type 0 where
     before : List ℕ
     after : List ℕ

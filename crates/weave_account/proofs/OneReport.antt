@@ -41,11 +41,11 @@ use Rattle.weave_account.specs.Report.{IsReplyInAccount, IsReportOfAccount, IsSt
 use Rattle.weave_account.specs.Shards.{AreShardDeeds, update_of}
 use Rattle.weave_account.proofs.Basis.{Basis}
 use Rattle.weave_account.proofs.Beginning.{list-there}
-use Rattle.proof_base.proofs.Images.{flat-has}
+use Rattle.proof_base.proofs.Images.{flat-has, get-has}
 use Rattle.proof_base.proofs.Counting.{First, Same, Second, apart}
 use Rattle.weave_account.proofs.Meeting.{visit-fits}
 use Rattle.weave_account.proofs.PhaseOrder.{twice}
-use Rattle.weave_account.proofs.PlacedPairs.{commit-known, get-has, one-request}
+use Rattle.weave_account.proofs.PlacedPairs.{commit-known, one-request}
 use Rattle.weave_account.proofs.RepliesClause.{begin-of}
 use Rattle.weave_account.proofs.Storing.{commit-of}
 use Rattle.weave_account.proofs.Updates.{grows, shows}

@@ -1,4 +1,4 @@
--- What a message has for one vertex: one update where its transaction names the vertex, and else none.
+-- What a message has for one vertex: one update if its transaction names the vertex, and else none.
 use Rattle.std.proofs.Common.{◌≡◌, ◌≢◌, AllPairs, ℕ, Bool, true, false, cond, ◌||◌, List, [], ◌∷◌, map, IsTrue, inl, inr, refl, sym, ap, ◌∙◌}
 use Rattle.std.specs.List.{filter}
 use Rattle.std.proofs.lemmas.Bool.{cases_Bool, eq-eqb, false_from_ne_true}

@@ -34,7 +34,8 @@ use Rattle.weave_account.specs.Phases.{EndsPhase, IsRunByPhases}
 use Rattle.weave_account.proofs.Basis.{Basis}
 use Rattle.weave_account.proofs.Beginning.{all-in, begun-stamp}
 use Rattle.weave_account.proofs.BegunStamps.{clock-there}
-use Rattle.weave_account.proofs.Growing.{begun-stays, count-more}
+use Rattle.weave_account.proofs.Growing.{begun-stays}
+use Rattle.proof_base.proofs.Counting.{count-more}
 use Rattle.proof_base.proofs.Images.{flat-has, map-has}
 use Rattle.weave_account.proofs.PhaseOrder.{at-end, replied-begun}
 use Rattle.weave_account.proofs.PlacedPairs.{one-request, placed-are}

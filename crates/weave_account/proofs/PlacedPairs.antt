@@ -42,7 +42,7 @@ use Rattle.weave_account.proofs.Additions.{first-place}
 use Rattle.weave_account.proofs.Basis.{Basis}
 use Rattle.weave_account.proofs.Beginning.{all-in, list-there, tx-begun}
 use Rattle.weave_account.proofs.Meeting.{visit-fits, visit-stamp}
-use Rattle.proof_base.proofs.Images.{flat-has, map-has}
+use Rattle.proof_base.proofs.Images.{flat-has, get-has, map-has}
 use Rattle.weave_account.proofs.RepliesClause.{begin-of, stamps-apart}
 use Rattle.weave_account.proofs.Replying.{place-of}
 use Rattle.weave_account.proofs.Storing.{IsOfScript, commit-of, of-script}
@@ -51,12 +51,6 @@ use Rattle.weave_account.proofs.ConflictsClause.{reverse-has}
 use Rattle.weave_account.proofs.VisitedPairs.{program-begun}
 
 -- Lists
-
--- the element at a place is a member
-pub get-has : {A : Type 0} (xs : List A) (i : ℕ) (x : A) → slice_get xs i ≡ Some x → Contains xs x
-get-has [] i x e = cc
-get-has (y ∷ xs) zero x e = let same : y ≡ x = cc in subst (λ z. Contains (z ∷ xs) x) (sym same) (has_head x xs)
-get-has (y ∷ xs) (suc i) x e = has_tail y xs x (get-has xs i x e)
 
 -- the element at a place of the first ones is that of the list
 get-front : {A : Type 0} (n : ℕ) (xs : List A) (i : ℕ) (x : A) → slice_get (take n xs) i ≡ Some x → slice_get xs i ≡ Some x

@@ -38,7 +38,7 @@ not-not : (b : Bool) → ¬ IsTrue (not b) → IsTrue b
 not-not true f = refl
 not-not false f = absurd (f refl)
 
--- where no visit comes next, each vertex of the list of visits was read
+-- if no visit comes next, each vertex of the list of visits was read
 pub all-read : LowerLaws → (reads : List (Name × State)) (program : Program) → next_visit reads program ≡ None → (v : Name)
     → IsTrue (is_among (visits_over reads program) v) → IsTrue (is_among (keys_of reads) v)
 all-read laws reads program none v visited =

@@ -56,7 +56,7 @@ AllPass graph script (r ∷ rest) =
 
 -- Two lists, one after the other
 
--- requests pass where the first ones do, and then the others
+-- requests pass if the first ones do, and then the others
 pub all-pass-append : (script : Script) (xs ys : List ℕ) (graph : PlainGraph) → AllPass graph script xs
     → AllPass (graph_after_all graph script xs) script ys → AllPass graph script (xs ++ ys)
 all-pass-append script [] ys graph g h = h

@@ -1,4 +1,4 @@
--- Logs that are no account, each refused by one clause.
+-- Logs that are no account, each shown by one clause.
 use Rattle.std.proofs.Common.{◌≡◌, ℕ, true, false, List, [], ◌∷◌, ◌++◌, map, length, Contains, IsTrue, Some, inl, inr, refl, sym, ap, subst, ◌∙◌, arith}
 use Rattle.std.specs.List.{flat_map}
 use Rattle.proof_base.proofs.Members.{has_none, has_read, has_head, only}

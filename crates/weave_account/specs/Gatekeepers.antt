@@ -29,8 +29,8 @@ abbrev pub last_stamp : Script → Account → ℕ → Option Stamp
 last_stamp script account r = option_and_then (stamp_of account) (request_before script r)
 
 -- A request begins at its own gatekeeper, as the kind of work that it is. The stamp of the request before it in its
--- session, if any, is heard first,
--- and counts no more of the gatekeeper's events than it made. The new stamp's numbers have 64 bits.
+-- session, if any, is heard first, and counts no more of the gatekeeper's events than it made. The new stamp's numbers
+-- have 64 bits.
 pub record BeginsRequest (script : Script) (account : Account) (is_kind : Work → Bool) (home : ℕ) (before : List GateEntry)
     (r : ℕ) (stamp : Stamp) : Type 0 where
   pub own : IsTrue (is_some_and (λ (request : Request). (request.gate == home) && is_kind request.work) (request_at script r))

@@ -25,7 +25,7 @@ pub record IsInFlight (account : Account) (commit : Commit) (home : ℕ) : Type 
   pub request_is : flight.request ≡ commit.request
   pub stamp_is : flight.stamp ≡ commit.stamp
 
--- it is in flight at its gatekeeper, or on the channel from there
+-- it is in flight at a gatekeeper, or on the channel from there
 pub record IsOnTheWay (script : Script) (account : Account) (commit : Commit) (v : Name) (count : ℕ) : Type 0 where
   pub home : ℕ
   pub place : IsInFlight account commit home ⊎ IsOnChannel script account commit v count home

@@ -1,4 +1,4 @@
--- What a hand knows of a shard and of the store in a hold, where it has seen the beginnings of the other logs alone:
+-- What a hand knows of a shard and of the store in a hold, if it has seen the beginnings of the other logs alone:
 -- no more than the laws on heads and updates need.
 use Rattle.std.specs.Prelude.{◌≡◌, ◌⊎◌, ℕ, ◌≤◌, List, [], Contains, Ok, ⊤}
 use Rattle.graph_ops.specs.PlainGraph.{PlainGraph, transaction}

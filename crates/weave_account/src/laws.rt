@@ -30,6 +30,7 @@ ghost use Rattle.weave_entries.specs.OracleReplay.{settled_entry};
 ghost use Rattle.weave_entries.specs.ShardReplay.{Update, Visit, arrived_at, bound_of, head_of, reads_in, visits_of, updates_of, waits_at};
 ghost use Rattle.weave_entries.specs.ShardRules.{IsKeptFor, IsTakable, PassesAt, dropped_of};
 ghost use Rattle.weave_entries.specs.StoreReplay.{Commit, Judgement, judgements_of, commit_by, commits_naming, commits_of, count_naming, names_vertex};
+ghost use Rattle.weave_entries.specs.StoreRule.{IsStoreLog};
 ghost use Rattle.program_defs.specs.declared.program.Program.{Program};
 ghost use Rattle.program_defs.specs.declared.script.Request.{Request};
 ghost use Rattle.program_defs.specs.declared.script.Script.{Script};
@@ -60,13 +61,14 @@ ghost use Rattle.weave_account.specs.Pairs.{ArePairsOf, IsPairInAccount};
 ghost use Rattle.weave_account.specs.PairsByPlace.{placed_pairs};
 ghost use Rattle.weave_account.specs.Phases.{IsRunByPhases};
 ghost use Rattle.weave_account.specs.Programs.{ReadsInTurn};
-ghost use Rattle.weave_account.specs.Seen.{HasSeen, HasSeenSent, IsMade};
+ghost use Rattle.weave_account.specs.Seen.{HasSeen, HasSeenSent, HavePassed, IsMade};
 ghost use Rattle.weave_account.specs.Sessions.{RepliesAs, requests_of_session};
 ghost use Rattle.weave_account.specs.Store.{InTurn, Judges};
 ghost use Rattle.weave_account.specs.Shards.{ShardFitsAs, update_of};
 ghost use Rattle.weave_account.specs.Report.{MatchesAccount, IsReportOfAccount};
 
 use crate::lower_laws::the_crates_below_keep_their_laws;
+use weave_entries::laws::verdicts_say_what_was_judged;
 
 /// The report of an account is right, a report of the script, and in the printed order. Of two requests that meet one
 /// precedes the other.
@@ -319,6 +321,14 @@ pub fn accounts_were_seen()
         → (shard : ℕ) → HasSeenSent script.gates script.shards account shard (shard_log account shard) }
 {
     the_crates_below_keep_their_laws();
+}
+
+/// Each commit in a store's log passed after the commits before it: so much of what a hand has seen is known of the
+/// store alone.
+pub fn store_logs_have_passed()
+    ensures { (store : List StoreEntry) → IsStoreLog store → HavePassed store }
+{
+    verdicts_say_what_was_judged();
 }
 
 /// The updates applied to a vertex are the first commits that name it, in the order of their numbers: in an account,

@@ -7,5 +7,7 @@
 mod account;
 pub mod laws;
 mod lower_laws;
+#[cfg(test)]
+mod tests;
 
 pub use account::Account;

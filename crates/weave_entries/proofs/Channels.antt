@@ -31,7 +31,7 @@ module _ (laws : ClockLaws) where
   abbrev pub stamps_in : List Addressed → List Stamp
   stamps_in sent = map (λ (message : Message). message.stamp) (map (λ (addressed : Addressed). addressed.message) sent)
 
-  -- a stamp that was sent is before that of the transaction in flight; where none is, it is at most the clock
+  -- a stamp that was sent is before that of the transaction in flight; if none is, it is at most the clock
   abbrev pub StandsBefore : Clock → Option Begun → Stamp → Type 0
   StandsBefore clock None stamp = IsTrue (is_at_most stamp.clock clock)
   StandsBefore clock (Some flight) stamp = IsTrue (stamp_before stamp flight.stamp)

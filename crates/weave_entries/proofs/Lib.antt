@@ -13,3 +13,4 @@ pub mod OracleLogs
 pub mod Sessions
 pub mod ShardLogs
 pub mod StoreLogs
+pub mod KeptUpdates

@@ -1,4 +1,4 @@
--- A request ends after its begin, by its author, and once where it is begun once.
+-- A request ends after its begin, by its author, and once if it is begun once.
 use Rattle.std.proofs.Common.{◌≡◌, ◌≢◌, ℕ, Bool, true, false, not, List, [], ◌∷◌, ◌++◌, map, filter, Contains, Option, None, Some, inl, inr, refl, sym, ap, subst, ◌∙◌, arith}
 use Rattle.std.specs.List.{AllPairs, flat_map, list_any}
 use Rattle.std.proofs.lemmas.Bool.{both_ways, eqb-true, and_parts}
@@ -227,6 +227,6 @@ ends_to home shards =
     (subst (λ f. EndsTo (requests_of log ++ requests_by entry.author entry.deed) (ended_of log ++ ended_by entry.deed) f (running_of (log ++ entry ∷ []))) (sym (flight-push log entry))
     (subst (λ rs. EndsTo (requests_of log ++ requests_by entry.author entry.deed) (ended_of log ++ ended_by entry.deed) (flight_after (flight_of log) entry.author entry.deed) rs) (sym (running-push log entry)) stepped))))
 
--- where each request is begun once, none is sent or finished twice
+-- if each request is begun once, none is sent or finished twice
 pub ends_each_once : (home shards : ℕ) (log : List GateEntry) → IsGateLog home shards log → BeginsEachOnce log → EndsEachOnce log
 ends_each_once home shards log right distinct = (ends_to home shards log right distinct).once

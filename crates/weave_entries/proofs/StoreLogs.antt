@@ -8,14 +8,15 @@ use Rattle.proof_base.proofs.Ends.{flat_push}
 use Rattle.proof_base.proofs.Members.{find_has, filter_has}
 use Rattle.weave_data.specs.declared.name.Name.{Name}
 use Rattle.graph_ops.specs.declared.op.Op.{Op}
+use Rattle.graph_ops.specs.declared.op.Reason.{Reason}
 use Rattle.graph_ops.specs.declared.tx.Got.{Got}
-use Rattle.graph_ops.specs.PlainGraph.{TxOutcome, transaction}
+use Rattle.graph_ops.specs.PlainGraph.{PlainGraph, TxOutcome, transaction}
 use Rattle.vector_stamp.specs.declared.clock.Stamp.{Stamp}
 use Rattle.vector_stamp.specs.Order.{stamp_before, unordered}
 use Rattle.vector_stamp.specs.Precedence.{Given, precedes}
 use Rattle.weave_entries.specs.declared.store_log.StoreEntry.{StoreEntry}
 use Rattle.weave_entries.specs.declared.verdict.Counted.{Counted}
-use Rattle.weave_entries.specs.declared.verdict.Verdict.TheVariants.{Committed, Conflict}
+use Rattle.weave_entries.specs.declared.verdict.Verdict.TheVariants.{Committed, Conflict, Refused}
 use Rattle.weave_entries.specs.StoreReplay.{Commit, judged_by, judgements_of, commit_by, commits_of, names_vertex, count_naming, last_naming, graph_committed, graph_with_commit}
 use Rattle.weave_entries.specs.StoreRule.{LastCommit, lasts_of, asked_of, counts_of, conflict_or, verdict_by, verdict_on}
 
@@ -58,6 +59,45 @@ commits-if pairs commits stamp ops number answers counts is =
     (find (λ (last : LastCommit). stamp_before stamp last.commit.stamp) (lasts_of ops commits))
     (find (λ (last : LastCommit). precedes pairs stamp last.commit.stamp) (asked_of stamp (lasts_of ops commits)))
     (transaction ops (graph_committed commits)) number answers counts is
+
+-- of operations that pass with these answers
+abbrev passed_with : PlainGraph → List Got → TxOutcome
+passed_with graph gots = Ok (record { graph = graph; gots = gots })
+
+passes_if : (ops : List Op) (commits : List Commit) (first second : Option LastCommit) (outcome : TxOutcome) (number : ℕ) (answers : List Got) (counts : List Counted)
+    → conflict_or first (conflict_or second (verdict_by ops commits outcome)) ≡ Committed number answers counts → (graph : PlainGraph) × (outcome ≡ Ok (record { graph = graph; gots = answers }))
+passes_if ops commits (Some last) second outcome number answers counts is = absurd cc
+passes_if ops commits None (Some last) outcome number answers counts is = absurd cc
+passes_if ops commits None None (Ok passed) number answers counts is = let a : passed.gots ≡ answers = cc in (passed.graph, ap (passed_with passed.graph) a)
+passes_if ops commits None None (Err stopped) number answers counts is = absurd cc
+
+pub passes-if : (pairs : List Given) (commits : List Commit) (stamp : Stamp) (ops : List Op) (number : ℕ) (answers : List Got) (counts : List Counted)
+    → verdict_on pairs commits stamp ops ≡ Committed number answers counts → (graph : PlainGraph) × (transaction ops (graph_committed commits) ≡ Ok (record { graph = graph; gots = answers }))
+passes-if pairs commits stamp ops number answers counts is =
+    passes_if ops commits
+    (find (λ (last : LastCommit). stamp_before stamp last.commit.stamp) (lasts_of ops commits))
+    (find (λ (last : LastCommit). precedes pairs stamp last.commit.stamp) (asked_of stamp (lasts_of ops commits)))
+    (transaction ops (graph_committed commits)) number answers counts is
+
+-- a refusal is the verdict of operations that are refused
+refused_if : (ops : List Op) (commits : List Commit) (first second : Option LastCommit) (outcome : TxOutcome) (op : ℕ) (reason : Reason) (at : ℕ)
+    → conflict_or first (conflict_or second (verdict_by ops commits outcome)) ≡ Refused op reason at → (at ≡ length commits) × (outcome ≡ Err (record { op = op; reason = reason }))
+refused_if ops commits (Some last) second outcome op reason at is = absurd cc
+refused_if ops commits None (Some last) outcome op reason at is = absurd cc
+refused_if ops commits None None (Ok passed) op reason at is = absurd cc
+refused_if ops commits None None (Err stopped) op reason at is =
+    let a : stopped.op ≡ op = cc in
+    let b : stopped.reason ≡ reason = cc in
+    let n : length commits ≡ at = cc in
+    (sym n, λ i. Err (record { op = a i; reason = b i }))
+
+pub refused-if : (pairs : List Given) (commits : List Commit) (stamp : Stamp) (ops : List Op) (op : ℕ) (reason : Reason) (at : ℕ)
+    → verdict_on pairs commits stamp ops ≡ Refused op reason at → (at ≡ length commits) × (transaction ops (graph_committed commits) ≡ Err (record { op = op; reason = reason }))
+refused-if pairs commits stamp ops op reason at is =
+    refused_if ops commits
+    (find (λ (last : LastCommit). stamp_before stamp last.commit.stamp) (lasts_of ops commits))
+    (find (λ (last : LastCommit). precedes pairs stamp last.commit.stamp) (asked_of stamp (lasts_of ops commits)))
+    (transaction ops (graph_committed commits)) op reason at is
 
 -- a conflict is with one of the last commits that are looked at
 newer_if : (P : LastCommit → Type 0) (ops : List Op) (commits : List Commit) (first second : Option LastCommit) (outcome : TxOutcome) → ((last : LastCommit) → first ≡ Some last → P last) → ((last : LastCommit) → second ≡ Some last → P last) → (vertex : Name) (newer : ℕ) → conflict_or first (conflict_or second (verdict_by ops commits outcome)) ≡ Conflict vertex newer → (last : LastCommit) × (last.vertex ≡ vertex) × (last.commit.request ≡ newer) × P last

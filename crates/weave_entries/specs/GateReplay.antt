@@ -16,7 +16,7 @@ use Rattle.weave_entries.specs.declared.gate_log.GateDeed.TheVariants.{BeganTx, 
 abbrev pub next_stamp : ℕ → Clock → Stamp
 next_stamp home clock = record { home = home; clock = clock_after_tick home clock }
 
--- the clock after the stamp was heard, where there is one
+-- the clock after the stamp was heard, if there is one
 abbrev pub clock_after_last : ℕ → Clock → Option Stamp → Clock
 clock_after_last home clock None = clock
 clock_after_last home clock (Some last) = clock_after_hearing home clock last.clock

@@ -21,7 +21,7 @@ use Rattle.weave_entries.specs.Sending.{IsCountsOf, messages_of}
 
 -- The rules
 
--- the stamp of a request that is begun at this clock, where what its session had begun last was heard first
+-- the stamp of a request that is begun at this clock, once what its session had begun last is heard
 pub record IsBegunAt (home : ℕ) (clock : Clock) (stamp : Stamp) : Type 0 where
   pub last : Option Stamp
   pub eight : ForSome last (λ heard. HasEightCounts heard.clock)
@@ -63,7 +63,7 @@ FitsAs home shards before author (Heard clock) = HasEightCounts clock
 FitsAs home shards before author (Raised epoch) = (clock_of home before).epoch < epoch
 FitsAs home shards before author (Finished request) = Finishes before author request
 
--- a log of the gatekeeper of this home, with so many shards: each entry is right after those before it
+-- a log of the gatekeeper of this home, with this many shards: each entry is right after those before it
 abbrev pub IsGateLog : ℕ → ℕ → List GateEntry → Type 0
 IsGateLog home shards log = AtEachEntry (λ before entry. FitsAs home shards before entry.author entry.deed) log
 

@@ -17,7 +17,7 @@ use Rattle.weave_entries.specs.GateReplay.{Begun, next_number, running_of, low_m
 abbrev pub part_for : List Op → Counted → Part
 part_for ops counted = record { vertex = counted.vertex; before = counted.before; ops = ops_on counted.vertex ops }
 
--- whether a shard, of so many, keeps the vertex
+-- whether a shard, of this many, keeps the vertex
 abbrev pub keeps : ℕ → ℕ → Counted → Bool
 keeps shards shard counted = shard_of counted.vertex shards == shard
 

@@ -20,7 +20,7 @@ pub record SessionState : Type 0 where
 abbrev pub session_start : List ℕ → SessionState
 session_start requests = record { requests = requests; begun = 0; waits = false; last = None }
 
--- the request that comes next, where there is one
+-- the request that comes next, if there is one
 abbrev pub next_request : SessionState → Option ℕ
 next_request session = slice_get session.requests session.begun
 

@@ -56,7 +56,7 @@ entries_of_visit pairs author program v log =
 abbrev pub is_judge_asked : Stamp → Name → List ShardEntry → Bool
 is_judge_asked program v log = list_any (λ update. unordered update program) (kept_stamps v log)
 
--- what is kept reaches back far enough: where versions were dropped, the oldest kept one is before the program
+-- what is kept reaches back far enough: if versions were dropped, the oldest kept one is before the program
 abbrev pub IsKeptFor : Stamp → Name → List ShardEntry → Type 0
 IsKeptFor program v log = 1 ≤ dropped_of v log → IsSomeAnd (slice_get (kept_stamps v log) 0) (λ oldest. IsTrue (stamp_before oldest program))
 

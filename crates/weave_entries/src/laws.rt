@@ -1,13 +1,16 @@
 //! What follows for each log that keeps the rules, as contracts over the logs alone.
-ghost use Rattle.std.specs.Prelude.{◌≡◌, ◌≢◌, ◌↔◌, ℕ, ◌+◌, ◌<◌, ◌≤◌, ◌==◌, true, cond, List, [], ◌∷◌, ◌++◌, map, take, length, Contains, IsTrue, Option, None, Some, is_some};
+ghost use Rattle.std.specs.Prelude.{◌≡◌, ◌≢◌, ◌↔◌, ℕ, ◌+◌, ◌<◌, ◌≤◌, ◌==◌, true, cond, List, [], ◌∷◌, ◌++◌, map, take, length, Contains, IsTrue, Option, None, Some, is_some, Ok, Err};
 ghost use Rattle.weave_data.specs.declared.name.Name.{Name};
 ghost use Rattle.graph_ops.specs.declared.op.Op.{Op};
+ghost use Rattle.graph_ops.specs.declared.op.Reason.{Reason};
 ghost use Rattle.graph_ops.specs.declared.tx.Got.{Got};
+ghost use Rattle.graph_ops.specs.PlainGraph.{PlainGraph, transaction};
 ghost use Rattle.vector_stamp.specs.declared.clock.Clock.{Clock};
 ghost use Rattle.vector_stamp.specs.declared.clock.Stamp.{Stamp};
 ghost use Rattle.vector_stamp.specs.Order.{count_of, id_of, HasEightCounts, CountsNonePast, StampsRise, is_at_most, stamp_before, unordered};
 ghost use Rattle.vector_stamp.specs.Coherence.{AreCoherent};
 ghost use Rattle.vector_stamp.specs.Precedence.{Given, IsAcyclic, precedes};
+ghost use Rattle.vector_stamp.specs.Seeing.{seen_of, last_seen};
 ghost use Rattle.vector_stamp.specs.Settling.{additions_from, pairs_of, SettledEntry};
 ghost use Rattle.weave_entries.specs.declared.message.Addressed.{Addressed};
 ghost use Rattle.weave_entries.specs.declared.message.Message.{Message};
@@ -24,9 +27,9 @@ ghost use Rattle.weave_entries.specs.declared.shard_log.ShardEntry.{ShardEntry};
 ghost use Rattle.weave_entries.specs.declared.shard_log.ShardDeed.TheVariants.{Arrived, Applied};
 ghost use Rattle.weave_entries.specs.declared.store_log.StoreEntry.{StoreEntry};
 ghost use Rattle.weave_entries.specs.declared.verdict.Counted.{Counted};
-ghost use Rattle.weave_entries.specs.declared.verdict.Verdict.TheVariants.{Committed, Conflict};
+ghost use Rattle.weave_entries.specs.declared.verdict.Verdict.TheVariants.{Committed, Conflict, Refused};
 ghost use Rattle.weave_entries.specs.ShardReplay.{arrival_by, arrivals_of, arrived_at, processed_by, processed_of, processed_count, updates_in, updates_of, visit_by, visits_of, dropped_after};
-ghost use Rattle.weave_entries.specs.ShardRules.{dropped_of, FitsShard, IsShardLog};
+ghost use Rattle.weave_entries.specs.ShardRules.{dropped_of, update_stamps, updates_read, last_read, IsKeptFor, FitsShard, IsShardLog};
 ghost use Rattle.weave_entries.specs.StoreReplay.{Commit, judged_by, judgements_of, commit_by, commits_of, names_vertex, count_naming, last_naming, graph_with_commit, graph_committed};
 ghost use Rattle.weave_entries.specs.StoreRule.{LastCommit, lasts_of, counts_of, verdict_on, FitsStore, IsStoreLog};
 
@@ -227,7 +230,7 @@ pub fn the_store_replay_goes_on()
         → graph_committed (commits ++ commit ∷ []) ≡ graph_with_commit (graph_committed commits) commit }
 {}
 
-/// A commit has the next number and the counts of its operations. A conflict is with the last commit at a named vertex, which the transaction precedes.
+/// A commit has the next number and the counts of its operations, which pass with its answers on the graph that the commits before it leave. A conflict is with the last commit at a named vertex, which the transaction precedes. A refusal is that of the operations, and has the number of commits before it.
 pub fn verdicts_say_what_was_judged()
     ensures number { (pairs : List Given) (commits : List Commit) (stamp : Stamp) (ops : List Op)
         → (number : ℕ) (answers : List Got) (counts : List Counted)
@@ -239,6 +242,15 @@ pub fn verdicts_say_what_was_judged()
         → (vertex : Name) (newer : ℕ) → verdict_on pairs commits stamp ops ≡ Conflict vertex newer
         → (last : LastCommit) × (last.vertex ≡ vertex) × (last.commit.request ≡ newer)
         × Contains (lasts_of ops commits) last × IsTrue (precedes pairs stamp last.commit.stamp) }
+    ensures passes { (pairs : List Given) (commits : List Commit) (stamp : Stamp) (ops : List Op)
+        → (number : ℕ) (answers : List Got) (counts : List Counted)
+        → verdict_on pairs commits stamp ops ≡ Committed number answers counts
+        → (graph : PlainGraph)
+        × (transaction ops (graph_committed commits) ≡ Ok (record { graph = graph; gots = answers })) }
+    ensures refused { (pairs : List Given) (commits : List Commit) (stamp : Stamp) (ops : List Op)
+        → (op : ℕ) (reason : Reason) (at : ℕ) → verdict_on pairs commits stamp ops ≡ Refused op reason at
+        → (at ≡ length commits)
+        × (transaction ops (graph_committed commits) ≡ Err (record { op = op; reason = reason })) }
 {
     precedence_is_decided();
 }
@@ -264,6 +276,15 @@ pub fn the_shard_replay_goes_on()
         → visits_of (log ++ entry ∷ []) ≡ visits_of log ++ visit_by entry.author entry.deed }
     ensures dropped { (v : Name) (log : List ShardEntry) (entry : ShardEntry)
         → dropped_of v (log ++ entry ∷ []) ≡ dropped_after v log entry.deed (dropped_of v log) }
+{}
+
+/// If what is kept reaches back far enough, a program reads after as many updates of a vertex as if all were kept, and the last of them is the same.
+pub fn kept_updates_are_read_like_all()
+    ensures updates { (pairs : List Given) (program : Stamp) (v : Name) (log : List ShardEntry)
+        → IsKeptFor program v log → updates_read pairs program v log ≡ seen_of pairs program (update_stamps v log) }
+    ensures last { (pairs : List Given) (program : Stamp) (v : Name) (log : List ShardEntry)
+        → IsKeptFor program v log → last_read pairs program v log
+        ≡ last_seen (seen_of pairs program (update_stamps v log)) (update_stamps v log) }
 {}
 
 /// A message that arrived stays under its number. It is there once it arrives, and no other deed and no other message changes that.

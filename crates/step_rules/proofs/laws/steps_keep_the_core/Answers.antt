@@ -2,7 +2,7 @@ use Rattle.step_rules.specs.Answers.{answer_of}
 use Rattle.step_rules.specs.Entries.{state_with}
 use Rattle.step_rules.specs.LowerLaws.{Further}
 use Rattle.step_rules.proofs.Starting.{when-refused}
-use Rattle.step_rules.proofs.Stepping.{each-step-keeps, step-goes, step-keeps}
+use Rattle.step_rules.proofs.Stepping.{each-step-keeps, notices-go, step-goes, step-keeps}
 use Rattle.step_rules.proofs.laws.steps_keep_the_core.Goals as goal
 
 pub returns : goal.returns
@@ -13,5 +13,6 @@ returns c =
       done = λ script state step limits range small core ok. each-step-keeps laws further script limits state step range small core ok;
       tried = λ script state step limits range small core. step-keeps laws further script limits state step range small core;
       goes_on = step-goes;
+      notices = notices-go;
       refused = λ script state step other. when-refused (answer_of script state step) (state_with script state step) state other;
     }
