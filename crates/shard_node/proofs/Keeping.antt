@@ -171,7 +171,13 @@ module _ (gates : ℕ) (inboxes : List (Incoming Message)) (chains : Chains) (lo
       })
 
   -- a head was processed
-  pub keeps_applied : WaitingLaws stamp_in → (author gate number : ℕ) (head : Message) (inbox next : Incoming Message) (after : Chains) (longer : List ShardEntry) → gate < gates → head_of gate log ≡ Some head → waits_at head log ≡ None → PassesAt log head → slice_get inboxes gate ≡ Some inbox → next ≡ after_head stamp_in inbox → number ≡ inbox.processed + 1 → ((v : Name) → chain_of after v ≡ after_parts head.stamp v (chain_of chains v) head.parts) → longer ≡ log ++ record { author = author; deed = Applied gate number } ∷ [] → IsReplayOf gates (slice_set inboxes gate next) after longer
+  pub keeps_applied : WaitingLaws stamp_in
+      → (author gate number : ℕ) (head : Message) (inbox next : Incoming Message) (after : Chains) (longer : List ShardEntry)
+      → gate < gates → head_of gate log ≡ Some head → waits_at head log ≡ None → PassesAt log head
+      → slice_get inboxes gate ≡ Some inbox → next ≡ after_head stamp_in inbox → number ≡ inbox.processed + 1
+      → ((v : Name) → chain_of after v ≡ after_parts head.stamp v (chain_of chains v) head.parts)
+      → longer ≡ log ++ record { author = author; deed = Applied gate number } ∷ []
+      → IsReplayOf gates (slice_set inboxes gate next) after longer
   keeps_applied laws author gate number head inbox next after longer below is in_turn passes at next_is number_is applied longer_is =
       let channel = kept.channels gate inbox at in
       let entry : ShardEntry = record { author = author; deed = Applied gate (processed_count gate log + 1) } in
@@ -197,7 +203,12 @@ module _ (gates : ℕ) (inboxes : List (Incoming Message)) (chains : Chains) (lo
       })
 
   -- a program read a vertex
-  pub keeps_visited : (author request : ℕ) (stamp : Stamp) (vertex : Name) (updates : ℕ) (settled : Bool) (longer : List ShardEntry) → first_unready gates stamp log ≡ None → IsKeptFor stamp vertex log → updates ≤ length (updates_of vertex log) → (pairs : List Given) → updates ≡ updates_read pairs stamp vertex log → settled ≡ is_settled_by pairs stamp vertex log → longer ≡ log ++ record { author = author; deed = Visited request stamp vertex updates settled } ∷ [] → IsReplayOf gates inboxes chains longer
+  pub keeps_visited : (author request : ℕ) (stamp : Stamp) (vertex : Name) (updates : ℕ) (settled : Bool) (longer : List ShardEntry)
+      → first_unready gates stamp log ≡ None → IsKeptFor stamp vertex log → updates ≤ length (updates_of vertex log)
+      → (pairs : List Given) → updates ≡ updates_read pairs stamp vertex log
+      → settled ≡ is_settled_by pairs stamp vertex log
+      → longer ≡ log ++ record { author = author; deed = Visited request stamp vertex updates settled } ∷ []
+      → IsReplayOf gates inboxes chains longer
   keeps_visited author request stamp vertex updates settled longer ready base applied pairs updates_are settled_is longer_is =
       let entry : ShardEntry = record { author = author; deed = Visited request stamp vertex updates settled } in
       let still : (v : Name) (dropped : ℕ) → dropped_after v log entry.deed dropped ≡ dropped = λ v dropped. refl in

@@ -44,7 +44,11 @@ module _ (pairs : List Given) (program : Stamp) (v : Name) (log : List ShardEntr
       let there : slice_get stamps (place - dropped) ≡ Some later.stamp = kept_stamp v log (place - dropped) ∙ ap (λ n. option_map stamp_by (slice_get (updates_of v log) n)) (omega (arith, past)) ∙ ap (option_map stamp_by) at in
       comes_later (stamp_before later.stamp program) (stamp_before program later.stamp) (precedes pairs program later.stamp) (skipped later.stamp stamps (place - dropped) from there) (ordered program later.stamp)
 
-  pub last-precedes : ((updates : List Stamp) (update : Stamp) (before : ℕ) → slice_get updates before ≡ Some update → last_seen (before + 1) updates ≡ update ∷ []) → ((earlier : List Stamp) (event : Stamp) → Contains earlier event → IsTrue (precedes (pairs ++ pairs_of (additions_from 0 pairs earlier program) program) event program)) → (last : Update) → dropped_of v log < updates_read pairs program v log → slice_get (updates_of v log) (updates_read pairs program v log - 1) ≡ Some last → IsTrue (precedes (pairs_after_visit pairs program v log) last.stamp program)
+  pub last-precedes : ((updates : List Stamp) (update : Stamp) (before : ℕ) → slice_get updates before ≡ Some update → last_seen (before + 1) updates ≡ update ∷ [])
+      → ((earlier : List Stamp) (event : Stamp) → Contains earlier event → IsTrue (precedes (pairs ++ pairs_of (additions_from 0 pairs earlier program) program) event program))
+      → (last : Update) → dropped_of v log < updates_read pairs program v log
+      → slice_get (updates_of v log) (updates_read pairs program v log - 1) ≡ Some last
+      → IsTrue (precedes (pairs_after_visit pairs program v log) last.stamp program)
   last-precedes named all_precede last some at =
       let dropped = dropped_of v log in
       let stamps = kept_stamps v log in

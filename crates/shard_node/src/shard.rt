@@ -198,7 +198,7 @@ impl Shard {
     }
 }
 
-// What a program sees of a vertex; absence where it has no updates.
+// What a program sees of a vertex; absence if it has no updates.
 fn see<J: Judge>(
     alloc: Global,
     author: u32,

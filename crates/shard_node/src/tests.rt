@@ -23,7 +23,7 @@ use version_graph::VersionGraph;
 use weave_data::Items;
 use weave_entries::{Message, ShardDeed, ShardEntry};
 
-// A judge for calls with one earlier event. It looks for paths as the definition does, and answers out of memory where it is told to.
+// A judge for calls with one earlier event. It looks for paths as the definition does, and is out of memory once `is_full` is set.
 #[derive(Drop)]
 struct TestJudge {
     pairs: Vec<(Stamp, Stamp)>,
@@ -129,7 +129,7 @@ fn nop(alloc: Global, stamp: Stamp) -> Message {
     }
 }
 
-// A message with one operation on one vertex.
+// A message with one operation on one vertex. Its request has the number of the gatekeeper.
 fn commit(rt: &impl Abort, alloc: Global, stamp: Stamp, before: u64, op: Op) -> Message {
     let mut ops = Items::new(alloc);
     ops.push(op).expect(rt, "memory");
@@ -142,7 +142,7 @@ fn commit(rt: &impl Abort, alloc: Global, stamp: Stamp, before: u64, op: Op) -> 
         })
         .expect(rt, "memory");
     Message {
-        request: Some(0),
+        request: Some(stamp.home),
         stamp,
         low: stamp.clock,
         parts,
@@ -165,11 +165,25 @@ fn two_parts(rt: &impl Abort, alloc: Global, stamp: Stamp, first: Part, second: 
     parts.push(first).expect(rt, "memory");
     parts.push(second).expect(rt, "memory");
     Message {
-        request: Some(0),
+        request: Some(41),
         stamp,
         low: stamp.clock,
         parts,
     }
+}
+
+// A message with three parts.
+fn three_parts(
+    rt: &impl Abort,
+    alloc: Global,
+    stamp: Stamp,
+    first: Part,
+    second: Part,
+    third: Part,
+) -> Message {
+    let mut message = two_parts(rt, alloc, stamp, first, second);
+    message.parts.push(third).expect(rt, "memory");
+    message
 }
 
 // Whether none of the parts is of this vertex.
@@ -206,7 +220,15 @@ fn is_takable(message: &Message) -> bool
     are_takable(message.parts.as_slice())
 }
 
-// A message arrives, under the conditions of `arrive`.
+// Whether the last entry has this author.
+fn is_last_by(log: &[ShardEntry], author: u32) -> bool {
+    let Some(entry) = log.last() else {
+        return false;
+    };
+    entry.author == author
+}
+
+// A message arrives, under the conditions of `arrive`. Its gatekeeper is the author.
 fn arrive(
     rt: &impl Abort,
     alloc: Global,
@@ -218,9 +240,13 @@ fn arrive(
     if gate >= shard.gates || number == 0 || !is_takable(&message) {
         panic!(rt; "no message for this shard");
     }
-    shard
-        .arrive(alloc, 7, gate, number, message)
-        .expect(rt, "memory")
+    let arrival = shard
+        .arrive(alloc, gate, gate, number, message)
+        .expect(rt, "memory");
+    if arrival == Arrival::Kept && !is_last_by(shard.log(), gate) {
+        panic!(rt; "another author");
+    }
+    arrival
 }
 
 // The state after the newest update of a vertex; absent if there is none.
@@ -273,7 +299,7 @@ fn head_passes(rt: &impl Abort, alloc: Global, shard: &Shard, gate: u32) -> bool
     parts_pass(rt, alloc, &shard.graph, head.parts.as_slice())
 }
 
-// A head is processed, under the conditions of `apply`.
+// A head is processed, under the conditions of `apply`. Its gatekeeper is the author.
 fn apply(rt: &impl Abort, alloc: Global, shard: &mut Shard, gate: u32) -> Result<(), ApplyFault> {
     if gate >= shard.gates {
         panic!(rt; "no such gatekeeper");
@@ -281,7 +307,11 @@ fn apply(rt: &impl Abort, alloc: Global, shard: &mut Shard, gate: u32) -> Result
     if !head_passes(rt, alloc, shard, gate) {
         panic!(rt; "refused");
     }
-    shard.apply(alloc, 7, gate)
+    let applied = shard.apply(alloc, gate, gate);
+    if applied.is_ok() && !is_last_by(shard.log(), gate) {
+        panic!(rt; "another author");
+    }
+    applied
 }
 
 fn stamps(rt: &impl Abort, alloc: Global, log: &[ShardEntry]) -> Vec<Stamp>
@@ -338,7 +368,7 @@ fn together(
     all
 }
 
-// A visit for a request, under the conditions of `visit`: the stamps of all that arrived, and those that the judge knows, are coherent with the program's.
+// A visit for a request, under the conditions of `visit`: the stamps of all that arrived, and those that the judge knows, are coherent with the program's. The program's gatekeeper is the author.
 fn visit_for(
     rt: &impl Abort,
     alloc: Global,
@@ -357,7 +387,7 @@ fn visit_for(
     if !are_others(arrived.as_slice(), &program, known.as_slice()) {
         panic!(rt; "the program is one of the updates");
     }
-    shard.visit(alloc, 7, request, program, vertex, judge)
+    shard.visit(alloc, program.home, request, program, vertex, judge)
 }
 
 // The same for request 5.
@@ -396,8 +426,8 @@ fn read(rt: &impl Abort, visit: &Result<Option<Record>, VisitFault>) -> Reading 
     Reading::Colored(color.copied())
 }
 
-// The entry that a visit of `v` makes.
-fn visited(log: &[ShardEntry], place: usize) -> Option<(u32, u64, bool)> {
+// The author, the request, the number of updates and the mark of a visit's entry.
+fn visited(log: &[ShardEntry], place: usize) -> Option<(u32, u32, u64, bool)> {
     let entry = log.get(place)?;
     match &entry.deed {
         ShardDeed::Visited {
@@ -405,7 +435,7 @@ fn visited(log: &[ShardEntry], place: usize) -> Option<(u32, u64, bool)> {
             updates,
             settled,
             ..
-        } => Some((*request, *updates, *settled)),
+        } => Some((entry.author, *request, *updates, *settled)),
         _ => None,
     }
 }
@@ -503,6 +533,27 @@ fn take(
     apply(rt, alloc, shard, gate).ok().expect(rt, "not applied");
 }
 
+// The next message of gatekeeper 0, after `number` ones, makes a vertex of its own.
+fn take_next(rt: &impl Abort, alloc: Global, shard: &mut Shard, number: u8) {
+    let (tens, ones) = (b'a' + number / 10, b'a' + number % 10);
+    let v = Name::parse(&[tens, ones]).expect(rt, "no name");
+    let next = u64::from(number) + 1;
+    let made = commit(rt, alloc, stamp(0, next, 0, 0), 0, Op::Create { v });
+    take(rt, alloc, shard, 0, next, made);
+}
+
+// Forty messages on one channel.
+#[test]
+fn forty_messages(rt: HostRuntime) -> Result<(), Fail> {
+    let alloc = rt.alloc();
+    let mut shard = Shard::new(alloc, 0, 1)?;
+    for number in 0..40 {
+        take_next(&rt, alloc, &mut shard, number);
+    }
+    assert_eq!(rt; shard.log().len(), 80);
+    Ok(())
+}
+
 // Three updates of `v` by three gatekeepers: it is made, becomes red, and becomes blue. A program with the stamp (2, 0, 0) is after the first, unordered with the second, and before the third.
 fn three_updates(rt: &impl Abort, alloc: Global) -> Shard {
     let v = name(rt, "v");
@@ -566,7 +617,11 @@ fn a_program_reads(rt: HostRuntime) {
     let other = visit(&rt, alloc, &mut shard, program, name(&rt, "w"), &mut judge);
     assert!(rt; read(&rt, &other) == Reading::Absent);
     assert_eq!(rt; judge.pairs.len(), 1);
-    let rows = [(8, (5, 2, true)), (9, (5, 2, false)), (10, (5, 0, false))];
+    let rows = [
+        (8, (0, 5, 2, true)),
+        (9, (0, 5, 2, false)),
+        (10, (0, 5, 0, false)),
+    ];
     for (place, entry) in rows {
         assert_eq!(rt; visited(shard.log(), place), Some(entry), "at {place}");
     }
@@ -584,7 +639,7 @@ fn a_refused_update_is_not_read(rt: HostRuntime) -> Result<(), Fail> {
     assert!(rt; read(&rt, &seen) == Reading::Colored(None));
     assert_eq!(rt;
         (visited(shard.log(), 8), judge.pairs.len()),
-        (Some((5, 1, false)), 1)
+        (Some((0, 5, 1, false)), 1)
     );
     Ok(())
 }
@@ -611,7 +666,7 @@ fn a_later_program_reads_the_newest_state(rt: HostRuntime) {
     assert!(rt; read(&rt, &seen) == Reading::Colored(Some(name(&rt, "blue"))));
     assert_eq!(rt;
         (visited(shard.log(), 9), judge.pairs.len()),
-        (Some((5, 3, false)), 0)
+        (Some((0, 5, 3, false)), 0)
     );
 }
 
@@ -636,6 +691,26 @@ fn the_second_vertex_waits(rt: HostRuntime) -> Result<(), Fail> {
     let both = two_parts(&rt, alloc, stamp(1, 0, 2, 0), first, second);
     arrive(&rt, alloc, &mut shard, 1, 2, both);
     assert!(rt; apply(&rt, alloc, &mut shard, 1) == Err(ApplyFault::Waits { vertex: v }));
+    Ok(())
+}
+
+// A message of three vertices waits for the last of them, and nothing of it is applied until then. All of it is applied at once.
+#[test]
+fn a_message_of_three_vertices(rt: HostRuntime) -> Result<(), Fail> {
+    let alloc = rt.alloc();
+    let (u, v, w) = (name(&rt, "u"), name(&rt, "v"), name(&rt, "w"));
+    let mut shard = Shard::new(alloc, 0, 2)?;
+    let first = part(&rt, alloc, u, 0, &[Op::Create { v: u }]);
+    let second = part(&rt, alloc, v, 0, &[Op::Create { v }]);
+    let third = part(&rt, alloc, w, 1, &[Op::Get { v: w }]);
+    let message = three_parts(&rt, alloc, stamp(1, 0, 1, 0), first, second, third);
+    arrive(&rt, alloc, &mut shard, 1, 1, message);
+    assert!(rt; apply(&rt, alloc, &mut shard, 1) == Err(ApplyFault::Waits { vertex: w }));
+    assert_eq!(rt; (shard.kept(u), shard.kept(v), shard.kept(w)), (0, 0, 0));
+    let made = commit(&rt, alloc, stamp(0, 1, 0, 0), 0, Op::Create { v: w });
+    take(&rt, alloc, &mut shard, 0, 1, made);
+    assert!(rt; apply(&rt, alloc, &mut shard, 1).is_ok());
+    assert_eq!(rt; (shard.kept(u), shard.kept(v), shard.kept(w)), (1, 1, 2));
     Ok(())
 }
 
@@ -686,7 +761,7 @@ fn a_message_of_two_vertices(rt: HostRuntime) {
     assert!(rt; read(&rt, &first) == Reading::Colored(Some(name(&rt, "red"))));
     let second = visit(&rt, alloc, &mut shard, program, w, &mut judge);
     assert_eq!(rt; edges(&second), Some(1));
-    for (place, entry) in [(8, (5, 2, false)), (9, (5, 3, false))] {
+    for (place, entry) in [(8, (0, 5, 2, false)), (9, (0, 5, 3, false))] {
         assert_eq!(rt; visited(shard.log(), place), Some(entry), "at {place}");
     }
 }
@@ -711,5 +786,5 @@ fn eight_gatekeepers(rt: HostRuntime) {
     }
     let seen = visit_for(&rt, alloc, &mut shard, 41, program, v, &mut judge);
     assert!(rt; read(&rt, &seen) == Reading::Colored(None));
-    assert_eq!(rt; visited(shard.log(), 10), Some((41, 1, false)));
+    assert_eq!(rt; visited(shard.log(), 10), Some((6, 41, 1, false)));
 }

@@ -67,6 +67,7 @@ pub fn try_commit<J: Judge>(
     store: &mut Store,
     judge: &mut J,
     stamps: &mut Vec<Stamp>,
+    author: u32,
     request: u32,
     stamp: Stamp,
     ops: &[Op],
@@ -87,5 +88,5 @@ pub fn try_commit<J: Judge>(
     if ops.len() > 1000 {
         panic!(rt; "too many operations");
     }
-    store.commit(alloc, 0, request, stamp, ops, judge)
+    store.commit(alloc, author, request, stamp, ops, judge)
 }

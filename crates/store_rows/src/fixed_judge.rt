@@ -8,10 +8,26 @@ use std::marker::Model;
 use vector_stamp::{Judge, Refusal, Settled, Stamp};
 use weave_data::Items;
 
-/// It has the pairs that it is made with, and looks for paths as the definition does. Where it would have to add a pair it is out of memory.
+/// It has the pairs that it is made with, and looks for paths as the definition does. If it would have to add a pair it is out of memory.
 #[derive(Drop)]
 pub struct FixedJudge {
-    pub pairs: Vec<(Stamp, Stamp)>,
+    pairs: Vec<(Stamp, Stamp)>,
+    // Contracts don't see it.
+    calls: u32,
+}
+
+impl FixedJudge {
+    /// A judge with these pairs, which was not called yet.
+    pub fn new(pairs: Vec<(Stamp, Stamp)>) -> FixedJudge
+        ensures { result ≡ pairs.items }
+    {
+        FixedJudge { pairs, calls: 0 }
+    }
+
+    /// How many times it was called, whatever it answered.
+    pub fn calls(&self) -> u32 {
+        self.calls
+    }
 }
 
 impl Model for FixedJudge {
@@ -46,6 +62,7 @@ impl Judge for FixedJudge {
         later: Stamp,
         keep: bool,
     ) -> Result<Settled, Refusal> {
+        self.calls = self.calls.saturating_add(1);
         if let Some(place) = first_preceded(self.pairs.as_slice(), earlier, &later) {
             return Err(Refusal::Precedes {
                 place: place as u32,

@@ -6,10 +6,11 @@ ghost use Rattle.store_rows.specs.Covers.{IsAmong};
 use crate::calls::try_commit;
 use crate::fixed_judge::FixedJudge;
 use crate::verdicts::{
-    is_committed, is_conflict, is_judgement, is_last_judged, is_one_settled, is_refused,
+    is_committed, is_conflict, is_judgement, is_last_by, is_last_judged, is_last_settled, is_read,
+    is_refused,
 };
 use backing_store::Store;
-use graph_ops::{Op, Reason};
+use graph_ops::{Op, Reason, Record};
 use std::alloc::Global;
 use std::marker::Model;
 use std::process::Abort;
@@ -18,10 +19,11 @@ use vector_stamp::{Judge, Stamp};
 use weave_data::Name;
 use weave_entries::Verdict;
 
-/// A store with its judge, and stamps among which are all that either of them knows.
+/// A store with its judge, the author of its calls, and stamps among which are all that either of them knows.
 #[derive(Drop)]
 pub struct Row<J: Judge> {
     alloc: Global,
+    author: u32,
     store: Store,
     judge: J,
     stamps: Vec<Stamp>,
@@ -40,46 +42,63 @@ impl<J: Judge> Model for Row<J> {
 }
 
 /// A store that has judged nothing, over this judge, which knows none but these stamps.
-fn row_over<J: Judge>(alloc: Global, judge: J, stamps: Vec<Stamp>) -> Row<J>
+fn row_over<J: Judge>(alloc: Global, author: u32, judge: J, stamps: Vec<Stamp>) -> Row<J>
     requires { IsAmong (J.known judge) stamps.items }
 {
     Row {
         alloc,
+        author,
         store: Store::new(alloc),
         judge,
         stamps,
     }
 }
 
-/// A new store over a new oracle.
-pub fn oracle_row(alloc: Global) -> Row<Oracle> {
-    row_over(alloc, Oracle::new(alloc), Vec::new(alloc))
+/// A new store over a new oracle. This author makes the calls.
+pub fn oracle_row(alloc: Global, author: u32) -> Row<Oracle> {
+    row_over(alloc, author, Oracle::new(alloc), Vec::new(alloc))
 }
 
-/// A new store over a judge of one pair, or of none.
-pub fn fixed_row(rt: &impl Abort, alloc: Global, pair: Option<(Stamp, Stamp)>) -> Row<FixedJudge> {
+/// A new store over a judge of one pair, or of none. This author makes the calls.
+pub fn fixed_row(
+    rt: &impl Abort,
+    alloc: Global,
+    author: u32,
+    pair: Option<(Stamp, Stamp)>,
+) -> Row<FixedJudge> {
     let (mut pairs, mut stamps) = (Vec::new(alloc), Vec::new(alloc));
     if let Some((earlier, later)) = pair {
         pairs.push((earlier, later)).expect(rt, "memory");
         stamps.push(earlier).expect(rt, "memory");
         stamps.push(later).expect(rt, "memory");
     }
-    row_over(alloc, FixedJudge { pairs }, stamps)
+    row_over(alloc, author, FixedJudge::new(pairs), stamps)
 }
 
 impl<J: Judge + Drop> Row<J> {
+    /// This author makes the calls that follow.
+    pub fn by(&mut self, author: u32) {
+        self.author = author;
+    }
+
+    // The verdict of a transaction, which has an entry of its author.
     fn judged(&mut self, rt: &impl Abort, request: u32, stamp: Stamp, ops: &[Op]) -> Verdict {
-        try_commit(
+        let verdict = try_commit(
             rt,
             self.alloc,
             &mut self.store,
             &mut self.judge,
             &mut self.stamps,
+            self.author,
             request,
             stamp,
             ops,
         )
-        .expect(rt, "memory")
+        .expect(rt, "memory");
+        if !is_last_by(self.store.log(), self.author) {
+            panic!(rt; "another author");
+        }
+        verdict
     }
 
     /// The transaction is the commit of this number, with these counts, and its `get`s read records with that many properties, or none.
@@ -154,6 +173,7 @@ impl<J: Judge + Drop> Row<J> {
             &mut self.store,
             &mut self.judge,
             &mut self.stamps,
+            self.author,
             request,
             stamp,
             ops,
@@ -177,7 +197,7 @@ impl<J: Judge + Drop> Row<J> {
         }
     }
 
-    /// How many properties the vertex has, or `None` where it is absent.
+    /// How many properties the vertex has, or `None` if it is absent.
     fn props(&self, v: Name) -> Option<usize> {
         let Some(record) = self.store.state(v) else {
             return None;
@@ -192,6 +212,26 @@ impl<J: Judge + Drop> Row<J> {
         };
         if record.edges.len() != edges {
             panic!(rt; "another number of edges");
+        }
+    }
+
+    /// The vertex has this record.
+    pub fn has_record(&self, rt: &impl Abort, v: Name, whole: &Record) {
+        let Some(found) = self.store.state(v) else {
+            panic!(rt; "no vertex");
+        };
+        if *found != *whole {
+            panic!(rt; "another record");
+        }
+    }
+
+    /// The verdict of this request was a commit, whose first `get` is the operation of this number and read this record.
+    pub fn was_read(&self, rt: &impl Abort, request: u32, op: u32, whole: &Record) {
+        let Some(verdict) = self.store.verdict_of(request) else {
+            panic!(rt; "no verdict");
+        };
+        if !is_read(verdict, op, whole) {
+            panic!(rt; "another record");
         }
     }
 
@@ -240,11 +280,32 @@ impl<J: Judge + Drop> Row<J> {
     }
 }
 
-/// The oracle's log is the entry of one call, which put these events before this one, and added pairs at these places.
-pub fn put(rt: &impl Abort, row: &Row<Oracle>, earlier: &[Stamp], later: Stamp, places: &[u32]) {
-    if !is_one_settled(row.judge.log(), earlier, &later, places) {
+/// The oracle's log has this many entries. The last one is of a call by this author, which put these events before this one, and added pairs at these places.
+pub fn put_last(
+    rt: &impl Abort,
+    row: &Row<Oracle>,
+    entries: usize,
+    author: u32,
+    earlier: &[Stamp],
+    later: Stamp,
+    places: &[u32],
+) {
+    let log = row.judge.log();
+    if log.len() != entries || !is_last_settled(log, author, earlier, &later, places) {
         panic!(rt; "another log of the oracle");
     }
+}
+
+/// The oracle's log is the entry of one such call.
+pub fn put(
+    rt: &impl Abort,
+    row: &Row<Oracle>,
+    author: u32,
+    earlier: &[Stamp],
+    later: Stamp,
+    places: &[u32],
+) {
+    put_last(rt, row, 1, author, earlier, later, places);
 }
 
 /// The oracle has put nothing.
@@ -254,10 +315,18 @@ pub fn put_nothing(rt: &impl Abort, row: &Row<Oracle>) {
     }
 }
 
+/// The judge was called this many times.
+pub fn was_called(rt: &impl Abort, row: &Row<FixedJudge>, calls: u32) {
+    if row.judge.calls() != calls {
+        panic!(rt; "another number of calls");
+    }
+}
+
 /// The same store over a new oracle.
 pub fn over_oracle(row: Row<FixedJudge>) -> Row<Oracle> {
     Row {
         alloc: row.alloc,
+        author: row.author,
         store: row.store,
         judge: Oracle::new(row.alloc),
         stamps: row.stamps,

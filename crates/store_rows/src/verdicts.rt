@@ -1,6 +1,6 @@
 //! What the answers of the store and the oracle are compared with.
 
-use graph_ops::{Got, Reason};
+use graph_ops::{Got, Reason, Record};
 use vector_stamp::Stamp;
 use weave_data::Name;
 use weave_entries::{Counted, OracleDeed, OracleEntry, StoreDeed, StoreEntry, Verdict};
@@ -35,6 +35,24 @@ fn are_counts(counted: &[Counted], counts: &[(Name, u64)]) -> bool {
 fn are_got(answers: &[Got], got: &[(u32, Option<usize>)]) -> bool {
     answers.len() == got.len()
         && answers.iter().zip(got).all(|(one, other)| one.op == other.0 && props_of(one) == other.1)
+}
+
+/// The first `get` of a commit is the operation of this number, and read this record.
+pub fn is_read(verdict: &Verdict, op: u32, whole: &Record) -> bool {
+    match verdict {
+        Verdict::Committed { answers, .. } => is_first_got(answers.as_slice(), op, whole),
+        Verdict::Conflict { .. } | Verdict::Refused { .. } => false,
+    }
+}
+
+fn is_first_got(answers: &[Got], op: u32, whole: &Record) -> bool {
+    let Some((got, _)) = answers.split_first() else {
+        return false;
+    };
+    let Some(found) = &got.state else {
+        return false;
+    };
+    got.op == op && *found == *whole
 }
 
 fn props_of(got: &Got) -> Option<usize> {
@@ -72,9 +90,23 @@ pub fn is_judgement(entry: &StoreEntry, number: u32, of: &[Name]) -> bool {
     *request == number && asked.as_slice() == of
 }
 
-/// The oracle's log is the entry of one call, which put these events before this one, and added pairs at these places.
-pub fn is_one_settled(log: &[OracleEntry], before: &[Stamp], after: &Stamp, at: &[u32]) -> bool {
-    let Some((entry, others)) = log.split_first() else {
+/// The last entry of the store has this author.
+pub fn is_last_by(log: &[StoreEntry], author: u32) -> bool {
+    let Some(entry) = log.last() else {
+        return false;
+    };
+    entry.author == author
+}
+
+/// The last entry of the oracle is of a call by this author, which put these events before this one, and added pairs at these places.
+pub fn is_last_settled(
+    log: &[OracleEntry],
+    author: u32,
+    before: &[Stamp],
+    after: &Stamp,
+    at: &[u32],
+) -> bool {
+    let Some(entry) = log.last() else {
         return false;
     };
     let OracleDeed::Settled {
@@ -82,8 +114,7 @@ pub fn is_one_settled(log: &[OracleEntry], before: &[Stamp], after: &Stamp, at: 
         later,
         places,
     } = &entry.deed;
-    others.is_empty()
-        && entry.author == 0
+    entry.author == author
         && earlier.as_slice() == before
         && later == after
         && places.as_slice() == at

@@ -190,7 +190,7 @@ sees_some pairs program (update ∷ updates) before =
     let seen : is_seen pairs program update ≡ true = or_left (stamp_before update program) _ before in
     first_seen (is_seen pairs program update) (seen_of pairs program updates) seen
 
--- where versions were dropped, a kept one is seen
+-- if versions were dropped, a kept one is seen
 pub base_seen : (pairs : List Given) (program : Stamp) (chain : ChainView) (result : Result View AllocError) → IfOk result (λ view. view ≡ view_of pairs program chain) → ReachesBack program chain → IfOk result (λ view. 1 ≤ chain.dropped → chain.dropped < view.updates)
 base_seen pairs program chain (Ok view) is reaches = λ dropped.
     let some : 1 ≤ seen_of pairs program (stamps_of chain.kept) = sees_some pairs program (stamps_of chain.kept) (reaches dropped) in

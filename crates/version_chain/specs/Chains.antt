@@ -45,6 +45,6 @@ pub record IsNextUpdate (chain : ChainView) (before : ℕ) (ops : List Op) : Typ
   pub small : before < 2 ^ 64 - 1
   pub passes : IsTrue (none_refused ops (newest_state chain.kept))
 
--- where versions were dropped, one at least is kept
+-- if versions were dropped, one at least is kept
 abbrev pub KeepsOne : ChainView → Type 0
 KeepsOne chain = 1 ≤ chain.dropped → 1 ≤ length chain.kept

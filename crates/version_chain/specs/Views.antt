@@ -34,7 +34,7 @@ view_of pairs program chain = record {
 abbrev pub put_before : List Given → Stamp → ChainView → List (ℕ × Stamp)
 put_before pairs program chain = additions_from 0 pairs (read_update pairs program chain) program
 
--- what is kept reaches back far enough: where versions were dropped, the oldest kept one is before the program
+-- what is kept reaches back far enough: if versions were dropped, the oldest kept one is before the program
 abbrev pub ReachesBack : Stamp → ChainView → Type 0
 ReachesBack program chain = 1 ≤ chain.dropped → IsSomeAnd (slice_get (stamps_of chain.kept) 0) (λ oldest. IsTrue (stamp_before oldest program))
 

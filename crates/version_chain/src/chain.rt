@@ -31,7 +31,8 @@ impl Model for Chain {
 
     ghost view = { λ c. record { dropped = c.dropped; kept = c.versions.items } };
 
-    ghost invariant = { λ c. (c.dropped + length c.versions.items < 2 ^ 64) × (1 ≤ c.dropped → 1 ≤ length c.versions.items) };
+    ghost invariant = { λ c. (c.dropped + length c.versions.items < 2 ^ 64)
+        × (1 ≤ c.dropped → 1 ≤ length c.versions.items) };
 }
 
 impl Chain {

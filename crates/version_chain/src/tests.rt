@@ -18,7 +18,7 @@ use std::test::Fail;
 use vector_stamp::{Clock, Judge, Refusal, Settled, Stamp, are_coherent};
 use weave_data::{Copied, Items};
 
-// A judge for calls with one earlier event. It looks for paths as the definition does, and answers out of memory where it is told to.
+// A judge for calls with one earlier event. It looks for paths as the definition does, and is out of memory once `is_full` is set.
 #[derive(Drop)]
 struct TestJudge {
     pairs: Vec<(Stamp, Stamp)>,
@@ -176,7 +176,7 @@ fn together(
     all
 }
 
-// A program's view, under the conditions of `view_at`.
+// A program's view, under the conditions of `view_at`. Its gatekeeper is the author.
 fn view(
     rt: &impl Abort,
     alloc: Global,
@@ -193,10 +193,10 @@ fn view(
     if !are_others(kept.as_slice(), &program, known.as_slice()) {
         panic!(rt; "the program is one of the updates");
     }
-    chain.view_at(alloc, 7, program, judge)
+    chain.view_at(alloc, program.home, program, judge)
 }
 
-// Whether the view is of a vertex with that many properties, `None` for absent, after so many updates.
+// Whether the view is of a vertex with that many properties, `None` for absent, after that many updates.
 fn shows(
     view: &Result<View, AllocError>,
     props: Option<usize>,

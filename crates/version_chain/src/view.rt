@@ -56,7 +56,10 @@ pub(crate) fn look<J: Judge>(
     requires other_id { id_of version.now.stamp ≢ id_of program }
     requires coherent { AreCoherent (program ∷ version.now.stamp ∷ J.known judge.old) }
     ensures seen { IfOk result (λ seen. seen ≡ (if is_seen (J.pairs judge.old) program version.now.stamp
-        then Some (record { state = version.now.state; settled = not (precedes (J.pairs judge.old) version.now.stamp program) })
+        then Some (record {
+          state = version.now.state;
+          settled = not (precedes (J.pairs judge.old) version.now.stamp program);
+        })
         else None)) }
     ensures pairs { IfOk result (λ seen. J.pairs judge.new ≡ J.pairs judge.old
         ++ pairs_of (additions_from 0 (J.pairs judge.old) (read_of seen version.now.stamp) program) program) }
@@ -92,7 +95,10 @@ fn ask<J: Judge>(
     requires other_id { id_of version.now.stamp ≢ id_of program }
     requires coherent { AreCoherent (program ∷ version.now.stamp ∷ J.known judge.old) }
     ensures seen { IfOk result (λ seen. seen ≡ (if not (precedes (J.pairs judge.old) program version.now.stamp)
-        then Some (record { state = version.now.state; settled = not (precedes (J.pairs judge.old) version.now.stamp program) })
+        then Some (record {
+          state = version.now.state;
+          settled = not (precedes (J.pairs judge.old) version.now.stamp program);
+        })
         else None)) }
     ensures pairs { IfOk result (λ seen. J.pairs judge.new ≡ J.pairs judge.old
         ++ pairs_of (additions_from 0 (J.pairs judge.old) (read_of seen version.now.stamp) program) program) }
@@ -161,7 +167,8 @@ pub(crate) fn look_back<J: Judge>(
     ensures view { IfOk result (λ view. view
         ≡ view_of (J.pairs judge.old) program (record { dropped = dropped; kept = versions.now })) }
     ensures pairs { OnOk result (J.pairs judge.new ≡ J.pairs judge.old
-        ++ pairs_of (put_before (J.pairs judge.old) program (record { dropped = dropped; kept = versions.now })) program) }
+        ++ pairs_of (put_before (J.pairs judge.old) program
+        (record { dropped = dropped; kept = versions.now })) program) }
     ensures no_pair { OnErr result (J.pairs judge.new ≡ J.pairs judge.old) }
     ensures known { (stamp : Stamp) → Contains (J.known judge.new) stamp
         → Contains (J.known judge.old) stamp ⊎ Contains (program ∷ stamps_of versions.now) stamp }

@@ -272,7 +272,7 @@ pub one_on : (stamp : Stamp) (parts : List Part) (n : ℕ) (part : Part) (before
 one_on stamp parts n part before now next is below apart were more base =
     applied_on stamp parts n part before now next below were (λ v. more v ∙ ap (after_part stamp v (chain_at v now)) is) (base_here stamp parts n part before now is below apart were base)
 
--- where a part found no memory the chains are as before it
+-- if a part found no memory the chains are as before it
 pub were_same : (stamp : Stamp) (parts : List Part) (before now next : List (Name × ChainView)) → WereApplied stamp parts before now → ((v : Name) → chain_at v next ≡ chain_at v now) → WereApplied stamp parts before next
 were_same stamp parts before now next were same = record { applied = λ v. same v ∙ were.applied v; base = were.base }
 

@@ -25,7 +25,7 @@ abbrev pub chain_or_new : Option ChainView → ChainView
 chain_or_new None = no_updates
 chain_or_new (Some chain) = chain
 
--- a vertex's chain after a part: one more update where the part is of that vertex
+-- a vertex's chain after a part: one more update if the part is of that vertex
 abbrev pub after_part : Stamp → Name → Option ChainView → Part → Option ChainView
 after_part stamp v chain part =
     if same_name part.vertex v then Some (with_update stamp part.ops (chain_or_new chain)) else chain

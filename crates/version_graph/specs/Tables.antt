@@ -1,4 +1,4 @@
--- The table in which a graph keeps its chains: a chain may be left there without updates, where a part was taken back. No public contract cites this.
+-- The table in which a graph keeps its chains: a chain may be left there without updates, if a part was taken back. No public contract cites this.
 use Rattle.std.specs.Prelude.{◌≡◌, All, ◌≤◌, ◌==◌, length, List, [], ◌∷◌, Option, None, Some, if◌then◌else◌}
 use Rattle.std.specs.FinMap as map
 use Rattle.std.specs.Map.{lookup}
@@ -37,7 +37,7 @@ HasNewest (Some chain) = (1 ≤ length chain.kept) × (1 ≤ chain.dropped → 2
 abbrev pub at_vertex : Name → Name → Option ChainView → Option ChainView → Option ChainView
 at_vertex vertex v here other = if same_name vertex v then here else other
 
--- parts were applied to the chains that a table had before, of which each kept a version where others were dropped
+-- parts were applied to the chains that a table had before, of which each kept a version if others were dropped
 pub record WereApplied (stamp : Stamp) (parts : List Part) (before now : List (Name × ChainView)) : Type 0 where
   pub applied : (v : Name) → chain_at v now ≡ after_parts stamp v (chain_at v before) parts
   pub base : All (λ (part : Part). KeepsOne (chain_or_new (chain_at part.vertex before))) parts

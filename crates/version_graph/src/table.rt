@@ -27,7 +27,8 @@ pub(crate) fn apply_all(
     parts: &[Part],
 ) -> Result<(), AllocError>
     requires apart { AllPairs (λ (one other : Part). one.vertex ≢ other.vertex) parts.now }
-    requires next { All (λ (part : Part). IsNextUpdate (chain_or_new (chain_at part.vertex table.old.entries)) part.before part.ops) parts.now }
+    requires next { All (λ (part : Part).
+        IsNextUpdate (chain_or_new (chain_at part.vertex table.old.entries)) part.before part.ops) parts.now }
     ensures applied { OnOk result ((v : Name)
         → chain_at v table.new.entries ≡ after_parts stamp v (chain_at v table.old.entries) parts.now) }
     ensures refused { OnErr result ((v : Name) → chain_at v table.new.entries ≡ chain_at v table.old.entries) }
@@ -45,9 +46,10 @@ pub(crate) fn apply_all(
     Ok(())
 }
 
-// Applies one part. Where there is no memory, its vertex may have got an empty place in the table.
+// Applies one part. If it is out of memory, its vertex may have got an empty place in the table.
 fn apply_one(table: &mut Table, alloc: Global, stamp: Stamp, part: &Part) -> Result<(), AllocError>
-    requires { IsNextUpdate (chain_or_new (chain_at part.now.vertex table.old.entries)) part.now.before part.now.ops }
+    requires { IsNextUpdate (chain_or_new (chain_at part.now.vertex table.old.entries))
+        part.now.before part.now.ops }
     ensures applied { OnOk result ((v : Name)
         → chain_at v table.new.entries ≡ after_part stamp v (chain_at v table.old.entries) part.now) }
     ensures refused { OnErr result ((v : Name) → chain_at v table.new.entries ≡ chain_at v table.old.entries) }
@@ -57,7 +59,7 @@ fn apply_one(table: &mut Table, alloc: Global, stamp: Stamp, part: &Part) -> Res
     update(table, alloc, stamp, part)
 }
 
-// Makes a place for the chain of a vertex, where there is none.
+// Makes a place for the chain of a vertex, if there is none.
 fn make_place(table: &mut Table, alloc: Global, vertex: Name) -> Result<(), AllocError>
     ensures place { OnOk result (IsSome (lookup (same_name vertex) table.new.entries)) }
     ensures same { (v : Name) → chain_at v table.new.entries ≡ chain_at v table.old.entries }
@@ -71,7 +73,8 @@ fn make_place(table: &mut Table, alloc: Global, vertex: Name) -> Result<(), Allo
 // Applies a part to the chain in its vertex's place.
 fn update(table: &mut Table, alloc: Global, stamp: Stamp, part: &Part) -> Result<(), AllocError>
     requires place { IsSome (lookup (same_name part.now.vertex) table.old.entries) }
-    requires next { IsNextUpdate (chain_or_new (chain_at part.now.vertex table.old.entries)) part.now.before part.now.ops }
+    requires next { IsNextUpdate (chain_or_new (chain_at part.now.vertex table.old.entries))
+        part.now.before part.now.ops }
     ensures applied { OnOk result ((v : Name)
         → chain_at v table.new.entries ≡ after_part stamp v (chain_at v table.old.entries) part.now) }
     ensures refused { OnErr result ((v : Name) → chain_at v table.new.entries ≡ chain_at v table.old.entries) }
@@ -80,6 +83,7 @@ fn update(table: &mut Table, alloc: Global, stamp: Stamp, part: &Part) -> Result
     let Some(chain) = table.get_mut(&part.vertex) else {
         unreachable!()
     };
+    // Its clause `base` is what is to be shown.
     chain.kept();
     chain.apply_update(alloc, stamp, part.before, part.ops.as_slice())
 }
@@ -100,8 +104,10 @@ fn take_all_back(table: &mut Table, stamp: Stamp, parts: &[Part])
 // Takes back the newest update of a vertex.
 fn take_one_back(table: &mut Table, vertex: Name)
     requires { HasNewest (chain_at vertex table.old.entries) }
-    ensures { (newest : Version) (chain : ChainView) → chain_at vertex table.old.entries ≡ Some (with_version newest chain)
-        → (v : Name) → chain_at v table.new.entries ≡ at_vertex vertex v (with_updates (Some chain)) (chain_at v table.old.entries) }
+    ensures { (newest : Version) (chain : ChainView)
+        → chain_at vertex table.old.entries ≡ Some (with_version newest chain)
+        → (v : Name) → chain_at v table.new.entries
+        ≡ at_vertex vertex v (with_updates (Some chain)) (chain_at v table.old.entries) }
 {
     let Some(chain) = table.get_mut(&vertex) else {
         unreachable!()

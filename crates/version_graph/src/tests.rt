@@ -60,19 +60,17 @@ fn create_three(
     graph.apply_parts(alloc, stamp, &parts).is_ok()
 }
 
-// All three vertices have one update, or none of them has a chain. There is memory for all.
+// Each of three vertices of one transaction has one update then.
 #[test]
 fn three_vertices(rt: HostRuntime) -> Result<(), Fail> {
     let alloc = rt.alloc();
     let mut graph = VersionGraph::new(alloc);
     let (a, b, c) = (name(&rt, "a"), name(&rt, "b"), name(&rt, "c"));
-    let made = create_three(&rt, alloc, &mut graph, a, b, c);
-    let count = made.then_some(1);
+    assert!(rt; create_three(&rt, alloc, &mut graph, a, b, c));
     for v in [a, b, c] {
-        assert_eq!(rt; graph.chain(v).map(|chain| chain.count()), count);
+        assert_eq!(rt; graph.chain(v).map(|chain| chain.count()), Some(1));
     }
     assert!(rt; graph.chain(name(&rt, "d")).is_none());
-    assert!(rt; made);
     Ok(())
 }
 
@@ -126,21 +124,41 @@ fn stamp(count: u64) -> Stamp {
     }
 }
 
-// Ten updates of each of two vertices in turn, and one of no part.
+fn numbered(rt: &impl Abort, number: u8) -> Name {
+    let tens = b'a' + number / 10;
+    let ones = b'a' + number % 10;
+    Name::parse(&[tens, ones]).expect(rt, "no name")
+}
+
+// Reads each of forty vertices, one after another.
+fn read_forty(rt: &impl Abort, alloc: Global, graph: &mut VersionGraph, stamp: Stamp) {
+    for number in 0..40 {
+        let v = numbered(rt, number);
+        if !read_one(rt, alloc, graph, stamp, v) {
+            panic!(rt; "not read");
+        }
+    }
+}
+
+// Whether each of them has this many updates.
+fn have_updates(rt: &impl Abort, graph: &VersionGraph, updates: u64) -> bool {
+    for number in 0..40 {
+        if count(graph, numbered(rt, number)) != updates {
+            return false;
+        }
+    }
+    true
+}
+
+// Ten updates of each of forty vertices in turn, and one of no part.
 #[test]
 fn updates_of_what_is_there(rt: HostRuntime) {
     let alloc = rt.alloc();
     let mut graph = VersionGraph::new(alloc);
-    let (a, b) = (name(&rt, "a"), name(&rt, "b"));
     for number in 0..10 {
-        let stamp = stamp(number + 1);
-        assert!(rt; read_one(&rt, alloc, &mut graph, stamp, a));
-        assert!(rt; read_one(&rt, alloc, &mut graph, stamp, b));
-        assert_eq!(rt;
-            (count(&graph, a), count(&graph, b)),
-            (number + 1, number + 1)
-        );
+        read_forty(&rt, alloc, &mut graph, stamp(number + 1));
+        assert!(rt; have_updates(&rt, &graph, number + 1));
     }
     assert!(rt; graph.apply_parts(alloc, stamp(11), &[]) == Ok(()));
-    assert_eq!(rt; (count(&graph, a), count(&graph, b)), (10, 10));
+    assert!(rt; have_updates(&rt, &graph, 10));
 }

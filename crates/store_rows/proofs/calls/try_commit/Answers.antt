@@ -12,6 +12,6 @@ pub returns : goal.returns
 returns g c =
     let pushed = rw c.expect.ensures at c.push.ensures.items in
     record {
-      of_store = store_after c.args.stamps.now.items c.push.new.self.items c.args.store.now (g.J.Judge.known c.args.judge.now) c.args.stamp pushed c.requires 0 c.args.request c.args.ops.now c.commit.new.self c.commit.result c.commit.ensures.entry c.commit.ensures.store;
+      of_store = store_after c.args.stamps.now.items c.push.new.self.items c.args.store.now (g.J.Judge.known c.args.judge.now) c.args.stamp pushed c.requires c.args.author c.args.request c.args.ops.now c.commit.new.self c.commit.result c.commit.ensures.entry c.commit.ensures.store;
       of_judge = λ one has. judge_after c.args.stamps.now.items c.push.new.self.items c.args.store.now (g.J.Judge.known c.args.judge.now) c.args.stamp pushed c.requires c.args.ops.now (λ other. c.what_is_asked_is_kept.ensures.asked c.args.store.now c.args.stamp other c.args.ops.now) (c.what_is_asked_is_kept.ensures.kept c.args.store.now) one (c.commit.ensures.known one has);
     }
