@@ -51,6 +51,34 @@ session_turned None (Some y) = refl
 session_turned (Some x) None = refl
 session_turned (Some x) (Some y) = nat_eq_equiv.symm x.session y.session
 
+-- of two begun requests of a session, e is the earlier one if the stamps do not put r before it
+module _ (script : Script) (report : Report) (holds : AllHold (replies_clause script report)) where
+  pub session_so : (r e : ℕ) (s t : Stamp) → stamp_at report r ≡ Some s → stamp_at report e ≡ Some t → (r ≡ e → ⊥) → ¬ IsTrue (stamp_before s t) → IsTrue (not (same_session script e r) || ltb e r)
+  session_so r e s t at_r at_e other unled =
+      elim (cases_lt e r) [
+        | inl less ↦ or_right (not (same_session script e r)) _ (lt-ltb e r less)
+        | inr not_less ↦ or_left _ _ (not_from_false (same_session script e r) (others not_less))
+      ]
+    where
+      others : r ≤ e → same_session script e r ≡ false
+      others at_most =
+          elim (cases_Bool (same_session script e r)) [
+            | inr differs ↦ differs
+            | inl same ↦
+                let first = reply_of script report holds r s at_r in
+                let second = reply_of script report holds e t at_e in
+                let less : r < e = elim (cases_lt r e) [ inl less ↦ less | inr more ↦ absurd (other (omega (arith, at_most, more))) ] in
+                let stands = (and_parts (are_apart_where_begun first.0.stamp second.0.stamp) _ (stands_so script report holds r e first.0 second.0 less first.1 second.1)).1 in
+                let one : first.0.request ≡ r = is_numbered script report holds r first.0 first.1 in
+                let two : second.0.request ≡ e = is_numbered script report holds e second.0 second.1 in
+                let session : IsTrue (same_session script first.0.request second.0.request) = ap (λ n. same_session script n second.0.request) one ∙ ap (same_session script r) two ∙ session_turned (request_at script r) (request_at script e) ∙ same in
+                let in_turn : IsTrue (are_begun_in_turn first.0.stamp second.0.stamp) = elim (or_cases (not (same_session script first.0.request second.0.request)) _ stands) [
+                  | inl apart ↦ absurd (both_ways (same_session script first.0.request second.0.request) (not-true (same_session script first.0.request second.0.request) apart) session)
+                  | inr so ↦ so
+                ] in
+                absurd (unled (subst (λ o. IsTrue (are_begun_in_turn (Some s) o)) second.2 (subst (λ o. IsTrue (are_begun_in_turn o second.0.stamp)) first.2 in_turn)))
+          ]
+
 module _ (strict : IsStrict) (script : Script) (report : Report) (holds : AllHold (replies_clause script report)) (turn : IsInTurn report) where
   abbrev place : ℕ → ℕ
   place r = place_in turn.places r
@@ -193,32 +221,9 @@ module _ (strict : IsStrict) (script : Script) (report : Report) (holds : AllHol
   -- one listed before another of its session is an earlier one
   session_test : (r e : ℕ) → 0 < place r → 0 < place e → place e < place r → IsTrue (not (same_session script e r) || ltb e r)
   session_test r e some_r some_e before =
-      elim (cases_lt e r) [
-        | inl less ↦ or_right (not (same_session script e r)) _ (lt-ltb e r less)
-        | inr not_less ↦ or_left _ _ (not_from_false (same_session script e r) (others not_less))
-      ]
-    where
-      others : r ≤ e → same_session script e r ≡ false
-      others at_most =
-          elim (cases_Bool (same_session script e r)) [
-            | inr other ↦ other
-            | inl same ↦
-                let s = turn.placed.begun r some_r in
-                let t = turn.placed.begun e some_e in
-                let first = reply_of script report holds r s.0 s.1 in
-                let second = reply_of script report holds e t.0 t.1 in
-                let less : r < e = elim (cases_lt r e) [ inl less ↦ less | inr more ↦ absurd (let e_is : r ≡ e = omega (arith, at_most, more) in omega (arith, before, ap place e_is)) ] in
-                let stands = (and_parts (are_apart_where_begun first.0.stamp second.0.stamp) _ (stands_so script report holds r e first.0 second.0 less first.1 second.1)).1 in
-                let one : first.0.request ≡ r = is_numbered script report holds r first.0 first.1 in
-                let two : second.0.request ≡ e = is_numbered script report holds e second.0 second.1 in
-                let session : IsTrue (same_session script first.0.request second.0.request) = ap (λ n. same_session script n second.0.request) one ∙ ap (same_session script r) two ∙ session_turned (request_at script r) (request_at script e) ∙ same in
-                let in_turn : IsTrue (are_begun_in_turn first.0.stamp second.0.stamp) = elim (or_cases (not (same_session script first.0.request second.0.request)) _ stands) [
-                  | inl other ↦ absurd (both_ways (same_session script first.0.request second.0.request) (not-true (same_session script first.0.request second.0.request) other) session)
-                  | inr so ↦ so
-                ] in
-                let stamps : IsTrue (stamp_before s.0 t.0) = subst (λ o. IsTrue (are_begun_in_turn (Some s.0) o)) second.2 (subst (λ o. IsTrue (are_begun_in_turn o second.0.stamp)) first.2 in_turn) in
-                absurd (omega (arith, before, turn.placed.rise r e s.0 t.0 some_r some_e s.1 t.1 stamps))
-          ]
+      let s = turn.placed.begun r some_r in
+      let t = turn.placed.begun e some_e in
+      session_so script report holds r e s.0 t.0 s.1 t.1 (λ same. omega (arith, before, ap place same)) (λ stamps. omega (arith, before, turn.placed.rise r e s.0 t.0 some_r some_e s.1 t.1 stamps))
 
   place_is : (i r : ℕ) → slice_get report.order i ≡ Some r → place r ≡ i + 1
   place_is i r at =

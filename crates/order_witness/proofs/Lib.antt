@@ -28,3 +28,4 @@ pub mod Seeing
 pub mod TurnSteps
 pub mod BegunCoherent
 pub mod Visiting
+pub mod Covering

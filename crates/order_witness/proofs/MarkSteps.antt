@@ -21,7 +21,7 @@ pub nothing : (n : ℕ) → None ≡ Some n → ⊥
 nothing n e = cc
 
 module _ (script : Script) (graph : PlainGraph) (after r : ℕ) (old new : Bool) where
-  -- a reply that is refused after so many commits is marked
+  -- a reply that is refused after this number of commits is marked
   pub marked_here : (state : ReplyState) → IsMarkedOn script graph after r state old new → refused_after state ≡ Some after → Marks new (IsRefusedSo script (Some graph) r state)
   marked_here Unbegun h e = absurd (nothing after e)
   marked_here Begun h e = absurd (nothing after e)
@@ -52,7 +52,7 @@ marked_twice script graph after r old middle new (Refused op reason at) g h = bo
     both false g h = h ∙ g
 marked_twice script graph after r old middle new (Finished answer) g h = h ∙ g
 
--- a mark that stays is right for a reply that isn't refused after so many commits
+-- a mark that stays is right for a reply that isn't refused after this number of commits
 pub mark_kept : (script : Script) (graph : PlainGraph) (after r : ℕ) (old new : Bool) (state : ReplyState) → (refused_after state ≡ Some after → ⊥) → new ≡ old → IsMarkedOn script graph after r state old new
 mark_kept script graph after r old new Unbegun other h = h
 mark_kept script graph after r old new Begun other h = h
@@ -61,7 +61,7 @@ mark_kept script graph after r old new (Conflict v newer) other h = h
 mark_kept script graph after r old new (Refused op reason at) other h = subst (λ b. MatchBool b (Marks new (IsRefusedOn (Some graph) (request_at script r) op reason)) (new ≡ old)) (sym (ne_eqb at after (λ same. other (ap Some same)))) h
 mark_kept script graph after r old new (Finished answer) other h = h
 
--- a reply is refused after so many commits, or isn't
+-- a reply is refused after this number of commits, or isn't
 pub refused_or_not : (after : ℕ) (state : ReplyState) → (refused_after state ≡ Some after) ⊎ (refused_after state ≡ Some after → ⊥)
 refused_or_not after Unbegun = inr (nothing after)
 refused_or_not after Begun = inr (nothing after)
@@ -80,7 +80,7 @@ none_refused script r (Refused op reason n) at e h = h
 none_refused script r (Finished answer) at e h = nothing at e
 
 module _ (script : Script) (report : Report) where
-  -- the marks after so many commits: of those refused after so many at most they are right, the others have none
+  -- the marks after this number of commits: of those refused after at most this number they are right, the others have none
   pub record AreSoFar (done : ℕ) (marks : List Bool) : Type 0 where
     pub marked : AreMarkedUpTo done script report marks
     pub ahead : (place at : ℕ) (reply : Reply) → slice_get report.replies place ≡ Some reply → refused_after reply.state ≡ Some at → done < at → get_or marks place false ≡ false

@@ -71,7 +71,7 @@ numbered_more n replies i reply lt is =
     ∙ ap (map (λ (r : Reply). r.request)) (filter-append (λ (r : Reply). is_some_and (λ m. eqb m n) (number_of r.state)) (take i replies) (reply ∷ []))
     ∙ map-append (λ (r : Reply). r.request) (filter (λ (r : Reply). is_some_and (λ m. eqb m n) (number_of r.state)) (take i replies)) (filter (λ (r : Reply). is_some_and (λ m. eqb m n) (number_of r.state)) (reply ∷ []))
 
--- a reply that is refused after so many commits has its place
+-- a reply that is refused after this number of commits has its place
 pub place_there : (n place : ℕ) (state : ReplyState) → refused_after state ≡ Some n → place_if_refused n place state ≡ place ∷ []
 place_there n place Unbegun e = absurd (nothing n e)
 place_there n place Begun e = absurd (nothing n e)

@@ -1,5 +1,6 @@
 -- One request more gets its place in the order.
 use Rattle.std.proofs.Common.{◌≡◌, ℕ, zero, suc, ◌+◌, ◌<◌, Bool, false, not, ◌&&◌, ◌==◌, IsTrue, List, [], ◌∷◌, slice_index_or, replicate, Option, Some, None, inl, inr, refl, sym, ap, ◌∙◌, subst, arith}
+use Rattle.std.specs.List.{list_any}
 use Rattle.std.proofs.lemmas.Bool.{and_parts, both_ways, cases_eq, cases_lt, eqb-true, not-true, or_left, or_right}
 use Rattle.std.proofs.lemmas.List.{get_or-set_same, get_or-set_other}
 use Rattle.vector_stamp.specs.declared.clock.Stamp.{Stamp}
@@ -36,14 +37,18 @@ before_trans strict report a b c g h = of_options (stamp_at report a) (stamp_at 
 pub one_stamp : (s t : Stamp) → Some s ≡ Some t → s ≡ t
 one_stamp s t e = cc
 
-none_there : (gate : ℕ) (stamp : Stamp) → latest_at [] gate ≡ Some stamp → ⊥
-none_there gate stamp e = cc
+none_some : {A : Type 0} (x : A) → None ≡ Some x → ⊥
+none_some x e = cc
+
+-- one of a list passes if the one at a place does
+pub some_passes : {A : Type 0} (test : A → Bool) (ones : List (Option A)) (place : ℕ) (x : A) → slice_index_or ones place None ≡ Some x → IsTrue (test x) → IsTrue (list_any (λ (one : Option A). is_some_and test one) ones)
+some_passes test [] place x is h = absurd (none_some x is)
+some_passes test (one ∷ others) zero x is h = or_left (is_some_and test one) _ (subst (λ o. IsTrue (is_some_and test o)) (sym is) h)
+some_passes test (one ∷ others) (suc place) x is h = or_right (is_some_and test one) _ (some_passes test others place x is h)
 
 -- a stamp before one of them is so
 before_some : (s : Stamp) (latest : List (Option Stamp)) (gate : ℕ) (t : Stamp) → latest_at latest gate ≡ Some t → IsTrue (stamp_before s t) → IsTrue (is_before_one s latest)
-before_some s [] gate t is h = absurd (none_there gate t is)
-before_some s (one ∷ others) zero t is h = or_left (is_some_and (stamp_before s) one) _ (subst (λ o. IsTrue (is_some_and (stamp_before s) o)) (sym is) h)
-before_some s (one ∷ others) (suc gate) t is h = or_right (is_some_and (stamp_before s) one) _ (before_some s others gate t is h)
+before_some s latest gate t is h = some_passes (stamp_before s) latest gate t is h
 
 -- at first no request has a place
 zeros : (n r : ℕ) → place_in (replicate n 0) r ≡ 0

@@ -13,7 +13,7 @@ use Rattle.report_rules.specs.declared.report.ReplyState.TheVariants.{Committed}
 use Rattle.proof_base.specs.Facts.{AllHold, BreaksFirstAt}
 use Rattle.report_rules.specs.Replay.{OutcomeMatchesReply, replay_from, graph_after, graph_before}
 use Rattle.report_rules.specs.Lookups.{is_in, request_at}
-use Rattle.order_witness.specs.Replayed.{ComesToReply, GivesAnswers, TellsOf}
+use Rattle.order_witness.specs.Replayed.{MatchesItsReply, GivesAnswers, TellsOf}
 
 -- what committed replies tell are their answers
 pub told_answers : (outcome : TxOutcome) (number : ℕ) (answers : List Got) → OutcomeMatchesReply outcome (Committed number answers) ≡ GivesAnswers outcome answers
@@ -41,36 +41,36 @@ module _ (script : Script) (report : Report) where
   next_through graph (r ∷ order) (suc i) d lt = next_through (graph_after graph (request_at script r)) order i d (omega (arith, lt))
 
   next_holds : (graph : PlainGraph) (order : List ℕ) (i d : ℕ) → i < length order → AllHold (replay_from graph script report (take i order))
-      → ComesToReply (graph_through graph (take i order)) script report (get_or order i d) → AllHold (replay_from graph script report (take (suc i) order))
+      → MatchesItsReply (graph_through graph (take i order)) script report (get_or order i d) → AllHold (replay_from graph script report (take (suc i) order))
   next_holds graph [] i d lt h fact = absurd (omega (arith, lt))
   next_holds graph (r ∷ order) zero d lt h fact = (fact, tt)
   next_holds graph (r ∷ order) (suc i) d lt h fact = (h.0, next_holds (graph_after graph (request_at script r)) order i d (omega (arith, lt)) h.1 fact)
 
   next_breaks : (graph : PlainGraph) (order : List ℕ) (i d : ℕ) → i < length order → AllHold (replay_from graph script report (take i order))
-      → ¬ ComesToReply (graph_through graph (take i order)) script report (get_or order i d) → BreaksFirstAt (replay_from graph script report order) (suc i)
+      → ¬ MatchesItsReply (graph_through graph (take i order)) script report (get_or order i d) → BreaksFirstAt (replay_from graph script report order) (suc i)
   next_breaks graph [] i d lt h fails = absurd (omega (arith, lt))
   next_breaks graph (r ∷ order) zero d lt h fails = fails
   next_breaks graph (r ∷ order) (suc i) d lt h fails = (h.0, next_breaks (graph_after graph (request_at script r)) order i d (omega (arith, lt)) h.1 fails)
 
-  -- so far each request came to what its reply says, and this is the graph
+  -- so far the outcome of each request is what its reply says, and this is the graph
   pub record AreReplayed (start graph : PlainGraph) (order : List ℕ) : Type 0 where
     pub hold : AllHold (replay_from start script report order)
     pub left : graph ≡ graph_through start order
 
   module _ (start : PlainGraph) (order : List ℕ) (i d : ℕ) (graph now : PlainGraph) (lt : i < length order) (so_far : AreReplayed start graph (take i order)) where
-    pub one_more : (r : ℕ) → r ≡ get_or order i d → TellsOf (ComesToReply graph script report r) now (graph_after graph (request_at script r)) true → AreReplayed start now (take (i + 1) order)
+    pub one_more : (r : ℕ) → r ≡ get_or order i d → TellsOf (MatchesItsReply graph script report r) now (graph_after graph (request_at script r)) true → AreReplayed start now (take (i + 1) order)
     one_more r is told =
         let same : i + 1 ≡ suc i = omega arith in
         subst (λ n. AreReplayed start now (take n order)) (sym same) (record {
-          hold = next_holds start order i d lt so_far.hold (subst (λ x. ComesToReply (graph_through start (take i order)) script report x) is (subst (λ g. ComesToReply g script report r) so_far.left told.0));
+          hold = next_holds start order i d lt so_far.hold (subst (λ x. MatchesItsReply (graph_through start (take i order)) script report x) is (subst (λ g. MatchesItsReply g script report r) so_far.left told.0));
           left = told.1 ∙ ap (λ g. graph_after g (request_at script r)) so_far.left ∙ ap (λ x. graph_after (graph_through start (take i order)) (request_at script x)) is ∙ sym (next_through start order i d lt);
         })
 
-    pub first_break : (r : ℕ) → r ≡ get_or order i d → TellsOf (ComesToReply graph script report r) now (graph_after graph (request_at script r)) false → BreaksFirstAt (replay_from start script report order) (i + 1)
+    pub first_break : (r : ℕ) → r ≡ get_or order i d → TellsOf (MatchesItsReply graph script report r) now (graph_after graph (request_at script r)) false → BreaksFirstAt (replay_from start script report order) (i + 1)
     first_break r is told =
         let same : i + 1 ≡ suc i = omega arith in
         subst (λ n. BreaksFirstAt (replay_from start script report order) n) (sym same)
-        (next_breaks start order i d lt so_far.hold (λ fact. told (subst (λ g. ComesToReply g script report r) (sym so_far.left) (subst (λ x. ComesToReply (graph_through start (take i order)) script report x) (sym is) fact))))
+        (next_breaks start order i d lt so_far.hold (λ fact. told (subst (λ g. MatchesItsReply g script report r) (sym so_far.left) (subst (λ x. MatchesItsReply (graph_through start (take i order)) script report x) (sym is) fact))))
 
 -- The graph at a request's place, if the requests before it are others
 

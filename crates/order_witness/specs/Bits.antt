@@ -14,7 +14,7 @@ row_of rows a = slice_index_or rows a []
 abbrev pub leads : List (List ℕ) → ℕ → ℕ → Bool
 leads rows a b = has_bit (row_of rows a) b
 
--- each row has so many words
+-- each row has this number of words
 abbrev pub HaveWords : ℕ → List (List ℕ) → Type 0
 HaveWords words rows = (a : ℕ) → a < length rows → length (row_of rows a) ≡ words
 

@@ -13,4 +13,5 @@ pub mod Rising
 pub mod Seen
 pub mod Turns
 pub mod Paired
+pub mod Latest
 pub mod Visited

@@ -1,4 +1,4 @@
--- Refusals: which replies are refused as they say, after as many commits as they say.
+-- Refusals: which replies are refused as they say, after the number of commits that they say.
 use Rattle.std.specs.Prelude.{◌≡◌, ◌≤◌, ℕ, Bool, true, false, ◌&&◌, ◌==◌, List, Option, Some, None, ⊤, MatchBool, slice_get, slice_index_or, map}
 use Rattle.std.specs.List.{filter}
 use Rattle.graph_ops.specs.PlainGraph.{PlainGraph}
@@ -26,7 +26,7 @@ IsRefusedSo script graph r _ = ⊤
 abbrev pub Marks : Bool → Type 0 → Type 0
 Marks mark Fact = MatchBool mark Fact (¬ Fact)
 
--- of a request that is refused after so many commits the new mark says whether it is so on this graph; another one's stays
+-- of a request that is refused after this number of commits the new mark says whether it is so on this graph; another one's stays
 abbrev pub IsMarkedOn : Script → PlainGraph → ℕ → ℕ → ReplyState → Bool → Bool → Type 0
 IsMarkedOn script graph after r (Refused op reason at) old new = MatchBool (at == after) (Marks new (IsRefusedOn (Some graph) (request_at script r) op reason)) (new ≡ old)
 IsMarkedOn script graph after r _ old new = new ≡ old
@@ -41,7 +41,7 @@ abbrev pub refused_after : ReplyState → Option ℕ
 refused_after (Refused op reason at) = Some at
 refused_after _ = None
 
--- the marks of those that are refused after so many commits at most say whether they are so
+-- the marks of those that are refused after at most this number of commits say whether they are so
 abbrev pub AreMarkedUpTo : ℕ → Script → Report → List Bool → Type 0
 AreMarkedUpTo most script report marks =
     (place at : ℕ) (reply : Reply) → slice_get report.replies place ≡ Some reply → refused_after reply.state ≡ Some at → at ≤ most

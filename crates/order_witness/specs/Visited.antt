@@ -33,6 +33,10 @@ IsMarkedPair script report pair mark =
 abbrev pub AreVisitsMarked : Script → Report → List Bool → Type 0
 AreVisitsMarked script report marks = (place : ℕ) (pair : Pair) → slice_get report.pairs place ≡ Some pair → IsMarkedPair script report pair (slice_index_or marks place false)
 
+-- the marks at other places than these stay
+abbrev pub AreOtherMarksKept : List ℕ → List Bool → List Bool → Type 0
+AreOtherMarksKept places old new = (k : ℕ) → ¬ Contains places k → slice_index_or new k false ≡ slice_index_or old k false
+
 -- the place of a pair, if this is its later request
 abbrev pub place_if_later : ℕ → ℕ → Pair → List ℕ
 place_if_later r place pair = if pair.later == r then place ∷ [] else []

@@ -1,7 +1,7 @@
 //! Small scripts and reports, written as tables.
 
 use graph_ops::{Got, Op, Reason, Record};
-use program_defs::{Request, Script, Work};
+use program_defs::{Answer, Request, Script, Work};
 use report_rules::{Pair, Reply, ReplyState, Report};
 use std::alloc::Global;
 use std::process::Abort;
@@ -37,6 +37,8 @@ pub enum Told<'a> {
     Commit(u64, &'a [(u32, Read)]),
     Conflict(u8, u32),
     Refused(u32, Reason, u64),
+    /// A program is finished, and shows this state.
+    Shown(Read),
 }
 
 /// The number of a request, its stamp's home, epoch and first three counts, and what is told. A reply that is unbegun
@@ -134,6 +136,7 @@ pub fn reply_state(rt: &impl Abort, alloc: Global, told: Told) -> ReplyState {
             newer,
         },
         Told::Refused(op, reason, at) => ReplyState::Refused { op, reason, at },
+        Told::Shown(read) => ReplyState::Finished(Answer::Shown(state(rt, alloc, read))),
     }
 }
 

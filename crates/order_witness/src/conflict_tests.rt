@@ -1,7 +1,8 @@
 //! Conflicts that hang on pairs.
 //!
 //! Requests at eight gatekeepers in rounds, whose stamps leave each two of different gatekeepers open. A pair joins
-//! each two commits that follow one another at different gatekeepers. Of every second round all but the last are aborted for
+//! each two commits that follow one another at different gatekeepers. Of every second round all but the last are
+//! aborted for
 //! a conflict: each precedes the next request of its gatekeeper by its stamp, and that one the newer request by a pair.
 ghost use Rattle.std.specs.Prelude.{◌<◌};
 

@@ -2,8 +2,8 @@
 //! printed order.
 //!
 //! The begun requests are sorted by their stamps, and cut into runs whose stamps rise, at most one for each gatekeeper.
-//! Of each run only the first request that is left can be next: so each turn compares as many candidates as there are
-//! runs, and asks whether the earlier ends of their pairs had their turns.
+//! Of each run only the first request that is left can be next: so each turn compares one candidate a run, and asks
+//! whether the earlier ends of their pairs had their turns.
 ghost use Rattle.std.specs.Prelude.{◌≡◌, ◌<◌, ◌≤◌, ◌&&◌, ℕ, IsTrue, IfOk, Some, length, map, not, is_some};
 ghost use Rattle.std.specs.List.{filter, list_any};
 ghost use Rattle.report_rules.specs.declared.report.Reply.{Reply};

@@ -33,11 +33,13 @@ pub fn has_numbered_operations(script: &Script) -> bool
         })
 }
 
-/// Whether the report is right for the script. Each transaction must have fewer than 2^32 operations, as in every script that is read.
+/// Whether the report is right for the script. Each transaction must have fewer than 2^32 operations, as in every
+/// script that is read.
 pub fn judge_report(alloc: Global, script: &Script, report: &Report) -> Result<Judged, AllocError>
     requires { IsTrue (judgement.has_numbered_operations script.now) }
     ensures yes { IfOk result (λ judged. (judged ≡ Judged.Yes) ↔ IsRightReport script.now report.now) }
-    ensures no { IfOk result (λ judged. (clause : Clause) (place : ℕ) → (judged ≡ Judged.No clause place) ↔ BreaksFirst script.now report.now clause place) }
+    ensures no { IfOk result (λ judged. (clause : Clause) (place : ℕ) → (judged ≡ Judged.No clause place)
+        ↔ BreaksFirst script.now report.now clause place) }
 {
     right_report_breaks_nowhere();
     wrong_report_breaks_first_once();

@@ -33,7 +33,8 @@ pub fn first_fault(alloc: Global, report: &Report) -> Result<Option<u64>, AllocE
 fn first_out_of_place(report: &Report, order: &[u32], seen: &mut Row) -> Option<u64>
     requires none { (n : ℕ) → has_bit seen.old n ≡ false }
     requires room { length report.now.replies / 64 < length seen.old }
-    ensures fault { IsFirstFault (facts_in_turn (λ before r. IsTrue (not (told.is_in r before) && told.may_be_listed report.now r)) order.now) result }
+    ensures fault { IsFirstFault (facts_in_turn
+        (λ before r. IsTrue (not (told.is_in r before) && told.may_be_listed report.now r)) order.now) result }
     ensures seen { result ≡ None → AreSeen order.now seen.new }
 {
     for (place, request) in order.iter().enumerate() {
@@ -66,7 +67,8 @@ fn is_in_place(report: &Report, seen: &Row, request: u32) -> bool
 }
 
 fn all_are_seen(report: &Report, seen: &Row) -> bool
-    ensures { result ≡ list_all (λ (reply : Reply). not (told.is_committed_or_finished reply.state) || has_bit seen.now reply.request) report.now.replies }
+    ensures { result ≡ list_all (λ (reply : Reply). not (told.is_committed_or_finished reply.state)
+        || has_bit seen.now reply.request) report.now.replies }
 {
     report.replies.as_slice().iter().all(|reply| !is_committed_or_finished(&reply.state)
         || seen.has(reply.request as usize))

@@ -35,7 +35,8 @@ enum Flaw {
 }
 
 // Requests at one gatekeeper or at eight in turn, of sixteen sessions. The first makes a vertex. Of each sixteen four
-// make it again and are refused, one is aborted for a conflict with the eighth after it, and the others set a key of it.
+// make it again and are refused, one is aborted for a conflict with the eighth after it, and the others set a key of
+// it.
 fn long_script(rt: &impl Abort, alloc: Global, count: u32, many: bool) -> Script {
     let mut requests = Items::new(alloc);
     for i in 0..count {
@@ -108,7 +109,7 @@ fn commit_of(left: u32, number: u64, flaw: Flaw) -> Told<'static> {
     }
 }
 
-// What is told of request i, so many from the end, after so many commits.
+// What is told of request i, at this distance from the end, after this number of commits.
 fn told_of(i: u32, left: u32, number: u64, flaw: Flaw) -> Told<'static> {
     if i % 4 == 3 {
         refusal_of(left, number, flaw)

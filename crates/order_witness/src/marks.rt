@@ -1,4 +1,5 @@
-//! For each reply, whether it is refused as it says after as many commits as it says. The commits are replayed once.
+//! For each reply, whether it is refused as it says after the number of commits that it says. The commits are replayed
+//! once.
 ghost use Rattle.std.specs.Prelude.{◌≡◌, ◌≢◌, ℕ, ◌<◌, ◌≤◌, [], ◌∷◌, ◌++◌, IsTrue, IfOk, OnOk, Some, false, length, replicate, slice_get, slice_index_or};
 ghost use Rattle.std.specs.Option.{option_and_then};
 ghost use Rattle.graph_ops.specs.Graphs.{plain_of};
@@ -62,7 +63,8 @@ fn commits_by_number(alloc: Global, replies: &[Reply]) -> Result<ByNumber, Alloc
 
 fn put_commit(table: &mut ByNumber, reply: &Reply) -> Result<(), AllocError>
     ensures size { length table.new ≡ length table.old }
-    ensures after { OnOk result ((n : ℕ) → n < length table.old → list_at table.new n ≡ list_at table.old n ++ numbered_in n (reply.now ∷ [])) }
+    ensures after { OnOk result ((n : ℕ) → n < length table.old
+        → list_at table.new n ≡ list_at table.old n ++ numbered_in n (reply.now ∷ [])) }
 {
     if let Some(number) = number_of(&reply.state) {
         table.put(number, reply.request as usize)?;
@@ -83,7 +85,8 @@ fn refusals_by_number(alloc: Global, replies: &[Reply]) -> Result<ByNumber, Allo
 
 fn put_refusal(table: &mut ByNumber, place: usize, reply: &Reply) -> Result<(), AllocError>
     ensures size { length table.new ≡ length table.old }
-    ensures after { OnOk result ((n : ℕ) → n < length table.old → list_at table.new n ≡ list_at table.old n ++ place_if_refused n place reply.now.state) }
+    ensures after { OnOk result ((n : ℕ) → n < length table.old
+        → list_at table.new n ≡ list_at table.old n ++ place_if_refused n place reply.now.state) }
 {
     if let ReplyState::Refused { at, .. } = &reply.state {
         table.put(*at, place)?;
@@ -97,7 +100,8 @@ fn no_marks(alloc: Global, count: usize) -> Result<Vec<bool>, AllocError>
     vec![in alloc; false; count]
 }
 
-// Marks those of the replies that are refused after so many commits, by the graph that these leave. Their places are among these.
+// Marks those of the replies that are refused after this number of commits, by the graph that these leave. Their places
+// are among these.
 fn mark(
     alloc: Global,
     graph: &mut Graph,
@@ -112,7 +116,8 @@ fn mark(
     requires places { HasRefused after replies.now places.now }
     ensures size { length marks.new.items ≡ length marks.old.items }
     ensures unchanged { graph.new ≡ graph.old }
-    ensures marked { OnOk result (AreMarkedOn script.now (plain_of graph.old) after replies.now marks.old.items marks.new.items) }
+    ensures marked { OnOk result
+        (AreMarkedOn script.now (plain_of graph.old) after replies.now marks.old.items marks.new.items) }
 {
     for place in places {
         mark_one(alloc, graph, script, replies, after, *place, marks)?;
@@ -133,9 +138,11 @@ fn mark_one(
     requires size { length marks.old.items ≡ length replies.now }
     ensures size { length marks.new.items ≡ length marks.old.items }
     ensures unchanged { graph.new ≡ graph.old }
-    ensures others { OnOk result ((k : ℕ) → k ≢ place → slice_index_or marks.new.items k false ≡ slice_index_or marks.old.items k false) }
+    ensures others { OnOk result ((k : ℕ) → k ≢ place
+        → slice_index_or marks.new.items k false ≡ slice_index_or marks.old.items k false) }
     ensures marked { OnOk result ((reply : Reply) → slice_get replies.now place ≡ Some reply
-        → IsMarkedOn script.now (plain_of graph.old) after reply.request reply.state (slice_index_or marks.old.items place false) (slice_index_or marks.new.items place false)) }
+        → IsMarkedOn script.now (plain_of graph.old) after reply.request reply.state
+        (slice_index_or marks.old.items place false) (slice_index_or marks.new.items place false)) }
 {
     if place >= replies.len() {
         return Ok(());
@@ -155,7 +162,8 @@ fn mark_of(
 ) -> Result<bool, AllocError>
     requires numbered { IsTrue (has_numbered_operations script.now) }
     ensures unchanged { graph.new ≡ graph.old }
-    ensures mark { IfOk result (IsMarkedOn script.now (plain_of graph.old) after reply.now.request reply.now.state old) }
+    ensures mark { IfOk result
+        (IsMarkedOn script.now (plain_of graph.old) after reply.now.request reply.now.state old) }
 {
     match &reply.state {
         ReplyState::Refused { op, reason, at } => {
@@ -179,7 +187,8 @@ fn is_refused(
 ) -> Result<bool, AllocError>
     requires numbered { IsTrue (has_numbered_operations script.now) }
     ensures unchanged { graph.new ≡ graph.old }
-    ensures mark { IfOk result (λ refused. Marks refused (IsRefusedOn (Some (plain_of graph.old)) (told.request_at script.now request) op reason)) }
+    ensures mark { IfOk result (λ refused. Marks refused
+        (IsRefusedOn (Some (plain_of graph.old)) (told.request_at script.now request) op reason)) }
 {
     match request_at(script, request) {
         Some(request) => work_stops(alloc, graph, &request.work, op, reason),
@@ -212,7 +221,9 @@ fn commit(
     requests: &[usize],
 ) -> Result<bool, AllocError>
     requires numbered { IsTrue (has_numbered_operations script.now) }
-    ensures { IfOk result (IsThere (graph_after_commit (option_and_then (told.request_at script.now) (the_only requests.now)) (Some (plain_of graph.old))) (plain_of graph.new)) }
+    ensures { IfOk result (IsThere
+        (graph_after_commit (option_and_then (told.request_at script.now) (the_only requests.now))
+        (Some (plain_of graph.old))) (plain_of graph.new)) }
 {
     let Some(only) = the_only(requests) else {
         return Ok(false);

@@ -24,7 +24,9 @@ pub fn first_fault(alloc: Global, report: &Report) -> Result<Option<u64>, AllocE
 fn first_out_of_place(replies: &[Reply], count: usize, seen: &mut Row) -> Option<u64>
     requires none { (n : ℕ) → has_bit seen.old n ≡ false }
     requires room { count / 64 < length seen.old }
-    ensures { IsFirstFault (facts_in_turn (λ before (reply : Reply). IsTrue (right.is_number_in_place count before (told.number_of reply.state))) replies.now) result }
+    ensures { IsFirstFault (facts_in_turn
+        (λ before (reply : Reply). IsTrue (right.is_number_in_place count before (told.number_of reply.state)))
+        replies.now) result }
 {
     for (place, reply) in replies.iter().enumerate() {
         let holds = see(seen, number_of(&reply.state), count);
@@ -40,7 +42,8 @@ fn see(seen: &mut Row, number: Option<u64>, count: usize) -> bool
     requires { count / 64 < length seen.old }
     ensures size { length seen.new ≡ length seen.old }
     ensures holds { result ≡ is_number_new count seen.old number }
-    ensures after { IsTrue result → (n : ℕ) → has_bit seen.new n ≡ (has_bit seen.old n || told.is_some_and (λ m. n == m) number) }
+    ensures after { IsTrue result → (n : ℕ) → has_bit seen.new n
+        ≡ (has_bit seen.old n || told.is_some_and (λ m. n == m) number) }
 {
     match number {
         Some(number) => see_number(seen, number, count),

@@ -9,6 +9,7 @@ ghost use Rattle.order_witness.specs.Bits.{leads};
 ghost use Rattle.order_witness.specs.Begun.{request_precedes, is_listed_in_order};
 ghost use Rattle.order_witness.specs.Judgement.{IsFirstFault};
 
+use crate::latest::is_kept_by_pairs;
 use crate::places::is_in_turn;
 use crate::precedence::precedence_of;
 use crate::relation::Relation;
@@ -18,9 +19,11 @@ use report_rules::Report;
 use std::alloc::{AllocError, Global};
 use vector_stamp::laws::{precedence_is_decided, stamps_are_ordered};
 
-/// The first place in the order that breaks the clause with itself or an earlier place, from 1, where the clause on replies holds.
+/// The first place in the order that breaks the clause with itself or an earlier place, from 1, where the clause on
+/// replies holds.
 ///
-/// One walk over the order and the pairs finds that there is none. Precedence is found only if the walk does not.
+/// One walk over the order and the pairs shows that there is none, if the pairs join listed requests alone. If it
+/// doesn't, the graph of the pairs is asked. Precedence is closed over all requests only if that shows nothing either.
 pub fn first_fault(
     alloc: Global,
     script: &Script,
@@ -31,6 +34,10 @@ pub fn first_fault(
 {
     stamps_are_ordered();
     if is_in_turn(alloc, report)? {
+        return Ok(None);
+    }
+    let is_kept = is_kept_by_pairs(alloc, script, report)?;
+    if is_kept {
         return Ok(None);
     }
     let precedence = precedence_of(alloc, report)?;
@@ -67,7 +74,9 @@ fn precedes_none(precedence: &Relation, before: &[u32], request: u32) -> bool
 }
 
 fn stands_in_session(script: &Script, before: &[u32], request: u32) -> bool
-    ensures { result ≡ list_all (λ earlier. not (told.same_session script.now earlier request) || nat_lt earlier request) before.now }
+    ensures { result ≡ list_all (λ earlier. not (told.same_session script.now earlier request)
+        || nat_lt earlier request)
+        before.now }
 {
     before.iter().all(|earlier| !same_session(script, *earlier, request) || *earlier < request)
 }

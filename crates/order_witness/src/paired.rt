@@ -65,7 +65,8 @@ pub fn leads(precedence: &Precedence, report: &Report, a: u32, b: u32) -> bool
     }
 }
 
-fn leads_by_pairs(graph: &OrderGraph, report: &Report, a: u32, b: u32) -> bool
+/// The same by the graph of the pairs.
+pub fn leads_by_pairs(graph: &OrderGraph, report: &Report, a: u32, b: u32) -> bool
     requires { HoldsPairs report.now graph.now }
     ensures { result ≡ request_precedes report.now a b }
 {
@@ -90,8 +91,8 @@ fn precedes(graph: &OrderGraph, a: &Stamp, b: &Stamp) -> bool
     }
 }
 
-// The graph of the pairs of the report, if each may be added after those before it.
-fn graph_of(
+/// The graph of the pairs of the report, if each may be added after those before it.
+pub fn graph_of(
     alloc: Global,
     script: &Script,
     report: &Report,

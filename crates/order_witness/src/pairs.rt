@@ -1,4 +1,5 @@
-//! The clause on pairs: the stamps are unordered, and both requests meet at the vertex: transactions by naming it, a program by visiting it.
+//! The clause on pairs: the stamps are unordered, and both requests meet at the vertex: transactions by naming it, a
+//! program by visiting it.
 ghost use Rattle.std.specs.Prelude.{◌≡◌, ◌&&◌, false, slice_index_or};
 ghost use Rattle.vector_stamp.specs.Order as stamps;
 ghost use Rattle.report_rules.specs.RightReport as right;
@@ -13,7 +14,8 @@ use program_defs::{Script, Work};
 use report_rules::{Pair, ReplyState, Report};
 use weave_data::Name;
 
-/// The first pair that breaks the clause, from 1. The marks say of each pair whose later request is a finished program whether that one visits its vertex.
+/// The first pair that breaks the clause, from 1. The marks say of each pair whose later request is a finished program
+/// whether that one visits its vertex.
 pub fn first_fault(script: &Script, report: &Report, marks: &[bool]) -> Option<u64>
     requires { AreVisitsMarked script.now report.now marks.now }
     ensures { IsFirstFault (right.pairs_clause script.now report.now) result }
@@ -45,7 +47,9 @@ fn is_in_place(script: &Script, report: &Report, pair: &Pair, mark: bool) -> boo
 }
 
 fn is_later_in_place(script: &Script, report: &Report, v: Name, r: u32, mark: bool) -> bool
-    ensures { result ≡ told.are_both (λ (request : Request) (reply : Reply). may_be_later script.now report.now v r mark request.work reply.state) (told.request_at script.now r) (told.reply_at report.now r) }
+    ensures { result ≡ told.are_both
+        (λ (request : Request) (reply : Reply). may_be_later script.now report.now v r mark request.work reply.state)
+        (told.request_at script.now r) (told.reply_at report.now r) }
 {
     let Some(request) = request_at(script, r) else {
         return false;

@@ -11,7 +11,8 @@ use std::alloc::{AllocError, Global};
 use vector_stamp::Stamp;
 use vector_stamp::laws::stamps_are_ordered;
 
-/// Whether the order keeps that of the stamps, gatekeeper by gatekeeper, and each pair. Then no listed request precedes one listed before it.
+/// Whether the order keeps that of the stamps, gatekeeper by gatekeeper, and each pair. Then no listed request precedes
+/// one listed before it.
 pub fn is_in_turn(alloc: Global, report: &Report) -> Result<bool, AllocError>
     ensures { IfOk result (λ holds. IsTrue holds → IsInTurn report.now) }
 {
@@ -47,7 +48,8 @@ fn put(
     places: &mut Vec<u64>,
     latest: &mut Vec<Option<Stamp>>,
 ) -> bool
-    ensures { IsTrue result → IsPutNext report.now request place places.old.items places.new.items latest.old.items latest.new.items }
+    ensures { IsTrue result
+        → IsPutNext report.now request place places.old.items places.new.items latest.old.items latest.new.items }
 {
     let Some(stamp) = stamp_at(report, request) else {
         return false;
@@ -71,7 +73,8 @@ fn put(
     true
 }
 
-// Whether a request with this stamp may come next, by its place so far, the latest one of its gatekeeper and those of all.
+// Whether a request with this stamp may come next, by its place so far, the latest one of its gatekeeper and those of
+// all.
 fn may_come(place: u64, last: &Option<Stamp>, stamp: &Stamp, latest: &[Option<Stamp>]) -> bool
     ensures { result ≡ may_come place last.now stamp.now latest.now }
 {
@@ -122,7 +125,8 @@ fn is_pair_in_turn(report: &Report, places: &[u64], pair: &Pair) -> bool
 }
 
 fn are_in_turn(places: &[u64], earlier: u32, later: u32) -> bool
-    ensures { result ≡ (nat_lt 0 (place_in places.now earlier) && nat_lt (place_in places.now earlier) (place_in places.now later)) }
+    ensures { result ≡ (nat_lt 0 (place_in places.now earlier)
+        && nat_lt (place_in places.now earlier) (place_in places.now later)) }
 {
     let first = place_at(places, earlier);
     0 < first && first < place_at(places, later)

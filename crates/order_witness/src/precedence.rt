@@ -9,7 +9,8 @@ use std::alloc::{AllocError, Global};
 use vector_stamp::Stamp;
 use vector_stamp::laws::{one_pair_joins_its_ends, precedence_is_decided};
 
-/// The relation between the requests of a report, by number: which precedes which. No two begun ones may have one stamp.
+/// The relation between the requests of a report, by number: which precedes which. No two begun ones may have one
+/// stamp.
 pub fn precedence_of(alloc: Global, report: &Report) -> Result<Relation, AllocError>
     requires { StampsDiffer report.now }
     ensures { IfOk result (λ relation. (a b : ℕ) → leads relation a b ≡ request_precedes report.now a b) }
@@ -28,7 +29,8 @@ pub fn precedence_of(alloc: Global, report: &Report) -> Result<Relation, AllocEr
 fn put_stamps(relation: &mut Relation, replies: &[Reply])
     requires { length relation.old ≡ length replies.now }
     ensures size { length relation.new ≡ length relation.old }
-    ensures after { (a b : ℕ) → leads relation.new a b ≡ (leads relation.old a b || stamps_lead replies.now replies.now a b) }
+    ensures after { (a b : ℕ) → leads relation.new a b
+        ≡ (leads relation.old a b || stamps_lead replies.now replies.now a b) }
 {
     for (place, reply) in replies.iter().enumerate() {
         if let Some(stamp) = reply.stamp {
@@ -42,7 +44,8 @@ fn put_later(relation: &mut Relation, request: usize, stamp: &Stamp, replies: &[
     requires size { length relation.old ≡ length replies.now }
     requires begun { request < length replies.now }
     ensures size { length relation.new ≡ length relation.old }
-    ensures after { (a b : ℕ) → leads relation.new a b ≡ (leads relation.old a b || (a == request && is_before_in replies.now stamp.now b)) }
+    ensures after { (a b : ℕ) → leads relation.new a b
+        ≡ (leads relation.old a b || (a == request && is_before_in replies.now stamp.now b)) }
 {
     for (place, reply) in replies.iter().enumerate() {
         if is_before(stamp, reply) {
@@ -64,7 +67,8 @@ fn is_before(stamp: &Stamp, reply: &Reply) -> bool
 fn put_pairs(relation: &mut Relation, replies: &[Reply], pairs: &[Pair])
     requires { length relation.old ≡ length replies.now }
     ensures size { length relation.new ≡ length relation.old }
-    ensures after { (a b : ℕ) → leads relation.new a b ≡ (leads relation.old a b || pairs_lead replies.now pairs.now a b) }
+    ensures after { (a b : ℕ) → leads relation.new a b
+        ≡ (leads relation.old a b || pairs_lead replies.now pairs.now a b) }
 {
     for pair in pairs {
         if is_begun(replies, pair.earlier) && is_begun(replies, pair.later) {

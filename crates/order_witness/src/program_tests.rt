@@ -100,7 +100,8 @@ fn pairs_of(rt: &impl Abort, alloc: Global, vertices: &[(Name, u32)], later: u32
     pairs
 }
 
-/// Transactions are committed, and a program's stamp is unordered with theirs. Pairs put it after some of them, each at a vertex. Without an answer it is not finished.
+/// Transactions are committed, and a program's stamp is unordered with theirs. Pairs put it after some of them, each at
+/// a vertex. Without an answer it is not finished.
 pub fn told(
     rt: &impl Abort,
     alloc: Global,

@@ -1,5 +1,5 @@
-//! The clause on refusals: each is refused so after as many commits as it says, and these stand well among the commits
-//! of its session.
+//! The clause on refusals: each is refused so after the number of commits that it says, and that number fits those of
+//! its session's commits.
 ghost use Rattle.std.specs.Prelude.{◌≡◌, ◌||◌, ℕ, not, false, Some, IsTrue, IfOk, slice_index_or};
 ghost use Rattle.std.specs.List.{list_all};
 ghost use Rattle.report_rules.specs.declared.report.Reply.{Reply};
@@ -17,9 +17,10 @@ use program_defs::Script;
 use report_rules::{Reply, ReplyState, Report};
 use std::alloc::{AllocError, Global};
 
-/// The first reply line that breaks the clause, from 1, for a script without programs, where the clause on replies holds.
+/// The first reply line that breaks the clause, from 1, where the clause on replies holds.
 ///
-/// One walk finds that commit numbers and refusals are in turn in each session. Each refusal is compared with all replies only if it does not.
+/// One walk shows that commit numbers and refusals are in turn in each session. Each refusal is compared with all
+/// replies only if it doesn't.
 pub fn first_fault(
     alloc: Global,
     script: &Script,
@@ -74,7 +75,8 @@ fn is_in_place(
     in_turn: bool,
     count: usize,
 ) -> bool
-    requires kept { IsTrue in_turn → (at : ℕ) → refused_after reply.now.state ≡ Some at → AreNumbersKept script.now report.now.replies reply.now.request at }
+    requires kept { IsTrue in_turn → (at : ℕ) → refused_after reply.now.state ≡ Some at
+        → AreNumbersKept script.now report.now.replies reply.now.request at }
     requires count { count ≡ told.commits report.now }
     ensures { result ≡ is_refusal_in_place script.now report.now reply.now.request reply.now.state mark }
 {
@@ -103,7 +105,8 @@ fn stands_among_commits(
 
 fn are_numbers_kept(script: &Script, replies: &[Reply], r: u32, at: u64, in_turn: bool) -> bool
     requires { IsTrue in_turn → AreNumbersKept script.now replies.now r at }
-    ensures { result ≡ list_all (λ (other : Reply). not (told.same_session script.now other.request r) || right.keeps_number at r other) replies.now }
+    ensures { result ≡ list_all (λ (other : Reply). not (told.same_session script.now other.request r)
+        || right.keeps_number at r other) replies.now }
 {
     if in_turn {
         return true;
@@ -112,7 +115,8 @@ fn are_numbers_kept(script: &Script, replies: &[Reply], r: u32, at: u64, in_turn
 }
 
 fn keeps_numbers(script: &Script, replies: &[Reply], r: u32, at: u64) -> bool
-    ensures { result ≡ list_all (λ (other : Reply). not (told.same_session script.now other.request r) || right.keeps_number at r other) replies.now }
+    ensures { result ≡ list_all (λ (other : Reply). not (told.same_session script.now other.request r)
+        || right.keeps_number at r other) replies.now }
 {
     replies.iter().all(|other| !same_session(script, other.request, r)
         || keeps_number(at, r, other))

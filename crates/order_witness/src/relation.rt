@@ -96,7 +96,8 @@ fn join_rows(rows: &mut [Row], middle: usize, through: &Row)
     requires { HaveWords (length through.now) rows.old }
     ensures size { length rows.new ≡ length rows.old }
     ensures wide { HaveWords (length through.now) rows.new }
-    ensures after { (a b : ℕ) → leads rows.new a b ≡ (leads rows.old a b || (leads rows.old a middle && has_bit through.now b)) }
+    ensures after { (a b : ℕ) → leads rows.new a b
+        ≡ (leads rows.old a b || (leads rows.old a middle && has_bit through.now b)) }
 {
     for row in rows.iter_mut() {
         if row.has(middle) {

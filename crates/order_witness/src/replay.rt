@@ -12,8 +12,8 @@ ghost use Rattle.report_rules.specs.Replay.{AnswerMatchesReply, MatchesReply, Ou
 ghost use Rattle.report_rules.specs.Lookups as told;
 ghost use Rattle.order_witness.specs.ByNumber.{list_at};
 ghost use Rattle.order_witness.specs.Judgement.{IsFirstFault, has_numbered_operations, is_numbered_work};
-ghost use Rattle.order_witness.specs.Visited.{AreMarkedAt, AreMarkedBy, AreVisitsMarked};
-ghost use Rattle.order_witness.specs.Replayed.{ComesToReply, GivesAnswers, TellsOf};
+ghost use Rattle.order_witness.specs.Visited.{AreMarkedAt, AreMarkedBy, AreOtherMarksKept, AreVisitsMarked};
+ghost use Rattle.order_witness.specs.Replayed.{MatchesItsReply, GivesAnswers, TellsOf};
 
 use crate::by_number::ByNumber;
 use crate::records::{same_answers, same_outcome};
@@ -24,8 +24,10 @@ use program_defs::{Program, Script, Visits, Work, ask_with_visits};
 use report_rules::{Pair, ReplyState, Report};
 use std::alloc::{AllocError, Global};
 
-/// The first place in the order that doesn't come to what its reply says, from 1. If there is none, the marks say of each pair whose later request is a
-/// finished program whether that one visits the pair's vertex at its place. Each program is asked once.
+/// The first place in the order whose outcome isn't what its reply says, from 1. If there is none, the marks say of
+/// each
+/// pair whose later request is a finished program whether that one visits the pair's vertex at its place. Each program
+/// in the order is asked once.
 pub fn first_fault(
     alloc: Global,
     script: &Script,
@@ -53,7 +55,8 @@ pub fn first_fault(
 
 // The places of the pairs with each later request.
 fn pairs_by_later(alloc: Global, report: &Report) -> Result<ByNumber, AllocError>
-    ensures { IfOk result (λ table. (r place : ℕ) (pair : Pair) → r < length report.now.replies → slice_get report.now.pairs place ≡ Some pair
+    ensures { IfOk result (λ table. (r place : ℕ) (pair : Pair)
+        → r < length report.now.replies → slice_get report.now.pairs place ≡ Some pair
         → (pair.later ≡ r) ↔ Contains (list_at table r) place) }
 {
     let mut table = ByNumber::new(alloc, report.replies.as_slice().len())?;
@@ -63,7 +66,8 @@ fn pairs_by_later(alloc: Global, report: &Report) -> Result<ByNumber, AllocError
     Ok(table)
 }
 
-// Replays a request on the graph; whether it comes to what its reply says. A program marks its pairs, which are at these places.
+// Replays a request on the graph, and reports whether its outcome is what its reply says. A program marks its pairs,
+// which are at these places.
 fn replay(
     alloc: Global,
     graph: &mut Graph,
@@ -75,9 +79,11 @@ fn replay(
 ) -> Result<bool, AllocError>
     requires numbered { IsTrue (has_numbered_operations script.now) }
     ensures size { length marks.new.items ≡ length marks.old.items }
-    ensures others { (k : ℕ) → ¬ Contains places.now k → slice_index_or marks.new.items k false ≡ slice_index_or marks.old.items k false }
-    ensures replayed { IfOk result (TellsOf (ComesToReply (plain_of graph.old) script.now report.now request) (plain_of graph.new) (graph_after (plain_of graph.old) (told.request_at script.now request))) }
-    ensures marked { OnOk result (AreMarkedAt report.now.pairs (plain_of graph.old) (told.request_at script.now request) (told.reply_at report.now request) places.now marks.new.items) }
+    ensures others { AreOtherMarksKept places.now marks.old.items marks.new.items }
+    ensures replayed { IfOk result (TellsOf (MatchesItsReply (plain_of graph.old) script.now report.now request)
+        (plain_of graph.new) (graph_after (plain_of graph.old) (told.request_at script.now request))) }
+    ensures marked { OnOk result (AreMarkedAt report.now.pairs (plain_of graph.old)
+        (told.request_at script.now request) (told.reply_at report.now request) places.now marks.new.items) }
 {
     let Some(reply) = reply_at(report, request) else {
         return Ok(false);
@@ -108,9 +114,11 @@ fn replay_work(
 ) -> Result<bool, AllocError>
     requires numbered { IsTrue (is_numbered_work work.now) }
     ensures size { length marks.new.items ≡ length marks.old.items }
-    ensures others { (k : ℕ) → ¬ Contains places.now k → slice_index_or marks.new.items k false ≡ slice_index_or marks.old.items k false }
-    ensures replayed { IfOk result (TellsOf (MatchesReply (plain_of graph.old) work.now state.now) (plain_of graph.new) (graph_after_work (plain_of graph.old) work.now)) }
-    ensures marked { OnOk result (AreMarkedBy pairs.now (plain_of graph.old) work.now state.now places.now marks.new.items) }
+    ensures others { AreOtherMarksKept places.now marks.old.items marks.new.items }
+    ensures replayed { IfOk result (TellsOf (MatchesReply (plain_of graph.old) work.now state.now)
+        (plain_of graph.new) (graph_after_work (plain_of graph.old) work.now)) }
+    ensures marked { OnOk result
+        (AreMarkedBy pairs.now (plain_of graph.old) work.now state.now places.now marks.new.items) }
 {
     match work {
         Work::Change(ops) => replay_transaction(alloc, graph, ops.as_slice(), state),
@@ -118,7 +126,7 @@ fn replay_work(
     }
 }
 
-// Asks a program; whether it answers what its reply says. If it is finished, it marks its pairs.
+// Asks a program, if it is finished, and reports whether it answers what its reply says. It marks its pairs.
 fn replay_program(
     alloc: Global,
     graph: &Graph,
@@ -129,9 +137,12 @@ fn replay_program(
     marks: &mut Vec<bool>,
 ) -> Result<bool, AllocError>
     ensures size { length marks.new.items ≡ length marks.old.items }
-    ensures others { (k : ℕ) → ¬ Contains places.now k → slice_index_or marks.new.items k false ≡ slice_index_or marks.old.items k false }
-    ensures answered { IfOk result (λ holds. MatchBool holds (AnswerMatchesReply (plain_of graph.now) program.now state.now) (¬ AnswerMatchesReply (plain_of graph.now) program.now state.now)) }
-    ensures marked { OnOk result (AreMarkedBy pairs.now (plain_of graph.now) (Work.Look program.now) state.now places.now marks.new.items) }
+    ensures others { AreOtherMarksKept places.now marks.old.items marks.new.items }
+    ensures answered { IfOk result (λ holds. MatchBool holds
+        (AnswerMatchesReply (plain_of graph.now) program.now state.now)
+        (¬ AnswerMatchesReply (plain_of graph.now) program.now state.now)) }
+    ensures marked { OnOk result (AreMarkedBy pairs.now (plain_of graph.now)
+        (Work.Look program.now) state.now places.now marks.new.items) }
 {
     plain_answer_is_one();
     match state {
@@ -144,11 +155,12 @@ fn replay_program(
     }
 }
 
-// Marks the pairs at these places: whether their vertices are visited.
+// Marks each pair at these places with whether its vertex is visited.
 fn mark_all(pairs: &[Pair], places: &[usize], visits: &Visits, marks: &mut Vec<bool>)
     ensures size { length marks.new.items ≡ length marks.old.items }
-    ensures others { (k : ℕ) → ¬ Contains places.now k → slice_index_or marks.new.items k false ≡ slice_index_or marks.old.items k false }
-    ensures marked { (k : ℕ) (pair : Pair) → Contains places.now k → k < length marks.old.items → slice_get pairs.now k ≡ Some pair
+    ensures others { AreOtherMarksKept places.now marks.old.items marks.new.items }
+    ensures marked { (k : ℕ) (pair : Pair) → Contains places.now k
+        → k < length marks.old.items → slice_get pairs.now k ≡ Some pair
         → slice_index_or marks.new.items k false ≡ has_name visits.now pair.vertex }
 {
     for place in places {
@@ -158,7 +170,8 @@ fn mark_all(pairs: &[Pair], places: &[usize], visits: &Visits, marks: &mut Vec<b
 
 fn mark_one(pairs: &[Pair], place: usize, visits: &Visits, marks: &mut Vec<bool>)
     ensures size { length marks.new.items ≡ length marks.old.items }
-    ensures others { (k : ℕ) → k ≢ place → slice_index_or marks.new.items k false ≡ slice_index_or marks.old.items k false }
+    ensures others { (k : ℕ) → k ≢ place
+        → slice_index_or marks.new.items k false ≡ slice_index_or marks.old.items k false }
     ensures marked { (pair : Pair) → place < length marks.old.items → slice_get pairs.now place ≡ Some pair
         → slice_index_or marks.new.items place false ≡ has_name visits.now pair.vertex }
 {
@@ -174,7 +187,9 @@ fn replay_transaction(
     state: &ReplyState,
 ) -> Result<bool, AllocError>
     requires { length ops.now < 2 ^ 32 }
-    ensures { IfOk result (TellsOf (OutcomeMatchesReply (transaction ops.now (plain_of graph.old)) state.now) (plain_of graph.new) (graph_left (plain_of graph.old) (transaction ops.now (plain_of graph.old)))) }
+    ensures { IfOk result
+        (TellsOf (OutcomeMatchesReply (transaction ops.now (plain_of graph.old)) state.now)
+        (plain_of graph.new) (graph_left (plain_of graph.old) (transaction ops.now (plain_of graph.old)))) }
 {
     match state {
         ReplyState::Committed { answers, .. } => gives(alloc, graph, ops, answers.as_slice()),
@@ -182,10 +197,12 @@ fn replay_transaction(
     }
 }
 
-// Runs a transaction; whether it passes and gives these answers.
+// Runs a transaction, and reports whether it passes and gives these answers.
 fn gives(alloc: Global, graph: &mut Graph, ops: &[Op], answers: &[Got]) -> Result<bool, AllocError>
     requires { length ops.now < 2 ^ 32 }
-    ensures { IfOk result (TellsOf (GivesAnswers (transaction ops.now (plain_of graph.old)) answers.now) (plain_of graph.new) (graph_left (plain_of graph.old) (transaction ops.now (plain_of graph.old)))) }
+    ensures { IfOk result
+        (TellsOf (GivesAnswers (transaction ops.now (plain_of graph.old)) answers.now)
+        (plain_of graph.new) (graph_left (plain_of graph.old) (transaction ops.now (plain_of graph.old)))) }
 {
     match graph.run_tx(alloc, ops) {
         Ok(gots) => Ok(same_answers(gots.as_slice(), answers)),

@@ -41,7 +41,8 @@ fn fault_in_place(
     script: &Script,
     replies: &[Reply],
 ) -> Result<Option<u64>, AllocError>
-    ensures { IfOk result (IsFirstFault (facts_in_turn (λ before (reply : Reply). IsTrue (right.is_reply_in_place script.now before reply)) replies.now)) }
+    ensures { IfOk result (IsFirstFault (facts_in_turn
+        (λ before (reply : Reply). IsTrue (right.is_reply_in_place script.now before reply)) replies.now)) }
 {
     let surely = are_surely_in_place(alloc, script, replies)?;
     if surely {
@@ -56,7 +57,9 @@ fn are_surely_in_place(
     script: &Script,
     replies: &[Reply],
 ) -> Result<bool, AllocError>
-    ensures { IfOk result (λ holds. IsTrue holds → AllHold (facts_in_turn (λ before (reply : Reply). IsTrue (right.is_reply_in_place script.now before reply)) replies.now)) }
+    ensures { IfOk result (λ holds. IsTrue holds
+        → AllHold (facts_in_turn
+        (λ before (reply : Reply). IsTrue (right.is_reply_in_place script.now before reply)) replies.now)) }
 {
     let at_places = are_at_places(script, replies);
     if !at_places {
@@ -91,7 +94,8 @@ fn is_at_place(script: &Script, place: usize, reply: &Reply) -> bool
 }
 
 fn first_out_of_place(script: &Script, replies: &[Reply]) -> Option<u64>
-    ensures { IsFirstFault (facts_in_turn (λ before (reply : Reply). IsTrue (right.is_reply_in_place script.now before reply)) replies.now) result }
+    ensures { IsFirstFault (facts_in_turn
+        (λ before (reply : Reply). IsTrue (right.is_reply_in_place script.now before reply)) replies.now) result }
 {
     for (place, reply) in replies.iter().enumerate() {
         let holds = is_in_place(script, &replies[..place], reply);
@@ -111,7 +115,8 @@ fn is_in_place(script: &Script, before: &[Reply], reply: &Reply) -> bool
 }
 
 fn is_numbered(script: &Script, before: &[Reply], reply: &Reply) -> bool
-    ensures { result ≡ (reply.now.request == length before.now && nat_lt reply.now.request (length script.now.requests)) }
+    ensures { result ≡ (reply.now.request == length before.now
+        && nat_lt reply.now.request (length script.now.requests)) }
 {
     reply.request as usize == before.len()
         && (reply.request as usize) < script.requests.as_slice().len()

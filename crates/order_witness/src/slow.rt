@@ -1,4 +1,5 @@
-//! A plain, slow judge for reports of a few requests: each fact by itself, precedence by looking for a way, and each graph from the start.
+//! A plain, slow judge for reports of a few requests: each fact by itself, precedence by looking for a way, and each
+//! graph from the start.
 
 use crate::{Clause, Judged};
 use graph_ops::{Got, Graph, Op, TxFault};
@@ -147,7 +148,7 @@ fn leads(report: &Report, a: u32, b: u32) -> bool {
         })
 }
 
-// A way with at most so many requests between.
+// A way with at most this number of requests between.
 fn precedes(report: &Report, a: u32, b: u32, steps: u32) -> bool {
     if leads(report, a, b) {
         return true;
@@ -406,7 +407,7 @@ fn is_conflict_right(script: &Script, report: &Report, place: usize) -> bool {
     }
 }
 
-// The graph after so many commits, where each is there once and passes.
+// The graph after this number of commits, if each is there once and passes.
 fn graph_after(
     rt: &impl Abort,
     alloc: Global,

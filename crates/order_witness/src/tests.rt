@@ -1,9 +1,9 @@
-use crate::cases::{Asked, Do, Line, Read, Told, letter, report, script, script_of};
+use crate::cases::{Asked, Do, Line, Read, Told, letter, report, request, script, script_of};
 use crate::slow::slow_judge;
 use crate::tables::{Row, assert_rows, judge};
 use crate::{Clause, Judged, has_order, order_of};
 use graph_ops::{Op, Reason};
-use program_defs::{Request, Script, Work};
+use program_defs::{Program, Request, Script, Work};
 use report_rules::{Pair, Reply, ReplyState, Report};
 use std::alloc::Global;
 use std::process::Abort;
@@ -323,6 +323,36 @@ fn a_chain_of_ten_thousand_requests_is_judged(rt: HostRuntime) {
     assert_eq!(rt; judge(&rt, alloc, &script, &report), Judged::Yes);
 }
 
+// A running program that a pair puts after the last request of the chain.
+fn add_running(rt: &impl Abort, alloc: Global, script: &mut Script, report: &mut Report) {
+    let v = letter(rt, b'v');
+    let program = Request {
+        name: v,
+        session: 0,
+        gate: 0,
+        work: Work::Look(Program::Show { v }),
+    };
+    script.requests.push(program).expect(rt, "memory");
+    let mut reply = chain_reply(alloc, 10000);
+    reply.state = ReplyState::Begun;
+    report.replies.push(reply).expect(rt, "memory");
+    let pair = Pair {
+        vertex: v,
+        earlier: 9999,
+        later: 10000,
+    };
+    report.pairs.push(pair).expect(rt, "memory");
+}
+
+#[test]
+fn a_program_that_runs_after_ten_thousand_requests(rt: HostRuntime) {
+    let alloc = rt.alloc();
+    let mut script = chain_script(&rt, alloc, 10000);
+    let mut report = chain_report(&rt, alloc, 10000);
+    add_running(&rt, alloc, &mut script, &mut report);
+    assert_eq!(rt; judge(&rt, alloc, &script, &report), Judged::Yes);
+}
+
 #[test]
 fn a_long_order_is_printed(rt: HostRuntime) {
     let alloc = rt.alloc();
@@ -358,6 +388,61 @@ fn printed_orders(rt: HostRuntime) {
     assert_ordered(&rt, alloc, &script, &[UNBEGUN, APART, EARLY], &[], &[2, 1]);
 }
 
+// The first write of a session, which makes a vertex.
+const FIRST_WRITE: Line = (0, 1, 0, [0, 1, 0], Told::Commit(1, &[]));
+
+// A program of another session is finished. Its stamp and that of the first write are unordered.
+const FINISHED: Line = (1, 0, 0, [1, 0, 0], Told::Shown(Read::Empty));
+
+// It is running.
+const RUNNING: Line = (1, 0, 0, [1, 0, 0], Told::Begun);
+
+// The second write of the session is after the program.
+const SECOND_WRITE: Line = (2, 1, 0, [1, 2, 0], Told::Commit(2, &[]));
+
+// Two writes of a session at the second gatekeeper, and between them a program at the first one.
+fn between_writes(rt: &impl Abort, alloc: Global) -> Script {
+    let program = Request {
+        name: letter(rt, b'p'),
+        session: 1,
+        gate: 0,
+        work: Work::Look(Program::Show {
+            v: letter(rt, b'v'),
+        }),
+    };
+    let first = request(rt, alloc, (0, 1, &[Do::Create(b'v')]));
+    let second = request(rt, alloc, (0, 1, &[Do::Set(b'v')]));
+    let mut requests = Items::new(alloc);
+    requests.push(first).expect(rt, "memory");
+    requests.push(program).expect(rt, "memory");
+    requests.push(second).expect(rt, "memory");
+    script_of(alloc, 2, requests)
+}
+
+// A pair puts the program after the first write. It is listed once it is finished.
+#[test]
+fn printed_orders_with_a_program(rt: HostRuntime) {
+    let alloc = rt.alloc();
+    let script = between_writes(&rt, alloc);
+    let pair = [(b'v', 0, 1)];
+    assert_ordered(
+        &rt,
+        alloc,
+        &script,
+        &[FIRST_WRITE, FINISHED, SECOND_WRITE],
+        &pair,
+        &[0, 1, 2],
+    );
+    assert_ordered(
+        &rt,
+        alloc,
+        &script,
+        &[FIRST_WRITE, RUNNING, SECOND_WRITE],
+        &pair,
+        &[0, 2],
+    );
+}
+
 fn assert_ordered(
     rt: &impl Abort,
     alloc: Global,
@@ -372,12 +457,17 @@ fn assert_ordered(
     assert_eq!(rt; order.as_slice(), want);
 }
 
-// A pair either way makes a cycle: there is no printed order.
+fn assert_no_order(rt: &impl Abort, alloc: Global, lines: &[Line], pairs: &[(u8, u32, u32)]) {
+    let script = script(rt, alloc, 2, &TWO);
+    let report = report(rt, alloc, lines, pairs, &[]);
+    assert!(rt; !has_order(alloc, &script, &report).expect(rt, "memory"));
+}
+
+// A pair either way makes a cycle; two replies stand the other way round; one is missing. There is no printed order.
 #[test]
-fn a_cycle_has_no_order(rt: HostRuntime) {
+fn reports_without_a_printed_order(rt: HostRuntime) {
     let alloc = rt.alloc();
-    let script = script(&rt, alloc, 2, &TWO);
-    let pairs = [(b'v', 0, 1), (b'v', 1, 0)];
-    let report = report(&rt, alloc, &[MADE, KEYED], &pairs, &[]);
-    assert!(rt; !has_order(alloc, &script, &report).expect(&rt, "memory"));
+    assert_no_order(&rt, alloc, &[MADE, KEYED], &[(b'v', 0, 1), (b'v', 1, 0)]);
+    assert_no_order(&rt, alloc, &[KEYED, MADE], &[]);
+    assert_no_order(&rt, alloc, &[MADE], &[]);
 }

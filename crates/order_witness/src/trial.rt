@@ -20,7 +20,8 @@ pub fn passes(alloc: Global, graph: &mut Graph, ops: &[Op]) -> Result<bool, Allo
     }
 }
 
-/// Whether the transaction would be refused at this operation for this reason. The graph stays as it is: a transaction that passes is taken back.
+/// Whether the transaction would be refused at this operation for this reason. The graph stays as it is: a transaction
+/// that passes is taken back.
 pub fn stops(
     alloc: Global,
     graph: &mut Graph,
@@ -30,7 +31,8 @@ pub fn stops(
 ) -> Result<bool, AllocError>
     requires { length ops.now < 2 ^ 32 }
     ensures unchanged { graph.new ≡ graph.old }
-    ensures mark { IfOk result (λ refused. Marks refused (transaction ops.now (plain_of graph.old) ≡ Err (record { op = op; reason = reason }))) }
+    ensures mark { IfOk result (λ refused. Marks refused
+        (transaction ops.now (plain_of graph.old) ≡ Err (record { op = op; reason = reason }))) }
 {
     match graph.apply(alloc, ops) {
         Ok((_, pending)) => {

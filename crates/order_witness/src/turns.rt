@@ -7,7 +7,8 @@ use program_defs::Script;
 use report_rules::{Reply, ReplyState};
 use std::alloc::{AllocError, Global};
 
-/// Whether in each session no commit number is above a later refusal's number of commits, and each is above an earlier one's.
+/// Whether in each session no commit number is above a later refusal's number of commits, and each is above an earlier
+/// one's.
 /// It is never wrong where it says so, and says so only of sessions whose numbers are at most the number of replies.
 pub fn do_numbers_take_turns(
     alloc: Global,
@@ -41,7 +42,8 @@ fn take_turn(
     numbers: &mut Vec<u64>,
     afters: &mut Vec<u64>,
 ) -> bool
-    ensures { IsTrue result → IsTurnTaken script.now place state.now numbers.old.items numbers.new.items afters.old.items afters.new.items }
+    ensures { IsTrue result
+        → IsTurnTaken script.now place state.now numbers.old.items numbers.new.items afters.old.items afters.new.items }
 {
     let Some(request) = request_in(script, place) else {
         return false;

@@ -16,7 +16,7 @@ fn numbered(rt: &impl Abort, n: usize) -> Name {
     Name::parse(&letters).expect(rt, "four letters")
 }
 
-// The names of so many numbers, from 0 on.
+// The names of the first numbers, from 0 on.
 fn numbers(rt: &impl Abort, alloc: Global, count: usize) -> Items<Name> {
     let mut names = Items::new(alloc);
     for n in 0..count {
@@ -100,7 +100,7 @@ fn around(from: Name, bound: u32) -> Program {
     }
 }
 
-// The program answers otherwise, after so many transactions.
+// The program answers otherwise, after this number of transactions.
 fn wrong_after(changes: u32) -> Judged {
     Judged::No {
         clause: Clause::Iv,

@@ -92,7 +92,7 @@ module _ (g : PlainGraph) (pass : Option Filter) (from : Name) where
 -- Walks to a target, where the graphs agree on what is visited up to it
 
 module _ (g h : PlainGraph) (pass : Option Filter) (from to : Name) where
-  -- there is a walk of at most so many edges in the other graph too
+  -- there is a walk of at most that many edges in the other graph too
   pub walk-over : (n : ℕ) → up_to to (through_level n g pass from) ≡ up_to to (through_level n h pass from) → Agree g h (up_to to (through_level n g pass from)) → (walk : List Name) → IsTrue (is_walk g pass from to walk) → walk_length walk ≤ n → (other : List Name) × IsTrue (is_walk h pass from to other) × (walk_length other ≤ n)
   walk-over n same a walk w le =
       let there = target-there to (through_level n g pass from) (reaches g pass from to walk n w le) in

@@ -32,3 +32,4 @@ pub mod Feeding
 pub mod GoingOn
 pub mod Ending
 pub mod WithinLimits
+pub mod Listing

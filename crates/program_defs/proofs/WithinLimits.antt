@@ -4,7 +4,7 @@ use Rattle.std.specs.Prelude.{◌↔◌, slice_get}
 use Rattle.std.specs.List.{list_all}
 use Rattle.std.proofs.lemmas.Bool.{and_parts, and_from, leb-true, le-leb, ltb-true, lt-ltb}
 use Rattle.program_defs.specs.Works.{ops_of}
-use Rattle.program_defs.specs.Limits.{IsWithinLimits, has_few_nodes, is_request_within}
+use Rattle.program_defs.specs.Limits.{IsWithinLimits, are_counts_within_limits, is_request_within}
 use Rattle.program_defs.specs.declared.script.Request.{Request}
 use Rattle.program_defs.specs.declared.script.Script.{Script}
 
@@ -18,12 +18,12 @@ module _ (test : Request → Bool) where
   all-from [] each = refl
   all-from (y ∷ ys) each = and_from _ _ (each 0 y refl) (all-from ys (λ r x at. each (suc r) x at))
 
-pub within-limits : (script : Script) → IsTrue (has_few_nodes script.gates script.shards (length script.requests) && list_all (is_request_within script.gates) script.requests) ↔ IsWithinLimits script
+pub within-limits : (script : Script) → IsTrue (are_counts_within_limits script.gates script.shards (length script.requests) && list_all (is_request_within script.gates) script.requests) ↔ IsWithinLimits script
 within-limits script = (to, from)
   where
-    to : IsTrue (has_few_nodes script.gates script.shards (length script.requests) && list_all (is_request_within script.gates) script.requests) → IsWithinLimits script
+    to : IsTrue (are_counts_within_limits script.gates script.shards (length script.requests) && list_all (is_request_within script.gates) script.requests) → IsWithinLimits script
     to h =
-        let parts = and_parts (has_few_nodes script.gates script.shards (length script.requests)) _ h in
+        let parts = and_parts (are_counts_within_limits script.gates script.shards (length script.requests)) _ h in
         let header = and_parts (nat_le 1 script.gates && nat_le 1 script.shards) _ parts.0 in
         let some = and_parts (nat_le 1 script.gates) _ header.0 in
         let few = and_parts (nat_le script.gates 8 && nat_le script.shards 16) _ header.1 in
@@ -39,7 +39,7 @@ within-limits script = (to, from)
           few_ops = λ r request at. leb-true (length (ops_of request.work)) 64 (and_parts (nat_lt request.gate script.gates && nat_lt request.session 64) _ (all-at (is_request_within script.gates) script.requests r request parts.1 at)).1;
         }
 
-    from : IsWithinLimits script → IsTrue (has_few_nodes script.gates script.shards (length script.requests) && list_all (is_request_within script.gates) script.requests)
+    from : IsWithinLimits script → IsTrue (are_counts_within_limits script.gates script.shards (length script.requests) && list_all (is_request_within script.gates) script.requests)
     from is =
         and_from _ _
         (and_from _ _ (and_from _ _ (le-leb 1 script.gates is.some_gate) (le-leb 1 script.shards is.some_shard))

@@ -17,8 +17,8 @@ pub record IsWithinLimits (script : Script) : Type 0 where
 
 -- The same as tests, for proofs
 
-abbrev pub has_few_nodes : ℕ → ℕ → ℕ → Bool
-has_few_nodes gates shards requests = (nat_le 1 gates && nat_le 1 shards) && ((nat_le gates 8 && nat_le shards 16) && nat_le requests 10000)
+abbrev pub are_counts_within_limits : ℕ → ℕ → ℕ → Bool
+are_counts_within_limits gates shards requests = (nat_le 1 gates && nat_le 1 shards) && ((nat_le gates 8 && nat_le shards 16) && nat_le requests 10000)
 
 abbrev pub is_request_within : ℕ → Request → Bool
 is_request_within gates request = (nat_lt request.gate gates && nat_lt request.session 64) && nat_le (length (ops_of request.work)) 64

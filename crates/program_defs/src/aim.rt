@@ -1,8 +1,9 @@
 //! What a program searches for.
-ghost use Rattle.std.specs.Prelude.{◌≡◌};
+ghost use Rattle.std.specs.Prelude.{◌≡◌, Some};
+ghost use Rattle.program_defs.specs.declared.program.Program.TheVariants.{Reach, Around, Path};
 ghost use Rattle.program_defs.specs.Searching.{aim_of};
 
-use crate::program::{Filter, Program};
+use crate::program::Filter;
 use weave_data::Name;
 
 /// What a program searches for: the vertices that walks from the start lead to.
@@ -18,35 +19,39 @@ pub struct Aim {
 }
 
 impl Aim {
-    /// The aim of a program, or `None` if it is `show`, which doesn't search.
-    pub fn of(program: &Program) -> Option<Aim>
-        ensures { result ≡ aim_of program.now }
+    /// The aim of `reach`.
+    pub fn reach(from: Name, to: Name, pass: Option<Filter>) -> Aim
+        ensures { aim_of (Reach from to pass) ≡ Some result }
     {
-        match *program {
-            Program::Show { .. } => None,
-            Program::Reach { from, to, pass } => Some(Aim {
-                from,
-                target: Some(to),
-                bound: None,
-                pass,
-            }),
-            Program::Around { from, bound, pass } => Some(Aim {
-                from,
-                target: None,
-                bound: Some(bound),
-                pass,
-            }),
-            Program::Path {
-                from,
-                to,
-                bound,
-                pass,
-            } => Some(Aim {
-                from,
-                target: Some(to),
-                bound: Some(bound),
-                pass,
-            }),
+        Aim {
+            from,
+            target: Some(to),
+            bound: None,
+            pass,
+        }
+    }
+
+    /// The aim of `around`.
+    pub fn around(from: Name, bound: u32, pass: Option<Filter>) -> Aim
+        ensures { aim_of (Around from bound pass) ≡ Some result }
+    {
+        Aim {
+            from,
+            target: None,
+            bound: Some(bound),
+            pass,
+        }
+    }
+
+    /// The aim of `path`.
+    pub fn path(from: Name, to: Name, bound: u32, pass: Option<Filter>) -> Aim
+        ensures { aim_of (Path from to bound pass) ≡ Some result }
+    {
+        Aim {
+            from,
+            target: Some(to),
+            bound: Some(bound),
+            pass,
         }
     }
 }

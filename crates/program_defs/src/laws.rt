@@ -2,6 +2,7 @@
 
 ghost use Rattle.std.specs.Prelude.{ℕ, List, Option, Some, IsTrue, is_some, length, reverse, ◌↔◌, ◌≡◌, ◌++◌, ◌∷◌};
 ghost use Rattle.weave_data.specs.declared.name.Name.{Name};
+ghost use Rattle.graph_ops.specs.Graphs.{Vertices, plain_of};
 ghost use Rattle.graph_ops.specs.Mentions.{is_among};
 ghost use Rattle.graph_ops.specs.Operations.{State};
 ghost use Rattle.graph_ops.specs.PlainGraph.{PlainGraph};
@@ -24,10 +25,16 @@ pub fn levels_are_distances()
         ↔ ((walk : List Name) × IsTrue (is_walk_within n graph pass from v walk)) }
 {}
 
-/// The list of visits of what was read is whole after as many levels as reads, so the next visit misses no vertex.
+/// The list of visits of what was read is whole after one level for each read, so the next visit misses no vertex.
 pub fn next_visit_misses_none()
     ensures { (reads : List (Name × State)) (program : Program)
         → IsListOfVisits (graph_read reads) program (visits_to (length reads) (graph_read reads) program) }
+{}
+
+/// A graph with finitely many vertices has a list of visits for each program.
+pub fn finite_graphs_have_visits()
+    ensures { (graph : Vertices) (program : Program)
+        → (visits : List Name) × IsListOfVisits (plain_of graph) program visits }
 {}
 
 /// A program has one list of visits at most.

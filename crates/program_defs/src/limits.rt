@@ -1,7 +1,7 @@
 //! The product's limits on scripts.
 ghost use Rattle.std.specs.Prelude.{◌≡◌, ◌↔◌, IsTrue};
 ghost use Rattle.std.specs.List.{list_all};
-ghost use Rattle.program_defs.specs.Limits.{IsWithinLimits, has_few_nodes, is_request_within as request_within};
+ghost use Rattle.program_defs.specs.Limits.{IsWithinLimits, are_counts_within_limits, is_request_within as request_within};
 
 use crate::script::{Request, Script, Work};
 
@@ -16,7 +16,7 @@ impl Script {
 }
 
 fn is_small(gates: u32, shards: u32, requests: usize) -> bool
-    ensures { result ≡ has_few_nodes gates shards requests }
+    ensures { result ≡ are_counts_within_limits gates shards requests }
 {
     let some = (1 <= gates) & (1 <= shards);
     let few = (gates <= 8) & (shards <= 16) & (requests <= 10_000);

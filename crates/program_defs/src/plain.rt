@@ -32,7 +32,8 @@ pub fn ask(alloc: Global, graph: &Graph, program: &Program) -> Result<Answer, Al
     Ok(answer)
 }
 
-/// The plain answer of a program on a graph and the vertices that it visits there, by one search. The one error is out of memory.
+/// The plain answer of a program on a graph and the vertices that it visits there, by one search. The one error is out
+/// of memory.
 pub fn ask_with_visits(alloc: Global, graph: &Graph, program: &Program) -> Result<Asked, AllocError>
     ensures answer { IfOk result (λ asked. IsPlainAnswer (plain_of graph.now) program.now asked.answer) }
     ensures visits { IfOk result (λ asked. (v : Name)
@@ -46,23 +47,13 @@ pub fn ask_with_visits(alloc: Global, graph: &Graph, program: &Program) -> Resul
             Ok(Asked { answer, visits })
         }
         Program::Reach { from, to, pass } => {
-            let aim = Aim {
-                from,
-                target: Some(to),
-                bound: None,
-                pass,
-            };
+            let aim = Aim::reach(from, to, pass);
             let search = searched(alloc, graph, aim, &mut visits)?;
             let answer = Answer::Reached(search.is_present(to));
             Ok(Asked { answer, visits })
         }
         Program::Around { from, bound, pass } => {
-            let aim = Aim {
-                from,
-                target: None,
-                bound: Some(bound),
-                pass,
-            };
+            let aim = Aim::around(from, bound, pass);
             let search = searched(alloc, graph, aim, &mut visits)?;
             let answer = Answer::Found(search.present()?);
             Ok(Asked { answer, visits })
@@ -73,12 +64,7 @@ pub fn ask_with_visits(alloc: Global, graph: &Graph, program: &Program) -> Resul
             bound,
             pass,
         } => {
-            let aim = Aim {
-                from,
-                target: Some(to),
-                bound: Some(bound),
-                pass,
-            };
+            let aim = Aim::path(from, to, bound, pass);
             let search = walked(alloc, graph, aim, &mut visits)?;
             let answer = Answer::Walk(search.walk(alloc)?);
             Ok(Asked { answer, visits })

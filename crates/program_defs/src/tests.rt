@@ -188,66 +188,6 @@ fn reach(rt: &impl Abort, alloc: Global, graph: &Graph, from: &[u8], to: &[u8]) 
     )
 }
 
-#[test]
-fn plain_answers(rt: HostRuntime) {
-    let alloc = rt.alloc();
-    let mut graph = diamond(&rt, alloc);
-    let a = named(&rt, b"a");
-    assert_eq!(rt;
-        path(&rt, alloc, &graph, b"a", b"d", 2).as_slice(),
-        b"abd".as_slice()
-    );
-    assert_eq!(rt;
-        path(&rt, alloc, &graph, b"a", b"d", 1).as_slice(),
-        b".".as_slice()
-    );
-    assert_eq!(rt;
-        path(&rt, alloc, &graph, b"x", b"d", 5).as_slice(),
-        b".".as_slice()
-    );
-    assert_eq!(rt;
-        path(&rt, alloc, &graph, b"a", b"y", 5).as_slice(),
-        b".".as_slice()
-    );
-    assert_eq!(rt;
-        path(&rt, alloc, &graph, b"a", b"a", 0).as_slice(),
-        b"a".as_slice()
-    );
-    let around = Program::Around {
-        from: a,
-        bound: 1,
-        pass: None,
-    };
-    assert_eq!(rt;
-        letters(&rt, alloc, &graph, &around).as_slice(),
-        b"abc".as_slice()
-    );
-    assert_eq!(rt;
-        letters(&rt, alloc, &graph, &Program::Show { v: a }).as_slice(),
-        b"+".as_slice()
-    );
-    delete(&rt, alloc, &mut graph, b"b");
-    assert_eq!(rt;
-        path(&rt, alloc, &graph, b"a", b"d", 2).as_slice(),
-        b"acd".as_slice()
-    );
-    delete(&rt, alloc, &mut graph, b"c");
-    assert_eq!(rt;
-        reach(&rt, alloc, &graph, b"a", b"d").as_slice(),
-        b"-".as_slice()
-    );
-    let b = named(&rt, b"b");
-    run(&rt, alloc, &mut graph, &[Op::Create { v: b }]);
-    assert_eq!(rt;
-        reach(&rt, alloc, &graph, b"a", b"b").as_slice(),
-        b"+".as_slice()
-    );
-    assert_eq!(rt;
-        reach(&rt, alloc, &graph, b"a", b"d").as_slice(),
-        b"-".as_slice()
-    );
-}
-
 fn around(rt: &impl Abort, alloc: Global, graph: &Graph, from: &[u8], bound: u32) -> Vec<u8> {
     let from = named(rt, from);
     let program = Program::Around {
@@ -256,6 +196,48 @@ fn around(rt: &impl Abort, alloc: Global, graph: &Graph, from: &[u8], bound: u32
         pass: None,
     };
     letters(rt, alloc, graph, &program)
+}
+
+#[test]
+fn plain_answers(rt: HostRuntime) {
+    let alloc = rt.alloc();
+    let graph = diamond(&rt, alloc);
+    let a = named(&rt, b"a");
+    let answers = [
+        path(&rt, alloc, &graph, b"a", b"d", 2),
+        path(&rt, alloc, &graph, b"a", b"d", 1),
+        path(&rt, alloc, &graph, b"x", b"d", 5),
+        path(&rt, alloc, &graph, b"a", b"y", 5),
+        path(&rt, alloc, &graph, b"a", b"a", 0),
+        around(&rt, alloc, &graph, b"a", 1),
+        letters(&rt, alloc, &graph, &Program::Show { v: a }),
+    ];
+    let want = [b"abd".as_slice(), b".", b".", b".", b"a", b"abc", b"+"];
+    for (found, wanted) in answers.iter().zip(want) {
+        assert_eq!(rt; found.as_slice(), wanted);
+    }
+}
+
+#[test]
+fn answers_after_deletions(rt: HostRuntime) {
+    let alloc = rt.alloc();
+    let mut graph = diamond(&rt, alloc);
+    delete(&rt, alloc, &mut graph, b"b");
+    let over_c = path(&rt, alloc, &graph, b"a", b"d", 2);
+    delete(&rt, alloc, &mut graph, b"c");
+    let over_none = reach(&rt, alloc, &graph, b"a", b"d");
+    let b = named(&rt, b"b");
+    run(&rt, alloc, &mut graph, &[Op::Create { v: b }]);
+    let answers = [
+        over_c,
+        over_none,
+        reach(&rt, alloc, &graph, b"a", b"b"),
+        reach(&rt, alloc, &graph, b"a", b"d"),
+    ];
+    let want = [b"acd".as_slice(), b"-", b"+", b"-"];
+    for (found, wanted) in answers.iter().zip(want) {
+        assert_eq!(rt; found.as_slice(), wanted);
+    }
 }
 
 #[test]
@@ -306,6 +288,29 @@ fn tag(rt: &impl Abort, alloc: Global, graph: &mut Graph, edge: &[u8; 3], value:
             value,
         }],
     );
+}
+
+// Of the state of a that `show` answers, the values of the property k and of the tag k of the edge e2.
+fn shown(rt: &impl Abort, alloc: Global, graph: &Graph) -> (Option<Name>, Option<Name>) {
+    let (v, key) = (named(rt, b"a"), named(rt, b"k"));
+    let answer = ask(alloc, graph, &Program::Show { v }).expect(rt, "memory");
+    let Answer::Shown(Some(found)) = &answer else {
+        panic!(rt; "no state");
+    };
+    let edge = found.edges.get(named(rt, b"e2")).expect(rt, "an edge");
+    (found.props.get(key).copied(), edge.tags.get(key).copied())
+}
+
+#[test]
+fn a_state_with_a_property_and_a_tag(rt: HostRuntime) {
+    let alloc = rt.alloc();
+    let mut graph = diamond(&rt, alloc);
+    let (v, key, value) = (named(&rt, b"a"), named(&rt, b"k"), named(&rt, b"x"));
+    assert!(rt; shown(&rt, alloc, &graph) == (None, None));
+    run(&rt, alloc, &mut graph, &[Op::Set { v, key, value }]);
+    tag(&rt, alloc, &mut graph, b"ae2", b"y");
+    let other = named(&rt, b"y");
+    assert!(rt; shown(&rt, alloc, &graph) == (Some(value), Some(other)));
 }
 
 // Two edges lead from a to b, of which one passes.

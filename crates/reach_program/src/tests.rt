@@ -74,54 +74,23 @@ fn found(rt: &impl Abort, alloc: Global, graph: &Graph, from: &[u8], bound: u32)
     letters
 }
 
+fn link(rt: &impl Abort, alloc: Global, graph: &mut Graph, ends: &[u8; 4]) {
+    let v = name(rt, &ends[..1]);
+    let edge = name(rt, &ends[1..3]);
+    let target = name(rt, &ends[3..]);
+    run(rt, alloc, graph, &[Op::Link { v, edge, target }]);
+}
+
 // Vertices a, b, c, d; edges a e1 c, a e2 b, a e3 b, b e1 d, c e1 d.
 fn diamond(rt: &impl Abort, alloc: Global) -> Graph {
-    let [a, b, c, d] = [b"a", b"b", b"c", b"d"].map(|text| name(rt, text));
-    let [e1, e2, e3] = [b"e1", b"e2", b"e3"].map(|text| name(rt, text));
     let mut graph = Graph::new(alloc);
-    run(
-        rt,
-        alloc,
-        &mut graph,
-        &[
-            Op::Create { v: a },
-            Op::Create { v: b },
-            Op::Create { v: c },
-            Op::Create { v: d },
-        ],
-    );
-    run(
-        rt,
-        alloc,
-        &mut graph,
-        &[
-            Op::Link {
-                v: a,
-                edge: e1,
-                target: c,
-            },
-            Op::Link {
-                v: a,
-                edge: e2,
-                target: b,
-            },
-            Op::Link {
-                v: a,
-                edge: e3,
-                target: b,
-            },
-            Op::Link {
-                v: b,
-                edge: e1,
-                target: d,
-            },
-            Op::Link {
-                v: c,
-                edge: e1,
-                target: d,
-            },
-        ],
-    );
+    for text in [b"a", b"b", b"c", b"d"] {
+        let v = name(rt, text);
+        run(rt, alloc, &mut graph, &[Op::Create { v }]);
+    }
+    for ends in [b"ae1c", b"ae2b", b"ae3b", b"be1d", b"ce1d"] {
+        link(rt, alloc, &mut graph, ends);
+    }
     graph
 }
 
@@ -154,50 +123,38 @@ fn walks_of_a_small_graph(rt: HostRuntime) {
     assert!(rt; !reaches(&rt, alloc, &graph, b"x", b"x", &None));
 }
 
-#[test]
-fn filters_and_a_cycle(rt: HostRuntime) {
-    let alloc = rt.alloc();
-    let mut graph = diamond(&rt, alloc);
-    let (a, d) = (name(&rt, b"a"), name(&rt, b"d"));
-    let (e1, e2) = (name(&rt, b"e1"), name(&rt, b"e2"));
-    let (key, value) = (name(&rt, b"k"), name(&rt, b"x"));
-    let pass = Some(Filter { key, value });
-    assert!(rt; !reaches(&rt, alloc, &graph, b"a", b"b", &pass));
+// Gives a value to the tag k of an edge, named by its vertex and then its name.
+fn tag(rt: &impl Abort, alloc: Global, graph: &mut Graph, edge: &[u8; 3], value: &[u8]) {
+    let v = name(rt, &edge[..1]);
+    let edge = name(rt, &edge[1..]);
+    let key = name(rt, b"k");
+    let value = name(rt, value);
     run(
-        &rt,
+        rt,
         alloc,
-        &mut graph,
+        graph,
         &[Op::Tag {
-            v: a,
-            edge: e2,
-            key,
-            value: key,
-        }],
-    );
-    assert!(rt; !reaches(&rt, alloc, &graph, b"a", b"b", &pass));
-    run(
-        &rt,
-        alloc,
-        &mut graph,
-        &[Op::Tag {
-            v: a,
-            edge: e2,
+            v,
+            edge,
             key,
             value,
         }],
     );
+}
+
+#[test]
+fn filters_and_a_cycle(rt: HostRuntime) {
+    let alloc = rt.alloc();
+    let mut graph = diamond(&rt, alloc);
+    let (key, value) = (name(&rt, b"k"), name(&rt, b"x"));
+    let pass = Some(Filter { key, value });
+    assert!(rt; !reaches(&rt, alloc, &graph, b"a", b"b", &pass));
+    tag(&rt, alloc, &mut graph, b"ae2", b"k");
+    assert!(rt; !reaches(&rt, alloc, &graph, b"a", b"b", &pass));
+    tag(&rt, alloc, &mut graph, b"ae2", b"x");
     assert!(rt; reaches(&rt, alloc, &graph, b"a", b"b", &pass));
     assert!(rt; !reaches(&rt, alloc, &graph, b"a", b"d", &pass));
-    run(
-        &rt,
-        alloc,
-        &mut graph,
-        &[Op::Link {
-            v: d,
-            edge: e1,
-            target: a,
-        }],
-    );
+    link(&rt, alloc, &mut graph, b"de1a");
     assert!(rt; reaches(&rt, alloc, &graph, b"d", b"c", &None));
     assert_eq!(rt;
         found(&rt, alloc, &graph, b"d", 1000).as_slice(),

@@ -6,7 +6,7 @@ use Rattle.graph_ops.specs.PlainGraph.{empty_graph}
 use Rattle.proof_base.specs.Facts.{AllHold, BreaksFirstAt}
 use Rattle.report_rules.specs.Replay.{replay_from, graph_after}
 use Rattle.report_rules.specs.Lookups.{request_at}
-use Rattle.order_witness.specs.Replayed.{ComesToReply, TellsOf}
+use Rattle.order_witness.specs.Replayed.{MatchesItsReply, TellsOf}
 use Rattle.order_witness.proofs.Replays.{one_more, first_break}
 use Rattle.order_witness.proofs.Visiting.{AreMarkedTo, marked_all, marked_next}
 use Rattle.order_witness.proofs.replay.first_fault.Goals as goal
@@ -18,7 +18,7 @@ returns-then-not-holds-clause-first c =
     subst (λ (xs : List ℕ). BreaksFirstAt (replay_from empty_graph c.args.script.now c.args.report.now xs) (i + 1)) c.as_slice-request-items.ensures
     (first_break c.args.script.now c.args.report.now empty_graph order i (get_or order i 0) (plain_of c.loop-place.graph) (plain_of c.replay.new.graph) c.loop-place-test.true c.loop-place.invariant.replayed
     (get_or order i 0) (get_or_default order i 0 _ c.loop-place-test.true)
-    (subst (λ (b : Bool). TellsOf (ComesToReply (plain_of c.loop-place.graph) c.args.script.now c.args.report.now (get_or order i 0)) (plain_of c.replay.new.graph) (graph_after (plain_of c.loop-place.graph) (request_at c.args.script.now (get_or order i 0))) b) c.if-not-holds.true c.in_ok-holds.ensures.replayed))
+    (subst (λ (b : Bool). TellsOf (MatchesItsReply (plain_of c.loop-place.graph) c.args.script.now c.args.report.now (get_or order i 0)) (plain_of c.replay.new.graph) (graph_after (plain_of c.loop-place.graph) (request_at c.args.script.now (get_or order i 0))) b) c.if-not-holds.true c.in_ok-holds.ensures.replayed))
 
 pub loop-place-preserved : goal.loop-place-preserved
 loop-place-preserved c =
@@ -28,7 +28,7 @@ loop-place-preserved c =
       replayed =
           one_more c.args.script.now c.args.report.now empty_graph order i (get_or order i 0) (plain_of c.loop-place.graph) (plain_of c.replay.new.graph) c.loop-place-test.true c.loop-place.invariant.replayed
           (get_or order i 0) (get_or_default order i 0 _ c.loop-place-test.true)
-          (subst (λ (b : Bool). TellsOf (ComesToReply (plain_of c.loop-place.graph) c.args.script.now c.args.report.now (get_or order i 0)) (plain_of c.replay.new.graph) (graph_after (plain_of c.loop-place.graph) (request_at c.args.script.now (get_or order i 0))) b) c.if-not-holds.false c.in_ok-holds.ensures.replayed);
+          (subst (λ (b : Bool). TellsOf (MatchesItsReply (plain_of c.loop-place.graph) c.args.script.now c.args.report.now (get_or order i 0)) (plain_of c.replay.new.graph) (graph_after (plain_of c.loop-place.graph) (request_at c.args.script.now (get_or order i 0))) b) c.if-not-holds.false c.in_ok-holds.ensures.replayed);
       size = c.in_ok-holds.ensures.size ∙ c.loop-place.invariant.size;
       marked =
           marked_next c.args.script.now c.args.report.now c.requires.listing order i (plain_of c.loop-place.graph) c.list_of-places.result.now c.loop-place.marks.items c.replay.new.marks.items c.as_slice-request-items.ensures c.loop-place-test.true c.loop-place.invariant.replayed.left
