@@ -1,6 +1,7 @@
 pub mod Precedence
 pub mod JudgementLaws
 pub mod PrintedLaws
+pub mod SameOrder
 pub mod PlainStamps
 pub mod PlainStanding
 pub mod PlainReplies

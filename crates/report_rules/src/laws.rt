@@ -50,3 +50,9 @@ pub fn wrong_report_breaks_first_once()
 pub fn printed_order_is_one()
     ensures { (report : Report) (a b : List ℕ) → IsPrintedOrder report a → IsPrintedOrder report b → a ≡ b }
 {}
+
+/// The printed order of a report is that of its replies and pairs: its own order and its answers play no part.
+pub fn orders_are_of_replies_and_pairs()
+    ensures { (a b : Report) → a.replies ≡ b.replies → a.pairs ≡ b.pairs
+        → (order : List ℕ) → IsPrintedOrder a order → IsPrintedOrder b order }
+{}
