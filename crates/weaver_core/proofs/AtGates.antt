@@ -1,0 +1,86 @@
+-- One of the gatekeepers of a core.
+use Rattle.std.proofs.Common.{◌≡◌, ℕ, ◌+◌, ◌<◌, List, [], ◌∷◌, ◌++◌, length, map, Some, refl, sym, ap, ◌∙◌, subst, arith}
+use Rattle.std.specs.Prelude.{slice_get, slice_set}
+use Rattle.std.proofs.lemmas.List.{length-replicate, length-map}
+use Rattle.graph_ops.specs.declared.op.Op.{Op}
+use Rattle.gatekeeper.specs.Gates.{Adds, GateView, HasRoom, IsNew, SendsFlight}
+use Rattle.weave_entries.specs.declared.gate_log.GateEntry.{GateEntry}
+use Rattle.weave_entries.specs.declared.gate_log.GateDeed.{GateDeed}
+use Rattle.weave_entries.specs.declared.gate_log.GateDeed.TheVariants.{Sent}
+use Rattle.weave_entries.specs.declared.verdict.Verdict.{Verdict}
+use Rattle.weave_entries.specs.GateReplay.{Begun, flight_of}
+use Rattle.weave_entries.specs.Sending.{messages_of}
+use Rattle.weaver_core.specs.GateTable.{AddsAt, AreFirst, AreInOrder, GateTable, IsSameGate, log_at, log_of}
+use Rattle.weaver_core.proofs.Tables.{each-push, each-set, image-at, image-changes, image-push, image-rests}
+
+-- the table of these gatekeepers
+abbrev pub table_of : ℕ → List GateView → GateTable
+table_of shards gates = record { shards = shards; logs = map log_of gates }
+
+-- room first, then an entry
+pub room-then-adds : (before more after : GateView) (entries author : ℕ) (deed : GateDeed) → HasRoom before more entries → Adds more after author deed → Adds before after author deed
+room-then-adds before more after entries author deed room adds =
+    let kept = room.kept in
+    let less = adds.spare in
+    record {
+      log = adds.log ∙ ap (λ (log : List GateEntry). log ++ record { author = author; deed = deed } ∷ []) room.log;
+      home = adds.home ∙ room.home;
+      gates = adds.gates ∙ room.gates;
+      shards = adds.shards ∙ room.shards;
+      spare = omega (arith, kept, less);
+    }
+
+-- nothing differs in what was not changed
+pub unchanged : (before after : GateView) → after ≡ before → IsSameGate before after
+unchanged before after is = record { log = ap (λ (x : GateView). x.log) is; home = ap (λ (x : GateView). x.home) is; shards = ap (λ (x : GateView). x.shards) is }
+
+module _ (shards : ℕ) (gates : List GateView) (g : ℕ) (before after : GateView) (within : g < length gates) (at : slice_get gates g ≡ Some before) where
+  -- the table has one more entry
+  pub adds-at : (author : ℕ) (deed : GateDeed) → Adds before after author deed → AddsAt (table_of shards gates) (table_of shards (slice_set gates g after)) g author deed
+  adds-at author deed adds = record { logs = image-changes log_of gates g before at (λ (log : List GateEntry). log ++ record { author = author; deed = deed } ∷ []) [] after adds.log; shards = refl }
+
+  -- or stays
+  pub table-rests : after.log ≡ before.log → table_of shards (slice_set gates g after) ≡ table_of shards gates
+  table-rests same = ap (λ (logs : List (List GateEntry)). record { shards = shards; logs = logs }) (image-rests log_of gates g before at after same)
+
+  -- the gatekeepers are still in order
+  pub still-in-order : AreInOrder shards gates → after.home ≡ before.home → after.shards ≡ before.shards → AreInOrder shards (slice_set gates g after)
+  still-in-order are home same = record {
+    homes = each-set (λ n (gate : GateView). gate.home ≡ n) gates g after within are.homes (home ∙ are.homes g before at);
+    each_shards = each-set (λ n (gate : GateView). gate.shards ≡ shards) gates g after within are.each_shards (same ∙ are.each_shards g before at);
+  }
+
+  pub in-order-after : (author : ℕ) (deed : GateDeed) → AreInOrder shards gates → Adds before after author deed → AreInOrder shards (slice_set gates g after)
+  in-order-after author deed are adds = still-in-order are adds.home adds.shards
+
+  pub in-order-still : AreInOrder shards gates → IsSameGate before after → AreInOrder shards (slice_set gates g after)
+  in-order-still are same = still-in-order are same.home same.shards
+
+-- one gatekeeper more, before its first event
+pub first-more : (count gates shards : ℕ) (made then_made : List GateView) (gate : GateView) → AreFirst count shards made → length made ≡ count → IsNew count gates shards gate → then_made ≡ made ++ gate ∷ [] → AreFirst (count + 1) shards then_made
+first-more count gates shards made then_made gate are many new is =
+    subst (AreFirst (count + 1) shards) (sym is) (record {
+      in_order = record {
+        homes = each-push (λ n (one : GateView). one.home ≡ n) made gate are.in_order.homes (new.home_is ∙ sym many);
+        each_shards = each-push (λ n (one : GateView). one.shards ≡ shards) made gate are.in_order.each_shards new.shards_are;
+      };
+      logs = image-push log_of made gate [] count are.logs new.log_is;
+    })
+
+-- there are that many
+pub first-count : (count shards : ℕ) (made : List GateView) → AreFirst count shards made → length made ≡ count
+first-count count shards made are = sym (length-map made log_of) ∙ ap length are.logs ∙ length-replicate count []
+
+-- what was sent, in terms of the table
+module _ (shards : ℕ) (gates : List GateView) (g : ℕ) (before after : GateView) (within : g < length gates) (at : slice_get gates g ≡ Some before) (are : AreInOrder shards gates)
+    (author : ℕ) (ops : List Op) (verdict : Verdict) (sends : SendsFlight before after author ops verdict) where
+  pub sends-at : (flight : Begun) → flight_of (log_at (table_of shards gates) g) ≡ Some flight
+      → AddsAt (table_of shards gates) (table_of shards (slice_set gates g after)) g author (Sent flight.request (messages_of shards (log_at (table_of shards gates) g) flight ops verdict))
+  sends-at flight flies =
+      let log : before.log ≡ log_at (table_of shards gates) g = sym (image-at log_of gates g before at []) in
+      let e : Some sends.flight ≡ Some flight = sym sends.flies ∙ ap flight_of log ∙ flies in
+      let is : sends.flight ≡ flight = cc in
+      let many = are.each_shards g before at in
+      let deed : Sent sends.flight.request (messages_of before.shards before.log sends.flight ops verdict) ≡ Sent flight.request (messages_of shards (log_at (table_of shards gates) g) flight ops verdict) =
+      λ i. Sent (is i).request (messages_of (many i) (log i) (is i) ops verdict) in
+      adds-at shards gates g before after within at author _ (subst (λ (d : GateDeed). Adds before after author d) deed sends.adds)

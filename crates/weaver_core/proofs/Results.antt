@@ -1,0 +1,57 @@
+-- What follows from a clause on a result, for each value that it can have.
+use Rattle.std.proofs.Common.{◌≡◌, ℕ, ◌<◌, ◌≤◌, not, nat_lt, Result, Ok, Err, IfOk, IfErr, OnOk, OnErr, refl, ap}
+use Rattle.std.proofs.lemmas.Bool.{le-ltb, lt-ltb}
+use Rattle.gatekeeper.specs.Answers.{IsRefusedWhere}
+use Rattle.gatekeeper.specs.declared.fault.GateFault.{GateFault}
+use Rattle.gatekeeper.specs.declared.fault.GateFault.TheVariants as fault
+
+pub if_ok_map : {A E : Type 0} (result : Result A E) (P Q : A → Type 0) → ((a : A) → P a → Q a) → IfOk result P → IfOk result Q
+if_ok_map (Ok a) P Q go p = go a p
+if_ok_map (Err e) P Q go p = tt
+
+pub if_ok_two : {A E : Type 0} (result : Result A E) (P R Q : A → Type 0) → ((a : A) → P a → R a → Q a) → IfOk result P → IfOk result R → IfOk result Q
+if_ok_two (Ok a) P R Q go p r = go a p r
+if_ok_two (Err e) P R Q go p r = tt
+
+pub on_ok_map : {A E : Type 0} (result : Result A E) (P Q : Type 0) → (P → Q) → OnOk result P → OnOk result Q
+on_ok_map (Ok a) P Q go p = go p
+on_ok_map (Err e) P Q go p = tt
+
+pub on_err_map : {A E : Type 0} (result : Result A E) (P Q : Type 0) → (P → Q) → OnErr result P → OnErr result Q
+on_err_map (Ok a) P Q go p = tt
+on_err_map (Err e) P Q go p = go p
+
+pub on_err_both : {A E : Type 0} (result : Result A E) (P R Q : Type 0) → (P → R → Q) → OnErr result P → OnErr result R → OnErr result Q
+on_err_both (Ok a) P R Q go p r = tt
+on_err_both (Err e) P R Q go p r = go p r
+
+-- what is known anyway is known after an error
+pub on_err_known : {A E : Type 0} (result : Result A E) (P : Type 0) → P → OnErr result P
+on_err_known (Ok a) P p = tt
+on_err_known (Err e) P p = p
+
+-- one of two clauses gives it, whichever way a call ends
+pub either_way : {A E : Type 0} (result : Result A E) (P : A → Type 0) (R X : Type 0) → ((a : A) → P a → X) → (R → X) → IfOk result P → OnErr result R → X
+either_way (Ok a) P R X done refused p r = done a p
+either_way (Err e) P R X done refused p r = refused r
+
+pub on_either : {A E : Type 0} (result : Result A E) (P R X : Type 0) → (P → X) → (R → X) → OnOk result P → OnErr result R → X
+on_either (Ok a) P R X done refused p r = done p
+on_either (Err e) P R X done refused p r = refused r
+
+-- raising an epoch is refused exactly if that epoch was reached
+pub refused-where : {U : Type 0} (result : Result U GateFault) (now epoch : ℕ) (Adds : Type 0) → OnOk result ((now < epoch) × Adds)
+    → IfErr result (λ why. (why ≡ fault.Old) × (epoch ≤ now)) → IsRefusedWhere fault.Old (not (nat_lt now epoch)) result
+refused-where (Ok u) now epoch Adds raised old = ap not (lt-ltb now epoch raised.0)
+refused-where (Err fault.Old) now epoch Adds raised old = (refl, ap not (le-ltb now epoch old.1))
+refused-where (Err fault.Memory) now epoch Adds raised old = tt
+refused-where (Err fault.Busy) now epoch Adds raised old = absurd (let e : fault.Busy ≡ fault.Old = old.0 in cc)
+refused-where (Err fault.Idle) now epoch Adds raised old = absurd (let e : fault.Idle ≡ fault.Old = old.0 in cc)
+
+pub if_ok_three : {A E : Type 0} (result : Result A E) (P R S Q : A → Type 0) → ((a : A) → P a → R a → S a → Q a) → IfOk result P → IfOk result R → IfOk result S → IfOk result Q
+if_ok_three (Ok a) P R S Q go p r s = go a p r s
+if_ok_three (Err e) P R S Q go p r s = tt
+
+pub on_ok_two : {A E : Type 0} (result : Result A E) (P R Q : Type 0) → (P → R → Q) → OnOk result P → OnOk result R → OnOk result Q
+on_ok_two (Ok a) P R Q go p r = go p r
+on_ok_two (Err e) P R Q go p r = tt

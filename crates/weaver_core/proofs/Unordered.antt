@@ -1,0 +1,108 @@
+-- What the report of machines owes, but for its order: over the stamps that were noted.
+use Rattle.std.proofs.Common.{◌≡◌, ◌≢◌, ℕ, zero, suc, ◌<◌, List, [], ◌∷◌, length, map, replicate, Contains, IsTrue, Option, None, Some, refl, sym, ap, subst, ◌∙◌, arith}
+use Rattle.std.specs.Prelude.{◌↔◌, slice_index_or, IsSomeAnd}
+use Rattle.std.specs.List.{range_with_len}
+use Rattle.std.proofs.lemmas.List.{length-replicate}
+use Rattle.std.proofs.lemmas.Option.{get_or_from_slice_get, slice_get_within}
+use Rattle.proof_base.proofs.Members.{has_map}
+use Rattle.vector_stamp.specs.declared.clock.Clock.{Clock}
+use Rattle.vector_stamp.specs.declared.clock.Stamp.{Stamp}
+use Rattle.vector_stamp.specs.Coherence.{AreCoherent}
+use Rattle.vector_stamp.specs.Order.{id_of, same_stamp}
+use Rattle.program_defs.specs.Limits.{IsWithinLimits}
+use Rattle.program_defs.specs.declared.script.Request.{Request}
+use Rattle.program_defs.specs.declared.script.Script.{Script}
+use Rattle.program_defs.specs.declared.script.Work.TheVariants.{Change}
+use Rattle.report_rules.specs.Lookups.{request_at}
+use Rattle.report_rules.specs.declared.report.Report.{Report}
+use Rattle.weave_entries.specs.declared.oracle_log.OracleEntry.{OracleEntry}
+use Rattle.weaver_core.specs.ShardTable.{ShardTable}
+use Rattle.weave_entries.specs.declared.store_log.StoreEntry.{StoreEntry}
+use Rattle.weave_entries.specs.GateReplay.{Begun}
+use Rattle.weave_entries.specs.OracleReplay.{settled_entry}
+use Rattle.weave_entries.specs.StoreReplay.{Judgement, judgements_of}
+use Rattle.weave_account.specs.declared.account.Account.{Account}
+use Rattle.weave_account.specs.Account.{IsBegunStamp, all_begun, begun_stamps, pairs_in}
+use Rattle.weave_account.specs.IsAccount.{IsAccount}
+use Rattle.weave_account.specs.Pairs.{ArePairsOf}
+use Rattle.weave_account.specs.PairsByPlace.{placed_pairs}
+use Rattle.weave_account.specs.Report.{MatchesAccount}
+use Rattle.weaver_core.specs.Clients.{ClientTable}
+use Rattle.weaver_core.specs.Cores.{AreOf, machines_of}
+use Rattle.weaver_core.specs.GateTable.{GateTable}
+use Rattle.weaver_core.specs.Noting.{all_noted}
+use Rattle.weaver_core.specs.Reporting.{AreOfHomes, AreStampsOf, all_pairs_found, reply_stamped, request_with}
+use Rattle.weaver_core.proofs.Found.{begun-with, judged-with, request-found}
+use Rattle.weaver_core.proofs.Noting.{count-noted, stamps-noted}
+use Rattle.weaver_core.proofs.Placed.{all-placed}
+use Rattle.weaver_core.proofs.Reported.{parts-match}
+use Rattle.weaver_core.proofs.Resting.{some-one}
+use Rattle.weaver_core.proofs.Stamped.{stamp-is}
+use Rattle.weaver_core.proofs.Turns.{SessionLaws, place-of}
+use Rattle.weaver_core.proofs.Unfinished.{none-visited, not-ended, not-judged}
+
+-- the laws of weave_account that are cited
+pub record ReportLaws : Type 0 where
+  -- begun_stamps_are_coherent
+  pub coherent : (script : Script) (account : Account) → IsWithinLimits script → IsAccount script account → AreCoherent (begun_stamps account)
+  pub differ : (script : Script) (account : Account) → IsWithinLimits script → IsAccount script account → (a b : Begun) → Contains (all_begun account) a → Contains (all_begun account) b → a.request ≢ b.request → id_of a.stamp ≢ id_of b.stamp
+  -- stamps_are_begun
+  pub settled : (script : Script) (account : Account) → IsWithinLimits script → IsAccount script account → (entry : OracleEntry) → Contains account.oracle entry
+      → (stamp : Stamp) → Contains ((settled_entry entry).later ∷ (settled_entry entry).earlier) stamp → IsBegunStamp account stamp
+  -- judgements_are_of_requests
+  pub work : (script : Script) (account : Account) → IsWithinLimits script → IsAccount script account → (judged : Judgement) → Contains (judgements_of account.store) judged
+      → IsSomeAnd (request_at script judged.request) (λ (request : Request). request.work ≡ Change judged.ops)
+  pub begun : (script : Script) (account : Account) → IsWithinLimits script → IsAccount script account → (judged : Judgement) → Contains (judgements_of account.store) judged
+      → Contains (all_begun account) (record { author = judged.author; request = judged.request; stamp = judged.stamp })
+  -- equality_is_decided of vector_stamp
+  pub same_stamps : (a b : Stamp) → IsTrue (same_stamp a b) ↔ (a ≡ b)
+  -- placed_pairs_are_the_pairs
+  pub placed : (script : Script) (account : Account) → IsWithinLimits script → IsAccount script account → ArePairsOf account (placed_pairs account) (pairs_in account)
+
+module _ (laws : ReportLaws) (sessions : SessionLaws) (script : Script) (gates : GateTable) (store : List StoreEntry) (oracle : List OracleEntry) (shards : ShardTable) (was : ClientTable) (notices : List Clock)
+    (are : AreOf script (machines_of gates store oracle shards was notices)) (n : ℕ) (n-is : n ≡ length script.requests) (stamps : List (Option Stamp)) (noted : stamps ≡ all_noted (replicate n None) was.logs) where
+  abbrev account : Account
+  account = (machines_of gates store oracle shards was notices).state.account
+
+  pub many : length stamps ≡ length script.requests
+  many = ap length noted ∙ count-noted was.logs (replicate n None) ∙ length-replicate {A = Option Stamp} n None ∙ n-is
+
+  pub stamps-are : AreStampsOf account stamps
+  stamps-are r below =
+      let all = many in
+      let one = some-one script r (omega (arith, below, all)) in
+      let few = are.limits.sessions r one.0 one.1 in
+      let sixty-four = are.core.sessions in
+      ap (λ (xs : List (Option Stamp)). slice_index_or xs r None) noted ∙ stamps-noted was.logs n r (omega (arith, below, all, n-is))
+      ∙ stamp-is sessions script account are.core.account r one.0 one.1 (omega (arith, few, sixty-four))
+
+  -- what `pairs_of` asks for
+  pub homes : (stamp : Stamp) → Contains stamps (Some stamp) → stamp.home < 8
+  homes stamp has =
+      let place = place-of stamps (Some stamp) has in
+      let known = stamps-are place.0 (slice_get_within stamps place.0 (Some stamp) place.1) in
+      let from = begun-with script account are.core.account place.0 stamp (sym known ∙ get_or_from_slice_get stamps place.0 (Some stamp) None place.1) in
+      (laws.coherent script account are.limits are.core.account).homes stamp (subst (λ (s : Stamp). Contains (begun_stamps account) s) from.1.1.1 (has_map (λ (begun : Begun). begun.stamp) (all_begun account) from.0 from.1.0))
+
+  pub settled-homes : (entry : OracleEntry) → Contains oracle entry → AreOfHomes (settled_entry entry)
+  settled-homes entry has event h = (laws.coherent script account are.limits are.core.account).homes event (laws.settled script account are.limits are.core.account entry has event h)
+
+  -- the pairs that are found are the account's
+  pairs-placed : all_pairs_found (request_with stamps) store oracle ≡ placed_pairs account
+  pairs-placed =
+      let is = are.core.account in
+      let differ = laws.differ script account are.limits is in
+      all-placed account (request_with stamps)
+      (request-found script account is laws.same_stamps differ stamps stamps-are many)
+      (judged-with script account is laws.same_stamps differ (laws.begun script account are.limits is))
+      (λ earlier later. none-visited earlier later shards.logs are.no_visits)
+      oracle (laws.settled script account are.limits is)
+
+  -- and the report of these parts is the account's but for its order
+  pub unordered-matches : (report : Report) → report.replies ≡ map (reply_stamped stamps store) (range_with_len 0 (length script.requests)) → report.pairs ≡ all_pairs_found (request_with stamps) store oracle → MatchesAccount script account report
+  unordered-matches report replies pairs =
+      let is = are.core.account in
+      let work = laws.work script account are.limits is in
+      parts-match script account stamps stamps-are many
+      (λ r request program at looks. (not-judged script account are.limits is are.no_visits work r request program at looks, not-ended script account are.limits is are.no_visits work r request program at looks))
+      (some-one script) report replies (pairs ∙ pairs-placed) (laws.placed script account are.limits is)

@@ -1,0 +1,10 @@
+use Rattle.weaver_core.proofs.clients.Clients.new.Goals as goal
+
+pub invariant_of-result : goal.invariant_of-result
+invariant_of-result c = c.in_ok-clients.ensures.numbered
+
+pub returns-clause-requests : goal.returns-clause-requests
+returns-clause-requests c = c.in_ok-clients.ensures.requests
+
+pub returns-clause-logs : goal.returns-clause-logs
+returns-clause-logs c = c.in_ok-clients.ensures.logs

@@ -1,0 +1,42 @@
+use Rattle.std.proofs.Common.{◌≡◌, ◌<◌, [], length, get_or, sym, ap, subst, ◌∙◌}
+use Rattle.std.specs.Prelude.{Contains}
+use Rattle.weave_entries.specs.SessionReplay.{session_of}
+use Rattle.weaver_core.specs.Clients.{ClientTable, IsInTurn, log_of, requests_at, requests_in, session_at, standing_at, standing_of}
+use Rattle.weaver_core.proofs.Tables.{image-at, read-at, within-image}
+use Rattle.weaver_core.proofs.clients.Clients.standing.Goals as goal
+
+pub standing-requires : goal.standing-requires
+standing-requires c =
+    let clients = c.self.inside.clients.items in
+    let s = c.args.session in
+    let client = c.index.result.now in
+    let within = within-image log_of clients s (subst (λ (v : ClientTable). s < length v.logs) (sym c.self.view_is) c.requires.there) in
+    let value : client ≡ get_or clients s client = c.index.ensures in
+    let at = read-at clients s client within value in
+    let requests = sym (ap (λ (v : ClientTable). requests_at v s) c.self.view_is) ∙ image-at requests_in clients s client at [] in
+    subst (λ rs. Contains rs c.args.request) requests c.requires.among
+
+pub returns-clause-standing : goal.returns-clause-standing
+returns-clause-standing c =
+    let clients = c.self.inside.clients.items in
+    let s = c.args.session in
+    let client = c.index.result.now in
+    let within = within-image log_of clients s (subst (λ (v : ClientTable). s < length v.logs) (sym c.self.view_is) c.requires.there) in
+    let value : client ≡ get_or clients s client = c.index.ensures in
+    let at = read-at clients s client within value in
+    let requests = image-at requests_in clients s client at [] in
+    let log = image-at log_of clients s client at [] in
+    c.standing.ensures.standing ∙ sym (λ i. standing_of c.args.request (requests i) (log i)) ∙ ap (λ (v : ClientTable). standing_at v s c.args.request) c.self.view_is
+
+pub returns-clause-next : goal.returns-clause-next
+returns-clause-next c next =
+    let clients = c.self.inside.clients.items in
+    let s = c.args.session in
+    let client = c.index.result.now in
+    let within = within-image log_of clients s (subst (λ (v : ClientTable). s < length v.logs) (sym c.self.view_is) c.requires.there) in
+    let value : client ≡ get_or clients s client = c.index.ensures in
+    let at = read-at clients s client within value in
+    let requests = image-at requests_in clients s client at [] in
+    let log = image-at log_of clients s client at [] in
+    let session = sym (λ i. session_of (requests i) (log i)) ∙ ap (λ (v : ClientTable). session_at v s) c.self.view_is in
+    subst (λ state. IsInTurn state c.args.request) session (c.standing.ensures.next next)

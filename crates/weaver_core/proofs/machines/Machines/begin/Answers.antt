@@ -1,0 +1,47 @@
+use Rattle.std.proofs.Common.{◌≡◌, ◌∙◌, sym, subst}
+use Rattle.program_defs.specs.declared.script.Step.TheVariants.{Begin}
+use Rattle.report_rules.specs.declared.report.StepAnswer.{StepAnswer}
+use Rattle.weaver_core.specs.Beginning.{Begins}
+use Rattle.weaver_core.specs.Clients.{AreSameClients}
+use Rattle.weaver_core.specs.Cores.{MachinesDo, MachinesView, MayDo, machines_of}
+use Rattle.weaver_core.proofs.BeginDone.{BeginLaws, begin-done, ready}
+use Rattle.weaver_core.proofs.Resting.{some-request}
+use Rattle.weaver_core.proofs.Results.{if_ok_map, on_err_both}
+use Rattle.weaver_core.proofs.machines.Machines.begin.Goals as goal
+
+pub begin_in-requires : goal.begin_in-requires
+begin_in-requires c =
+    let m = c.self.inside in
+    let script = c.args.script.now in
+    let may = subst (λ (v : MachinesView). MayDo script v (Begin c.args.request)) (sym c.self.view_is) c.requires in
+    let laws : BeginLaws = record {
+      last = c.stamps_are_begun.ensures.last;
+      begun = c.clocks_are_known.ensures.begun;
+      may_be_heard = c.clocks_are_known.ensures.may_be_heard;
+      among = c.requests_of_a_session_rise.ensures.among;
+    } in
+    record {
+      there = some-request script c.args.request may.there;
+      ready = ready script m.gates m.store m.oracle m.shards m.clients m.notices.items may.are c.args.request laws;
+    }
+
+pub returns-clause-done : goal.returns-clause-done
+returns-clause-done c =
+    let m = c.self.inside in
+    let script = c.args.script.now in
+    let r = c.args.request in
+    let may = subst (λ (v : MachinesView). MayDo script v (Begin r)) (sym c.self.view_is) c.requires in
+    let new = c.begin_in.new.gates in
+    let is = c.begin_in.new.clients in
+    if_ok_map c.begin_in.result (Begins script m.gates new m.clients is r) _
+    (λ (a : StepAnswer) did. subst (λ (v : MachinesView). MachinesDo script (Begin r) v (machines_of new m.store m.oracle m.shards is m.notices.items) a) c.self.view_is
+    (begin-done script m.gates m.store m.oracle m.shards m.clients m.notices.items may.are r new is a did))
+    c.begin_in.ensures.begins
+
+pub returns-clause-refused : goal.returns-clause-refused
+returns-clause-refused c =
+    let m = c.self.inside in
+    let is = c.begin_in.new.clients in
+    on_err_both c.begin_in.result (c.begin_in.new.gates ≡ m.gates) (AreSameClients m.clients is) _
+    (λ gates same. (λ i. machines_of (gates i) m.store m.oracle m.shards (record { requests = same.requests i; logs = same.logs i; spares = is.spares }) m.notices.items) ∙ c.self.view_is)
+    c.begin_in.ensures.gates c.begin_in.ensures.clients

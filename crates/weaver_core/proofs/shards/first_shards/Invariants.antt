@@ -1,0 +1,5 @@
+use Rattle.weaver_core.specs.ShardTable.{AreFirst}
+use Rattle.weaver_core.proofs.shards.first_shards.Given as goal
+
+abbrev pub invariant-loop-number : goal.invariant-loop-number
+invariant-loop-number l = AreFirst l.number l.gates l.made.items

@@ -1,0 +1,7 @@
+use Rattle.weaver_core.proofs.stepper.Core.start.Goals as goal
+
+pub invariant_of-result : goal.invariant_of-result
+invariant_of-result c = c.in_ok-machines.ensures.are
+
+pub returns-clause-state : goal.returns-clause-state
+returns-clause-state c = c.in_ok-machines.ensures.start

@@ -1,0 +1,137 @@
+-- The sessions of a core with their logs, as contracts see them.
+use Rattle.std.specs.Prelude.{◌≡◌, ◌<◌, ◌-◌, ◌==◌, ℕ, Bool, false, not, nat_le, ◌&&◌, length, List, [], ◌∷◌, ◌++◌, map, replicate, AllPairs, slice_get, slice_index_or, slice_set, Option, Some, if◌then◌else◌}
+use Rattle.std.specs.List.{find, flat_map, range_with_len}
+use Rattle.std.specs.Option.{option_map}
+use Rattle.vector_stamp.specs.declared.clock.Stamp.{Stamp}
+use Rattle.program_defs.specs.declared.script.Script.{Script}
+use Rattle.weave_entries.specs.declared.session_log.SessionEntry.{SessionEntry}
+use Rattle.weave_entries.specs.declared.session_log.SessionDeed.{SessionDeed}
+use Rattle.weave_entries.specs.declared.session_log.SessionDeed.TheVariants.{Begun, Replied}
+use Rattle.weave_entries.specs.SessionReplay.{SessionState, IsSessionLog, session_of, next_request, begins_in, has_begun_in, has_reply_in}
+use Rattle.report_rules.specs.Lookups.{is_some_and}
+use Rattle.weave_account.specs.Sessions.{requests_of_session}
+use Rattle.step_rules.specs.Requests.{waits_before}
+use Rattle.weaver_core.specs.declared.client.Standing.{Standing}
+use Rattle.weaver_core.specs.declared.client.Standing.TheVariants.{Twice, Early, Next}
+
+-- One session
+
+-- its number, its requests, its log, and for how many more entries there is room
+pub record ClientView : Type 0 where
+  pub number : ℕ
+  pub requests : List ℕ
+  pub log : List SessionEntry
+  pub spare : ℕ
+
+-- The session is at the end of the log, which keeps the rules of a session's log; its requests rise. No public contract cites this.
+pub record IsClientOf (number : ℕ) (session : SessionState) (log : List SessionEntry) : Type 0 where
+  pub state : session ≡ session_of session.requests log
+  pub right : IsSessionLog number session.requests log
+  pub rising : AllPairs (λ (a b : ℕ). a < b) session.requests
+
+-- how a request of the session is that is to begin
+abbrev pub standing_of : ℕ → List ℕ → List SessionEntry → Standing
+standing_of r requests log = if has_begun_in r log then Twice else if waits_before r requests log then Early else Next
+
+-- a request comes next in its session, in which none waits for its reply
+pub record IsInTurn (session : SessionState) (r : ℕ) : Type 0 where
+  pub replied : session.waits ≡ false
+  pub next : next_request session ≡ Some r
+
+-- a request has begun and has no reply
+abbrev pub is_open_in : ℕ → List SessionEntry → Bool
+is_open_in r log = has_begun_in r log && not (has_reply_in r log)
+
+-- the log has one more entry, and all else is as before but for the room
+pub record AddsDeed (old new : ClientView) (deed : SessionDeed) : Type 0 where
+  pub log : new.log ≡ old.log ++ record { author = old.number; deed = deed } ∷ []
+  pub number : new.number ≡ old.number
+  pub requests : new.requests ≡ old.requests
+
+-- The last entry of a log. No public contract cites this.
+
+-- the request of a deed
+abbrev pub request_by : SessionDeed → ℕ
+request_by (Begun r stamp) = r
+request_by (Replied r) = r
+
+-- whether the deed begins this request
+abbrev pub is_begin_of : ℕ → SessionDeed → Bool
+is_begin_of r (Begun q stamp) = q == r
+is_begin_of r (Replied q) = false
+
+-- the last entry of a log, if it has one
+abbrev pub last_entry : List SessionEntry → Option SessionEntry
+last_entry log = slice_get log (length log - 1)
+
+-- whether a request is at most that of the last entry
+abbrev pub begun_by_last : ℕ → List SessionEntry → Bool
+begun_by_last r log = is_some_and (λ (entry : SessionEntry). nat_le r (request_by entry.deed)) (last_entry log)
+
+-- whether the last entry is the begin of a request
+abbrev pub open_by_last : ℕ → List SessionEntry → Bool
+open_by_last r log = is_some_and (λ (entry : SessionEntry). is_begin_of r entry.deed) (last_entry log)
+
+-- All sessions
+
+-- the requests, the log and the room of each session, in the order of numbers
+pub record ClientTable : Type 0 where
+  pub requests : List (List ℕ)
+  pub logs : List (List SessionEntry)
+  pub spares : List ℕ
+
+-- the requests of a session
+abbrev pub requests_at : ClientTable → ℕ → List ℕ
+requests_at clients session = slice_index_or clients.requests session []
+
+-- the log of a session; empty if there is none of this number
+abbrev pub log_at : ClientTable → ℕ → List SessionEntry
+log_at clients session = slice_index_or clients.logs session []
+
+-- a session at the end of its log
+abbrev pub session_at : ClientTable → ℕ → SessionState
+session_at clients session = session_of (requests_at clients session) (log_at clients session)
+
+-- how a request of a session is that is to begin
+abbrev pub standing_at : ClientTable → ℕ → ℕ → Standing
+standing_at clients session r = standing_of r (requests_at clients session) (log_at clients session)
+
+-- a request of a session has begun and has no reply
+abbrev pub is_open_at : ClientTable → ℕ → ℕ → Bool
+is_open_at clients session r = is_open_in r (log_at clients session)
+
+-- nothing but the room may differ
+pub record AreSameClients (old new : ClientTable) : Type 0 where
+  pub requests : new.requests ≡ old.requests
+  pub logs : new.logs ≡ old.logs
+
+-- a session's log has one more entry, and all else is as before but for the room
+pub record AddsAt (old new : ClientTable) (session : ℕ) (deed : SessionDeed) : Type 0 where
+  pub logs : new.logs ≡ slice_set old.logs session (log_at old session ++ record { author = session; deed = deed } ∷ [])
+  pub requests : new.requests ≡ old.requests
+
+-- the stamp with which a request was begun in one of these sessions, if it was
+abbrev pub stamp_in : List (List SessionEntry) → ℕ → Option Stamp
+stamp_in logs r = option_map (λ (begun : ℕ × Stamp). begun.1) (find (λ (begun : ℕ × Stamp). begun.0 == r) (flat_map begins_in logs))
+
+-- The table inside. No public contract cites what follows.
+
+-- the requests, the log and the room of a session
+abbrev pub requests_in : ClientView → List ℕ
+requests_in client = client.requests
+
+abbrev pub log_of : ClientView → List SessionEntry
+log_of client = client.log
+
+abbrev pub spare_of : ClientView → ℕ
+spare_of client = client.spare
+
+-- each session has its place as its number
+abbrev pub AreNumbered : List ClientView → Type 0
+AreNumbered clients = (number : ℕ) (client : ClientView) → slice_get clients number ≡ Some client → client.number ≡ number
+
+-- the first sessions of a script, before their first requests
+pub record AreFirst (script : Script) (count : ℕ) (clients : List ClientView) : Type 0 where
+  pub numbered : AreNumbered clients
+  pub requests : map requests_in clients ≡ map (requests_of_session script) (range_with_len 0 count)
+  pub logs : map log_of clients ≡ replicate count []

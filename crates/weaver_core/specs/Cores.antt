@@ -1,0 +1,100 @@
+-- A core as contracts see it.
+use Rattle.std.specs.Prelude.{◌≡◌, ℕ, List, [], length, map, IsTrue, ⊤}
+use Rattle.std.specs.List.{flat_map, range_with_len}
+use Rattle.program_defs.specs.declared.script.Script.{Script}
+use Rattle.program_defs.specs.Limits.{IsWithinLimits}
+use Rattle.program_defs.specs.declared.script.Step.{Step}
+use Rattle.program_defs.specs.declared.script.Step.TheVariants.{Begin, Judge, Send, Say, Hear, Nop, Deliver, Apply, Reply, Epoch}
+use Rattle.report_rules.specs.Meetings.{is_transaction}
+use Rattle.report_rules.specs.declared.report.StepAnswer.{StepAnswer}
+use Rattle.weave_account.specs.Sessions.{requests_of_session}
+use Rattle.step_rules.specs.CoreState.{CoreState}
+use Rattle.step_rules.specs.Answers.{answer_of}
+use Rattle.step_rules.specs.IsCore.{IsCore, IsStepOf, IsSmallIfDone}
+use Rattle.step_rules.specs.Trace.{state_after}
+use Rattle.vector_stamp.specs.declared.clock.Clock.{Clock}
+use Rattle.weave_entries.specs.declared.oracle_log.OracleEntry.{OracleEntry}
+use Rattle.weave_entries.specs.ShardReplay.{visits_of}
+use Rattle.weave_entries.specs.declared.store_log.StoreEntry.{StoreEntry}
+use Rattle.weaver_core.specs.Clients.{ClientTable}
+use Rattle.weaver_core.specs.GateTable.{GateTable}
+use Rattle.weaver_core.specs.ShardTable.{ShardTable}
+
+-- the script, the logs and the notices
+pub record CoreView : Type 0 where
+  pub script : Script
+  pub state : CoreState
+
+-- the core did this step: its answer, its logs and its notices are those of the definition
+pub record Does (step : Step) (old new : CoreView) (answer : StepAnswer) : Type 0 where
+  pub answer_is : answer ≡ answer_of old.script old.state step
+  pub state_is : new.state ≡ state_after old.script old.state step
+  pub script_is : new.script ≡ old.script
+
+-- Steps that are built
+
+-- the step is one that the core takes today: of a program it takes the begin alone
+abbrev pub IsBuilt : Script → Step → Type 0
+IsBuilt script (Begin r) = ⊤
+IsBuilt script (Judge gate) = ⊤
+IsBuilt script (Send gate) = ⊤
+IsBuilt script (Say gate) = ⊤
+IsBuilt script (Hear gate notice) = ⊤
+IsBuilt script (Nop gate shard) = ⊤
+IsBuilt script (Deliver gate shard number) = ⊤
+IsBuilt script (Apply shard gate) = ⊤
+IsBuilt script (Reply r) = IsTrue (is_transaction script r)
+IsBuilt script (Epoch gate epoch) = ⊤
+IsBuilt script _ = ⊥
+
+-- The machines of a core. No public contract cites what follows.
+
+-- what the machines are made for: how many gatekeepers and shards there are, for how many gatekeepers each shard has
+-- channels, and which requests each session has
+pub record Frame : Type 0 where
+  pub gates : ℕ
+  pub shards : ℕ
+  pub senders : ℕ
+  pub requests : List (List ℕ)
+
+-- the logs and notices of machines, and what they are made for
+pub record MachinesView : Type 0 where
+  pub frame : Frame
+  pub state : CoreState
+
+-- they are made for the script
+pub record IsFrameOf (script : Script) (frame : Frame) : Type 0 where
+  pub gates : frame.gates ≡ script.gates
+  pub shards : frame.shards ≡ script.shards
+  pub senders : frame.senders ≡ script.gates
+  pub requests : frame.requests ≡ map (requests_of_session script) (range_with_len 0 64)
+
+-- machines that are a core of the script, in whose shards no program has visited a vertex: `visit` is not built
+pub record AreOf (script : Script) (machines : MachinesView) : Type 0 where
+  pub limits : IsWithinLimits script
+  pub frame : IsFrameOf script machines.frame
+  pub core : IsCore script machines.state
+  pub no_visits : flat_map visits_of machines.state.account.shards ≡ []
+
+-- machines of the script that can be given this step
+pub record MayDo (script : Script) (machines : MachinesView) (step : Step) : Type 0 where
+  pub are : AreOf script machines
+  pub there : IsStepOf script step
+  pub built : IsBuilt script step
+
+-- the machines did this step
+pub record MachinesDo (script : Script) (step : Step) (old new : MachinesView) (answer : StepAnswer) : Type 0 where
+  pub answer_is : answer ≡ answer_of script old.state step
+  pub state_is : new.state ≡ state_after script old.state step
+  pub frame_is : new.frame ≡ old.frame
+  pub small : IsSmallIfDone script old.state step
+
+-- machines of these parts
+abbrev pub machines_of : GateTable → List StoreEntry → List OracleEntry → ShardTable → ClientTable → List Clock → MachinesView
+machines_of gates store oracle shards clients notices = record {
+  frame = record { gates = length gates.logs; shards = gates.shards; senders = shards.gates; requests = clients.requests };
+  state = record {
+    account = record { gates = gates.logs; store = store; oracle = oracle; shards = shards.logs; sessions = clients.logs };
+    notices = notices;
+  };
+}

@@ -1,0 +1,41 @@
+-- The gatekeepers of a core as contracts see them.
+use Rattle.std.specs.Prelude.{◌≡◌, ℕ, List, [], ◌∷◌, ◌++◌, map, replicate, slice_get, slice_index_or, slice_set, Some}
+use Rattle.gatekeeper.specs.Gates.{GateView}
+use Rattle.weave_entries.specs.declared.gate_log.GateEntry.{GateEntry}
+use Rattle.weave_entries.specs.declared.gate_log.GateDeed.{GateDeed}
+
+-- the number of shards, and the log of each gatekeeper, in the order of numbers
+pub record GateTable : Type 0 where
+  pub shards : ℕ
+  pub logs : List (List GateEntry)
+
+-- the log of a gatekeeper; empty if there is none of this number
+abbrev pub log_at : GateTable → ℕ → List GateEntry
+log_at gates home = slice_index_or gates.logs home []
+
+-- a gatekeeper's log has one more entry, of this author, and all else is as before
+pub record AddsAt (old new : GateTable) (home author : ℕ) (deed : GateDeed) : Type 0 where
+  pub logs : new.logs ≡ slice_set old.logs home (log_at old home ++ record { author = author; deed = deed } ∷ [])
+  pub shards : new.shards ≡ old.shards
+
+-- The table inside. No public contract cites what follows.
+
+-- the log of a gatekeeper
+abbrev pub log_of : GateView → List GateEntry
+log_of gate = gate.log
+
+-- each gatekeeper has its number as its home, and is made for this number of shards
+pub record AreInOrder (shards : ℕ) (gates : List GateView) : Type 0 where
+  pub homes : (home : ℕ) (gate : GateView) → slice_get gates home ≡ Some gate → gate.home ≡ home
+  pub each_shards : (home : ℕ) (gate : GateView) → slice_get gates home ≡ Some gate → gate.shards ≡ shards
+
+-- the first gatekeepers, before their first events
+pub record AreFirst (count shards : ℕ) (gates : List GateView) : Type 0 where
+  pub in_order : AreInOrder shards gates
+  pub logs : map log_of gates ≡ replicate count []
+
+-- nothing but the room of a gatekeeper may differ
+pub record IsSameGate (old new : GateView) : Type 0 where
+  pub log : new.log ≡ old.log
+  pub home : new.home ≡ old.home
+  pub shards : new.shards ≡ old.shards

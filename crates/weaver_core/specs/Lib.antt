@@ -1,0 +1,12 @@
+pub mod GateTable
+pub mod ShardTable
+pub mod Clients
+pub mod Noting
+pub mod Beginning
+pub mod Judging
+pub mod Sending
+pub mod Messages
+pub mod Clocking
+pub mod Replying
+pub mod Cores
+pub mod Reporting

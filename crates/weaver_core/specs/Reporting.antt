@@ -1,0 +1,105 @@
+-- How a core finds its report. No public contract cites this.
+use Rattle.std.specs.Prelude.{◌≡◌, ◌<◌, ◌==◌, ◌&&◌, ℕ, suc, Bool, length, List, [], ◌∷◌, Contains, Option, None, Some, slice_get, slice_index_or, if◌then◌else◌}
+use Rattle.std.specs.List.{filter_map, flat_map}
+use Rattle.std.specs.Map.{lookup}
+use Rattle.std.specs.Option.{option_and_then, option_map}
+use Rattle.weave_data.specs.declared.name.Name.{Name}
+use Rattle.vector_stamp.specs.declared.clock.EventId.{EventId}
+use Rattle.vector_stamp.specs.declared.clock.Stamp.{Stamp}
+use Rattle.vector_stamp.specs.Order.{id_of}
+use Rattle.vector_stamp.specs.Settling.{SettledEntry}
+use Rattle.report_rules.specs.declared.report.Pair.{Pair}
+use Rattle.report_rules.specs.declared.report.Reply.{Reply}
+use Rattle.report_rules.specs.declared.report.ReplyState.{ReplyState}
+use Rattle.report_rules.specs.declared.report.ReplyState.TheVariants.{Unbegun}
+use Rattle.weave_account.specs.Report.{state_of_tx}
+use Rattle.weave_account.specs.declared.account.Account.{Account}
+use Rattle.weave_account.specs.Account.{stamp_of}
+use Rattle.weave_entries.specs.declared.store_log.StoreEntry.{StoreEntry}
+use Rattle.weave_entries.specs.declared.oracle_log.OracleEntry.{OracleEntry}
+use Rattle.weave_entries.specs.OracleReplay.{settled_entry}
+use Rattle.weave_entries.specs.StoreReplay.{Judgement, judgement_of}
+
+-- The replies
+
+-- the stamps by request, as many as there are, are those of the account
+abbrev pub AreStampsOf : Account → List (Option Stamp) → Type 0
+AreStampsOf account stamps = (r : ℕ) → r < length stamps → slice_index_or stamps r None ≡ stamp_of account r
+
+-- the state of a transaction that has this stamp, if it was begun
+abbrev pub state_stamped : List StoreEntry → ℕ → Option Stamp → ReplyState
+state_stamped store r None = Unbegun
+state_stamped store r (Some stamp) = state_of_tx (judgement_of r store)
+
+-- the reply of a request by the stamps and the store's log
+abbrev pub reply_stamped : List (Option Stamp) → List StoreEntry → ℕ → Reply
+reply_stamped stamps store r = record {
+  request = r;
+  stamp = slice_index_or stamps r None;
+  state = state_stamped store r (slice_index_or stamps r None);
+}
+
+-- The requests of events
+
+-- the numbers of an id
+abbrev pub key_of : EventId → ℕ × ℕ × ℕ
+key_of id = (id.home, id.epoch, id.count)
+
+-- two such numbers are the same
+abbrev pub same_key : ℕ × ℕ × ℕ → ℕ × ℕ × ℕ → Bool
+same_key a b = ((a.0 == b.0) && (a.1 == b.1)) && (a.2 == b.2)
+
+-- the first request, numbered on from this one, that was begun with a stamp of this id
+abbrev pub request_from : ℕ → EventId → List (Option Stamp) → Option ℕ
+request_from r id [] = None
+request_from r id (None ∷ stamps) = request_from (suc r) id stamps
+request_from r id (Some stamp ∷ stamps) =
+    if same_key (key_of (id_of stamp)) (key_of id) then Some r else request_from (suc r) id stamps
+
+-- the request of an event, by the stamps of all requests
+abbrev pub request_with : List (Option Stamp) → Stamp → Option ℕ
+request_with stamps event = request_from 0 (id_of event) stamps
+
+-- the request of an event, by a table
+abbrev pub found_in : List ((ℕ × ℕ × ℕ) × ℕ) → Stamp → Option ℕ
+found_in entries event = lookup (same_key (key_of (id_of event))) entries
+
+-- a table has the first request of each event, of those from this one on
+abbrev pub HasRequests : ℕ → List (Option Stamp) → List ((ℕ × ℕ × ℕ) × ℕ) → Type 0
+HasRequests r stamps entries = (id : EventId) → lookup (same_key (key_of id)) entries ≡ request_from r id stamps
+
+-- the stamps of an entry are of homes below 8
+abbrev pub AreOfHomes : SettledEntry → Type 0
+AreOfHomes entry = (event : Stamp) → Contains (entry.later ∷ entry.earlier) event → event.home < 8
+
+-- The pairs, if the requests of events are found so
+
+-- the vertices of which the store asked; none if it has not judged
+abbrev pub asked_in : Option Judgement → List Name
+asked_in None = []
+asked_in (Some judged) = judged.asked
+
+-- the vertices of which it asked for a request
+abbrev pub asked_by : List StoreEntry → ℕ → List Name
+asked_by store r = asked_in (judgement_of r store)
+
+-- the pair at a place of what was asked, if its earlier event's request is found
+abbrev pub pair_found : (Stamp → Option ℕ) → List Stamp → List Name → ℕ → ℕ → Option Pair
+pair_found request_of earlier asked later place =
+    option_and_then (λ (event : Stamp). option_and_then (λ (r : ℕ). option_map (λ (v : Name). record { vertex = v; earlier = r; later = later })
+    (slice_get asked place)) (request_of event)) (slice_get earlier place)
+
+-- the pairs of an entry, if its later event's request is this one
+abbrev pub pairs_before : (Stamp → Option ℕ) → List StoreEntry → SettledEntry → Option ℕ → List Pair
+pairs_before request_of store entry None = []
+pairs_before request_of store entry (Some later) =
+    filter_map (pair_found request_of entry.earlier (asked_by store later) later) entry.places
+
+-- the pairs of an entry
+abbrev pub pairs_found : (Stamp → Option ℕ) → List StoreEntry → SettledEntry → List Pair
+pairs_found request_of store entry = pairs_before request_of store entry (request_of entry.later)
+
+-- the pairs of the oracle's log, in order
+abbrev pub all_pairs_found : (Stamp → Option ℕ) → List StoreEntry → List OracleEntry → List Pair
+all_pairs_found request_of store oracle =
+    flat_map (λ (entry : OracleEntry). pairs_found request_of store (settled_entry entry)) oracle

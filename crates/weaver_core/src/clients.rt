@@ -1,0 +1,205 @@
+//! The sessions of a core, by their numbers.
+ghost use Rattle.std.specs.Prelude.{◌≡◌, ◌<◌, ◌≤◌, [], None, Contains, length, map, replicate, slice_index_or, IfOk, OnOk, true};
+ghost use Rattle.std.specs.List.{range_with_len};
+ghost use Rattle.weave_account.specs.Sessions.{requests_of_session};
+ghost use Rattle.weave_entries.specs.SessionReplay.{FitsSession, RepliesToLast};
+ghost use Rattle.weave_entries.specs.declared.session_log.SessionDeed.TheVariants as deed;
+ghost use Rattle.weaver_core.specs.Clients.{AddsAt, AreFirst, AreSameClients, IsInTurn, is_open_at, log_of, requests_at, session_at, standing_at};
+ghost use Rattle.weaver_core.specs.Noting.{all_noted, noted, noted_all, noted_by};
+
+use crate::client::{Client, Standing};
+use program_defs::Script;
+use std::alloc::{AllocError, Global};
+use std::marker::Model;
+use vector_stamp::Stamp;
+use weave_account::laws::requests_of_a_session_rise;
+use weave_entries::{SessionDeed, SessionEntry};
+
+/// The 64 sessions with their logs, in the order of their numbers. One without requests owns no memory.
+#[derive(Drop)]
+pub(crate) struct Clients {
+    clients: Vec<Client>,
+}
+
+impl Model for Clients {
+    ghost use Rattle.std.specs.Prelude.{map};
+    ghost use Rattle.weaver_core.specs.Clients.{AreNumbered, ClientTable, log_of, requests_in, spare_of};
+
+    ghost Value = { ClientTable };
+
+    ghost view = { λ c. record {
+      requests = map requests_in c.clients.items;
+      logs = map log_of c.clients.items;
+      spares = map spare_of c.clients.items;
+    } };
+
+    ghost invariant = { λ c. AreNumbered c.clients.items };
+}
+
+impl Clients {
+    /// The sessions of a script, before their first requests.
+    pub(crate) fn new(alloc: Global, script: &Script) -> Result<Clients, AllocError>
+        requires { length script.now.requests ≤ 10000 }
+        ensures requests { IfOk result (λ made. made.requests
+            ≡ map (requests_of_session script.now) (range_with_len 0 64)) }
+        ensures logs { IfOk result (λ made. made.logs ≡ replicate 64 []) }
+    {
+        let clients = first_clients(alloc, script)?;
+        Ok(Clients { clients })
+    }
+
+    /// How a request of a session is that is to begin.
+    pub(crate) fn standing(&self, session: u32, request: u32) -> Standing
+        requires there { session < length self.now.logs }
+        requires among { Contains (requests_at self.now session) request }
+        ensures standing { result ≡ standing_at self.now session request }
+        ensures next { result ≡ Standing.Next → IsInTurn (session_at self.now session) request }
+    {
+        self.clients[session as usize].standing(request)
+    }
+
+    /// Whether a request of a session has begun and has no reply.
+    pub(crate) fn is_open(&self, session: u32, request: u32) -> bool
+        requires there { session < length self.now.logs }
+        requires among { Contains (requests_at self.now session) request }
+        ensures open { result ≡ is_open_at self.now session request }
+        ensures last { result ≡ true → RepliesToLast (session_at self.now session) request }
+    {
+        self.clients[session as usize].is_open(request)
+    }
+
+    /// The stamp that was begun last in a session.
+    pub(crate) fn last(&self, session: u32) -> Option<Stamp>
+        requires { session < length self.now.logs }
+        ensures { result ≡ (session_at self.now session).last }
+    {
+        self.clients[session as usize].last()
+    }
+
+    /// Takes the room for one more entry of a session. The one error is out of memory.
+    pub(crate) fn reserve(&mut self, session: u32) -> Result<(), AllocError>
+        requires { session < length self.old.logs }
+        ensures same { AreSameClients self.old self.new }
+        ensures room { OnOk result (1 ≤ slice_index_or self.new.spares session 0) }
+    {
+        let client = &mut self.clients[session as usize];
+        client.reserve()
+    }
+
+    /// The next request of a session was begun with this stamp. It takes no memory.
+    pub(crate) fn begun(&mut self, session: u32, request: u32, stamp: Stamp)
+        requires there { session < length self.old.logs }
+        requires room { 1 ≤ slice_index_or self.old.spares session 0 }
+        requires turn { FitsSession (session_at self.old session) (deed.Begun request stamp) }
+        ensures { AddsAt self.old self.new session (deed.Begun request stamp) }
+    {
+        let client = &mut self.clients[session as usize];
+        client.begun(request, stamp);
+    }
+
+    /// The last begun request of a session has its reply. It takes no memory.
+    pub(crate) fn replied(&mut self, session: u32, request: u32)
+        requires there { session < length self.old.logs }
+        requires room { 1 ≤ slice_index_or self.old.spares session 0 }
+        requires turn { FitsSession (session_at self.old session) (deed.Replied request) }
+        ensures { AddsAt self.old self.new session (deed.Replied request) }
+    {
+        let client = &mut self.clients[session as usize];
+        client.replied(request);
+    }
+
+    /// The stamps of that many requests, by request. It looks once at each entry.
+    pub(crate) fn stamps(
+        &self,
+        alloc: Global,
+        requests: usize,
+    ) -> Result<Vec<Option<Stamp>>, AllocError>
+        ensures { IfOk result (λ stamps. stamps.items ≡ all_noted (replicate requests None) self.now.logs) }
+    {
+        stamps_of(alloc, self.clients.as_slice(), requests)
+    }
+}
+
+// The first sessions of a script, before their first requests.
+fn first_clients(alloc: Global, script: &Script) -> Result<Vec<Client>, AllocError>
+    requires { length script.now.requests ≤ 10000 }
+    ensures { IfOk result (λ clients. AreFirst script.now 64 clients.items) }
+{
+    requests_of_a_session_rise();
+    let mut clients = Vec::new(alloc);
+    for number in 0..64 {
+        let requests = requests_of(alloc, script, number)?;
+        let client = Client::new(alloc, number, requests);
+        clients.push(client)?;
+    }
+    Ok(clients)
+}
+
+// The requests of a session, in script order.
+fn requests_of(alloc: Global, script: &Script, session: u32) -> Result<Vec<u32>, AllocError>
+    requires { length script.now.requests ≤ 10000 }
+    ensures { IfOk result (λ found. found.items ≡ requests_of_session script.now session) }
+{
+    let requests = script.requests.as_slice();
+    let mut found = Vec::new(alloc);
+    for r in 0..requests.len() as u32 {
+        if requests[r as usize].session == session {
+            found.push(r)?;
+        }
+    }
+    Ok(found)
+}
+
+fn no_stamps(alloc: Global, requests: usize) -> Result<Vec<Option<Stamp>>, AllocError>
+    ensures { IfOk result (λ stamps. stamps.items ≡ replicate requests None) }
+{
+    let mut stamps = Vec::new(alloc);
+    for _request in 0..requests {
+        stamps.push(None)?;
+    }
+    Ok(stamps)
+}
+
+// The stamps of that many requests, as these sessions began them.
+fn stamps_of(
+    alloc: Global,
+    clients: &[Client],
+    requests: usize,
+) -> Result<Vec<Option<Stamp>>, AllocError>
+    ensures { IfOk result (λ stamps. stamps.items ≡ all_noted (replicate requests None) (map log_of clients.now)) }
+{
+    let mut stamps = no_stamps(alloc, requests)?;
+    for client in clients {
+        note_begins(client.log(), &mut stamps);
+    }
+    Ok(stamps)
+}
+
+// Notes the stamp of each request that was begun, at the request's place, unless there is one.
+fn note_begins(log: &[SessionEntry], stamps: &mut Vec<Option<Stamp>>)
+    ensures { stamps.new.items ≡ noted_all stamps.old.items log.now }
+{
+    for entry in log {
+        note_deed(stamps, &entry.deed);
+    }
+}
+
+fn note_deed(stamps: &mut Vec<Option<Stamp>>, deed: &SessionDeed)
+    ensures { stamps.new.items ≡ noted_by stamps.old.items deed.now }
+{
+    match deed {
+        SessionDeed::Begun { request, stamp } => note(stamps, *request, *stamp),
+        SessionDeed::Replied { .. } => {}
+    }
+}
+
+// Notes a request's stamp, unless it has one.
+fn note(stamps: &mut Vec<Option<Stamp>>, request: u32, stamp: Stamp)
+    ensures { stamps.new.items ≡ noted stamps.old.items request stamp }
+{
+    let place = request as usize;
+    if place < stamps.len() {
+        let first = stamps[place].or(Some(stamp));
+        stamps[place] = first;
+    }
+}

@@ -1,0 +1,256 @@
+//! The gatekeepers of a core, by their numbers.
+ghost use Rattle.std.specs.Prelude.{◌≡◌, ◌<◌, ◌≤◌, ◌&&◌, [], length, replicate, not, nat_lt, is_some, option_copied, IsTrue, IsSome, Some, IfOk, OnOk, OnErr};
+ghost use Rattle.std.specs.Option.{ForSome, option_map};
+ghost use Rattle.vector_stamp.specs.Clocks.{counts_no_more};
+ghost use Rattle.vector_stamp.specs.Order.{has_64_bits, stamp_before};
+ghost use Rattle.program_defs.specs.Works.{is_change};
+ghost use Rattle.weave_entries.specs.declared.gate_log.GateDeed.TheVariants as deed;
+ghost use Rattle.shard_queue.specs.Sent.{sent_as};
+ghost use Rattle.weave_entries.specs.GateReplay.{Begun, begun_stamp, channel_of, clock_of, flight_of};
+ghost use Rattle.weave_entries.specs.Sending.{IsCountsOf, messages_of};
+ghost use Rattle.gatekeeper.specs.Answers.{IsRefusedWhere};
+ghost use Rattle.gatekeeper.specs.Gates.{Adds, SendsFlight};
+ghost use Rattle.gatekeeper.specs.Opened.{as_begun};
+ghost use Rattle.step_rules.specs.Entries.{begin_deed};
+ghost use Rattle.weaver_core.specs.GateTable.{AddsAt, AreFirst, IsSameGate, log_at};
+ghost use Rattle.weaver_core.specs.Messages.{nop_deed};
+
+use gatekeeper::{Flight, Gate, GateFault};
+use graph_ops::Op;
+use program_defs::Work;
+use std::alloc::{AllocError, Global};
+use std::marker::Model;
+use vector_stamp::{Clock, Stamp};
+use weave_entries::{Message, Verdict};
+
+/// The gatekeepers, in the order of their numbers. Contracts see the number of shards and the logs.
+#[derive(Drop)]
+pub(crate) struct Gates {
+    shards: u32,
+    gates: Vec<Gate>,
+}
+
+impl Model for Gates {
+    ghost use Rattle.std.specs.Prelude.{map};
+    ghost use Rattle.weaver_core.specs.GateTable.{GateTable, AreInOrder, log_of};
+
+    ghost Value = { GateTable };
+
+    ghost view = { λ g. record {
+      shards = g.shards;
+      logs = map log_of g.gates.items;
+    } };
+
+    ghost invariant = { λ g. AreInOrder g.shards g.gates.items };
+}
+
+impl Gates {
+    /// The gatekeepers of a script, before their first events.
+    pub(crate) fn new(alloc: Global, gates: u32, shards: u32) -> Result<Gates, AllocError>
+        requires gates { gates ≤ 8 }
+        requires one_shard { 1 ≤ shards }
+        requires shards { shards ≤ 16 }
+        ensures { IfOk result (λ made. made ≡ record { shards = shards; logs = replicate gates [] }) }
+    {
+        let made = first_gates(alloc, gates, shards)?;
+        Ok(Gates {
+            shards,
+            gates: made,
+        })
+    }
+
+    /// The transaction in flight.
+    pub(crate) fn flight(&self, gate: u32) -> Option<Flight>
+        requires { gate < length self.now.logs }
+        ensures { option_map as_begun result ≡ flight_of (log_at self.now gate) }
+    {
+        self.gates[gate as usize].flight()
+    }
+
+    /// The clock.
+    pub(crate) fn say(&self, gate: u32) -> Clock
+        requires { gate < length self.now.logs }
+        ensures { result ≡ clock_of gate (log_at self.now gate) }
+    {
+        self.gates[gate as usize].say()
+    }
+
+    /// Begins a request, by the kind of its work. The last stamp that its session began is heard before the tick.
+    pub(crate) fn begin(
+        &mut self,
+        alloc: Global,
+        gate: u32,
+        request: u32,
+        work: &Work,
+        last: Option<Stamp>,
+    ) -> Result<Stamp, GateFault>
+        requires { gate < length self.old.logs }
+        ensures stamp { IfOk result (λ stamp. stamp ≡ begun_stamp gate (clock_of gate (log_at self.old gate)) last) }
+        ensures bits { IfOk result (λ stamp. IsTrue (has_64_bits stamp.clock)) }
+        ensures after { IfOk result (λ stamp. ForSome last (λ heard.
+            IsTrue (counts_no_more gate (clock_of gate (log_at self.old gate)) heard.clock)
+            → IsTrue (stamp_before heard stamp))) }
+        ensures entry { IfOk result (λ stamp. AddsAt self.old self.new gate 0 (begin_deed request stamp work.now)) }
+        ensures busy { IsRefusedWhere GateFault.Busy
+            (is_change work.now && is_some (flight_of (log_at self.old gate))) result }
+        ensures refused { OnErr result (self.new ≡ self.old) }
+    {
+        let gate = &mut self.gates[gate as usize];
+        stamp_at(gate, alloc, request, work, last)
+    }
+
+    /// Sends the messages of the transaction in flight, by its verdict, and ends the flight. The author is that of its begin.
+    pub(crate) fn send(
+        &mut self,
+        alloc: Global,
+        gate: u32,
+        author: u32,
+        ops: &[Op],
+        verdict: &Verdict,
+    ) -> Result<(), AllocError>
+        requires there { gate < length self.old.logs }
+        requires flies { IsSome (flight_of (log_at self.old gate)) }
+        requires author { ForSome (flight_of (log_at self.old gate)) (λ flight. flight.author ≡ author) }
+        requires counts { IsCountsOf ops.now verdict.now }
+        ensures entry { OnOk result ((flight : Begun) → flight_of (log_at self.old gate) ≡ Some flight
+            → AddsAt self.old self.new gate author (deed.Sent flight.request
+            (messages_of self.old.shards (log_at self.old gate) flight ops.now verdict.now))) }
+        ensures refused { OnErr result (self.new ≡ self.old) }
+    {
+        let gate = &mut self.gates[gate as usize];
+        send_at(gate, alloc, author, ops, verdict)
+    }
+
+    /// Sends an empty message to a shard, unless a transaction is in flight.
+    pub(crate) fn nop(&mut self, alloc: Global, gate: u32, shard: u32) -> Result<(), GateFault>
+        requires there { gate < length self.old.logs }
+        requires shard { shard < self.old.shards }
+        ensures entry { OnOk result (AddsAt self.old self.new gate 0 (nop_deed gate shard (log_at self.old gate))) }
+        ensures busy { IsRefusedWhere GateFault.Busy (is_some (flight_of (log_at self.old gate))) result }
+        ensures refused { OnErr result (self.new ≡ self.old) }
+    {
+        let gate = &mut self.gates[gate as usize];
+        nop_at(gate, alloc, shard)
+    }
+
+    /// The message of this number to a shard as it was sent, or `None` if it was not.
+    pub(crate) fn fetch(&self, gate: u32, shard: u32, number: u64) -> Option<&Message>
+        requires { gate < length self.now.logs }
+        ensures { option_copied result ≡ sent_as number (channel_of shard (log_at self.now gate)) }
+    {
+        self.gates[gate as usize].fetch(shard, number)
+    }
+
+    /// Hears a clock.
+    pub(crate) fn hear(&mut self, alloc: Global, gate: u32, clock: &Clock) -> Result<(), AllocError>
+        requires { gate < length self.old.logs }
+        ensures heard { OnOk result (AddsAt self.old self.new gate 0 (deed.Heard clock.now)) }
+        ensures refused { OnErr result (self.new ≡ self.old) }
+    {
+        let gate = &mut self.gates[gate as usize];
+        hear_at(gate, alloc, clock)
+    }
+
+    /// Raises the epoch.
+    pub(crate) fn raise(&mut self, alloc: Global, gate: u32, epoch: u64) -> Result<(), GateFault>
+        requires { gate < length self.old.logs }
+        ensures raised { OnOk result (AddsAt self.old self.new gate 0 (deed.Raised epoch)) }
+        ensures old { IsRefusedWhere GateFault.Old
+            (not (nat_lt (clock_of gate (log_at self.old gate)).epoch epoch)) result }
+        ensures refused { OnErr result (self.new ≡ self.old) }
+    {
+        let gate = &mut self.gates[gate as usize];
+        raise_at(gate, alloc, epoch)
+    }
+}
+
+// The first gatekeepers, before their first events.
+fn first_gates(alloc: Global, gates: u32, shards: u32) -> Result<Vec<Gate>, AllocError>
+    requires gates { gates ≤ 8 }
+    requires one_shard { 1 ≤ shards }
+    requires shards { shards ≤ 16 }
+    ensures { IfOk result (λ made. AreFirst gates shards made.items) }
+{
+    let mut made = Vec::new(alloc);
+    for home in 0..gates {
+        made.push(Gate::new(alloc, home, gates, shards)?)?;
+    }
+    Ok(made)
+}
+
+// The gatekeeper stamps a request.
+fn stamp_at(
+    gate: &mut Gate,
+    alloc: Global,
+    request: u32,
+    work: &Work,
+    last: Option<Stamp>,
+) -> Result<Stamp, GateFault>
+    ensures stamp { IfOk result (λ stamp.
+        stamp ≡ begun_stamp gate.old.home (clock_of gate.old.home gate.old.log) last) }
+    ensures bits { IfOk result (λ stamp. IsTrue (has_64_bits stamp.clock)) }
+    ensures after { IfOk result (λ stamp. ForSome last (λ heard.
+        IsTrue (counts_no_more gate.old.home (clock_of gate.old.home gate.old.log) heard.clock)
+        → IsTrue (stamp_before heard stamp))) }
+    ensures entry { IfOk result (λ stamp. Adds gate.old gate.new 0 (begin_deed request stamp work.now)) }
+    ensures busy { IsRefusedWhere GateFault.Busy (is_change work.now && is_some (flight_of gate.old.log)) result }
+    ensures refused { OnErr result (gate.new ≡ gate.old) }
+{
+    match work {
+        Work::Change(_) => gate.begin_tx(alloc, 0, request, last),
+        Work::Look(_) => Ok(gate.begin_program(alloc, 0, request, last)?),
+    }
+}
+
+// The gatekeeper hears a clock.
+fn hear_at(gate: &mut Gate, alloc: Global, clock: &Clock) -> Result<(), AllocError>
+    ensures heard { OnOk result (Adds gate.old gate.new 0 (deed.Heard clock.now)) }
+    ensures refused { OnErr result (gate.new ≡ gate.old) }
+{
+    gate.reserve(alloc, 1)?;
+    gate.hear(0, clock);
+    Ok(())
+}
+
+// The gatekeeper is in that epoch, if it is above its own.
+fn raise_at(gate: &mut Gate, alloc: Global, epoch: u64) -> Result<(), GateFault>
+    ensures raised { OnOk result (Adds gate.old gate.new 0 (deed.Raised epoch)) }
+    ensures old { IsRefusedWhere GateFault.Old
+        (not (nat_lt (clock_of gate.old.home gate.old.log).epoch epoch)) result }
+    ensures refused { OnErr result (IsSameGate gate.old gate.new) }
+{
+    gate.reserve(alloc, 1)?;
+    gate.epoch(0, epoch)
+}
+
+// The gatekeeper sends an empty message.
+fn nop_at(gate: &mut Gate, alloc: Global, shard: u32) -> Result<(), GateFault>
+    requires { shard < gate.old.shards }
+    ensures entry { OnOk result (Adds gate.old gate.new 0 (nop_deed gate.old.home shard gate.old.log)) }
+    ensures busy { IsRefusedWhere GateFault.Busy (is_some (flight_of gate.old.log)) result }
+    ensures refused { OnErr result (gate.new ≡ gate.old) }
+{
+    match gate.nop(alloc, 0, shard) {
+        Ok(_) => Ok(()),
+        Err(fault) => Err(fault),
+    }
+}
+
+// The gatekeeper sends the messages of the transaction in flight.
+fn send_at(
+    gate: &mut Gate,
+    alloc: Global,
+    author: u32,
+    ops: &[Op],
+    verdict: &Verdict,
+) -> Result<(), AllocError>
+    requires author { ForSome (flight_of gate.old.log) (λ flight. flight.author ≡ author) }
+    requires counts { IsCountsOf ops.now verdict.now }
+    ensures entry { OnOk result (SendsFlight gate.old gate.new author ops.now verdict.now) }
+    ensures refused { OnErr result (gate.new ≡ gate.old) }
+{
+    match gate.send(alloc, author, ops, verdict) {
+        Ok(()) => Ok(()),
+        Err(_) => Err(AllocError),
+    }
+}

@@ -1,0 +1,23 @@
+//! The core of steps: the machines of one script, run step by step.
+//!
+//! Contracts see a `Core` as its script, its logs and its notices. Its logs are an account. A step answers what the definition of steps answers, and leaves the logs that it leaves; the report is that of the account.
+#![tactic(auto)]
+
+mod beginning;
+mod client;
+mod clients;
+mod clocks;
+mod gates;
+mod judging;
+mod machines;
+mod messages;
+mod pairs;
+mod replies;
+mod replying;
+mod sending;
+mod shards;
+mod stepper;
+#[cfg(test)]
+mod tests;
+
+pub use stepper::Core;

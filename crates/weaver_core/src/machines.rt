@@ -1,0 +1,345 @@
+//! The machines of a core, and what each atomic step does with them.
+ghost use Rattle.std.specs.Prelude.{◌≡◌, ◌<◌, ◌^◌, [], Contains, Some, length, map, OnErr, IfOk};
+ghost use Rattle.std.specs.List.{range_with_len};
+ghost use Rattle.vector_stamp.specs.declared.clock.Stamp.{Stamp};
+ghost use Rattle.program_defs.specs.Limits.{IsWithinLimits};
+ghost use Rattle.program_defs.specs.declared.script.Step.TheVariants as step;
+ghost use Rattle.weave_entries.specs.OracleReplay.{settled_entry};
+ghost use Rattle.weave_entries.specs.declared.oracle_log.OracleEntry.{OracleEntry};
+ghost use Rattle.weave_account.specs.Report.{MatchesAccount};
+ghost use Rattle.step_rules.specs.CoreState.{start_state};
+ghost use Rattle.weaver_core.specs.Cores.{AreOf, MayDo, MachinesDo};
+ghost use Rattle.weaver_core.specs.Reporting.{AreOfHomes, all_pairs_found, reply_stamped, request_with};
+
+use crate::beginning::begin_in;
+use crate::clients::Clients;
+use crate::clocks::{hear_in, raise_in};
+use crate::gates::Gates;
+use crate::judging::judge_in;
+use crate::messages::{apply_in, deliver_in, nop_in};
+use crate::pairs::pairs_of;
+use crate::replies::replies_of;
+use crate::replying::reply_in;
+use crate::sending::send_in;
+use crate::shards::Shards;
+use backing_store::Store;
+use backing_store::laws::what_is_asked_is_kept;
+use order_graph::laws::ends_are_of_pairs;
+use program_defs::{Request, Script, Step};
+use report_rules::{Report, StepAnswer};
+use std::alloc::{AllocError, Global};
+use std::marker::Model;
+use step_rules::laws::start_is_a_core;
+use timeline_oracle::Oracle;
+use vector_stamp::laws::{equality_is_decided, parts_and_unions_are_coherent};
+use vector_stamp::{Clock, Stamp};
+use weave_account::laws::{
+    begun_stamps_are_coherent, clocks_are_known, heads_pass, judgements_are_of_requests,
+    messages_can_be_taken, placed_pairs_are_the_pairs, requests_end_or_go_on,
+    requests_of_a_session_rise, stamps_are_begun,
+};
+use weave_data::Items;
+use weave_entries::laws::{
+    begun_and_replied_are_decided, sessions_go_in_turn, what_has_not_ended_goes_on,
+};
+
+/// The machines of a script. Contracts see what they are made for, and their logs and notices.
+#[derive(Drop)]
+pub(crate) struct Machines {
+    gates: Gates,
+    store: Store,
+    oracle: Oracle,
+    shards: Shards,
+    clients: Clients,
+    // The notices, in the order of the `say` steps: at most one clock for each step.
+    notices: Vec<Clock>,
+}
+
+impl Model for Machines {
+    ghost use Rattle.weaver_core.specs.Cores.{MachinesView, machines_of};
+
+    ghost Value = { MachinesView };
+
+    ghost view = { λ m. machines_of m.gates m.store m.oracle m.shards m.clients m.notices.items };
+}
+
+impl Machines {
+    /// The machines of a script, before the first step.
+    pub(crate) fn new(alloc: Global, script: &Script) -> Result<Machines, AllocError>
+        requires { IsWithinLimits script.now }
+        ensures are { IfOk result (λ made. AreOf script.now made) }
+        ensures start { IfOk result (λ made. made.state ≡ start_state script.now) }
+    {
+        start_is_a_core();
+        let gates = Gates::new(alloc, script.gates, script.shards)?;
+        let store = Store::new(alloc);
+        let oracle = Oracle::new(alloc);
+        let shards = Shards::new(alloc, script.shards, script.gates)?;
+        let clients = Clients::new(alloc, script)?;
+        let notices = Vec::new(alloc);
+        Ok(Machines {
+            gates,
+            store,
+            oracle,
+            shards,
+            clients,
+            notices,
+        })
+    }
+
+    /// Does a step. The one error is out of memory.
+    pub(crate) fn step(
+        &mut self,
+        alloc: Global,
+        script: &Script,
+        step: &Step,
+    ) -> Result<StepAnswer, AllocError>
+        requires { MayDo script.now self.old step.now }
+        ensures done { IfOk result (λ answer. MachinesDo script.now step.now self.old self.new answer) }
+        ensures refused { OnErr result (self.new ≡ self.old) }
+    {
+        match *step {
+            Step::Begin { request } => self.begin(alloc, script, request),
+            Step::Judge { gate } => self.judge(alloc, script, gate),
+            Step::Send { gate } => self.send(alloc, script, gate),
+            Step::Say { gate } => self.say(script, gate),
+            Step::Hear { gate, notice } => self.hear(alloc, script, gate, notice),
+            Step::Reply { request } => self.reply(script, request),
+            Step::Epoch { gate, epoch } => self.raise(alloc, script, gate, epoch),
+            Step::Nop { gate, shard } => self.nop(alloc, script, gate, shard),
+            Step::Deliver {
+                gate,
+                shard,
+                number,
+            } => self.deliver(alloc, script, gate, shard, number),
+            Step::Apply { shard, gate } => self.apply(alloc, script, shard, gate),
+            Step::Visit { .. } | Step::Collect { .. } => unreachable!(),
+        }
+    }
+
+    // `begin R`: the request is stamped at its gatekeeper, if it is its session's next one.
+    fn begin(
+        &mut self,
+        alloc: Global,
+        script: &Script,
+        request: u32,
+    ) -> Result<StepAnswer, AllocError>
+        requires { MayDo script.now self.old (step.Begin request) }
+        ensures done { IfOk result (λ answer. MachinesDo script.now (step.Begin request) self.old self.new answer) }
+        ensures refused { OnErr result (self.new ≡ self.old) }
+    {
+        clocks_are_known();
+        requests_of_a_session_rise();
+        stamps_are_begun();
+        begin_in(alloc, &mut self.gates, &mut self.clients, script, request)
+    }
+
+    // `judge G`: the store judges the flight, and the oracle is asked in the same step.
+    fn judge(&mut self, alloc: Global, script: &Script, gate: u32) -> Result<StepAnswer, AllocError>
+        requires { MayDo script.now self.old (step.Judge gate) }
+        ensures done { IfOk result (λ answer. MachinesDo script.now (step.Judge gate) self.old self.new answer) }
+        ensures refused { OnErr result (self.new ≡ self.old) }
+    {
+        begun_stamps_are_coherent();
+        judgements_are_of_requests();
+        requests_end_or_go_on();
+        stamps_are_begun();
+        what_has_not_ended_goes_on();
+        parts_and_unions_are_coherent();
+        what_is_asked_is_kept();
+        ends_are_of_pairs();
+        judge_in(
+            alloc,
+            &self.gates,
+            &mut self.store,
+            &mut self.oracle,
+            script,
+            gate,
+        )
+    }
+
+    // `send G`: the messages of the flight go out, by its verdict, and the flight ends.
+    fn send(&mut self, alloc: Global, script: &Script, gate: u32) -> Result<StepAnswer, AllocError>
+        requires { MayDo script.now self.old (step.Send gate) }
+        ensures done { IfOk result (λ answer. MachinesDo script.now (step.Send gate) self.old self.new answer) }
+        ensures refused { OnErr result (self.new ≡ self.old) }
+    {
+        judgements_are_of_requests();
+        let _ = script;
+        send_in(alloc, &mut self.gates, &self.store, gate)
+    }
+
+    // `say G`: the clock is the next notice.
+    fn say(&mut self, script: &Script, gate: u32) -> Result<StepAnswer, AllocError>
+        requires { MayDo script.now self.old (step.Say gate) }
+        ensures done { IfOk result (λ answer. MachinesDo script.now (step.Say gate) self.old self.new answer) }
+        ensures refused { OnErr result (self.new ≡ self.old) }
+    {
+        let _ = script;
+        self.notices.reserve(1)?;
+        let clock = self.gates.say(gate);
+        self.notices.push_reserved(clock);
+        Ok(StepAnswer::Ok)
+    }
+
+    // `hear G K`: notice K is heard.
+    fn hear(
+        &mut self,
+        alloc: Global,
+        script: &Script,
+        gate: u32,
+        notice: u64,
+    ) -> Result<StepAnswer, AllocError>
+        requires { MayDo script.now self.old (step.Hear gate notice) }
+        ensures done { IfOk result (λ answer. MachinesDo script.now (step.Hear gate notice) self.old self.new answer) }
+        ensures refused { OnErr result (self.new ≡ self.old) }
+    {
+        let _ = script;
+        hear_in(
+            alloc,
+            &mut self.gates,
+            self.notices.as_slice(),
+            gate,
+            notice,
+        )
+    }
+
+    // `reply R` of a transaction: the session has the reply, if it was sent.
+    fn reply(&mut self, script: &Script, request: u32) -> Result<StepAnswer, AllocError>
+        requires { MayDo script.now self.old (step.Reply request) }
+        ensures done { IfOk result (λ answer. MachinesDo script.now (step.Reply request) self.old self.new answer) }
+        ensures refused { OnErr result (self.new ≡ self.old) }
+    {
+        requests_end_or_go_on();
+        requests_of_a_session_rise();
+        reply_in(&self.gates, &mut self.clients, script, request)
+    }
+
+    // `epoch G E`: the gatekeeper is in that epoch, if it is above its own.
+    fn raise(
+        &mut self,
+        alloc: Global,
+        script: &Script,
+        gate: u32,
+        epoch: u64,
+    ) -> Result<StepAnswer, AllocError>
+        requires { MayDo script.now self.old (step.Epoch gate epoch) }
+        ensures done { IfOk result (λ answer. MachinesDo script.now (step.Epoch gate epoch) self.old self.new answer) }
+        ensures refused { OnErr result (self.new ≡ self.old) }
+    {
+        let _ = script;
+        raise_in(alloc, &mut self.gates, gate, epoch)
+    }
+
+    // `nop G S`: an empty message goes out, unless a transaction is in flight.
+    fn nop(
+        &mut self,
+        alloc: Global,
+        script: &Script,
+        gate: u32,
+        shard: u32,
+    ) -> Result<StepAnswer, AllocError>
+        requires { MayDo script.now self.old (step.Nop gate shard) }
+        ensures done { IfOk result (λ answer. MachinesDo script.now (step.Nop gate shard) self.old self.new answer) }
+        ensures refused { OnErr result (self.new ≡ self.old) }
+    {
+        let _ = script;
+        nop_in(alloc, &mut self.gates, gate, shard)
+    }
+
+    // `deliver G S N`: the message arrives as it was sent, if it was sent. That its shard can take it is known.
+    fn deliver(
+        &mut self,
+        alloc: Global,
+        script: &Script,
+        gate: u32,
+        shard: u32,
+        number: u64,
+    ) -> Result<StepAnswer, AllocError>
+        requires { MayDo script.now self.old (step.Deliver gate shard number) }
+        ensures done { IfOk result (λ answer.
+            MachinesDo script.now (step.Deliver gate shard number) self.old self.new answer) }
+        ensures refused { OnErr result (self.new ≡ self.old) }
+    {
+        messages_can_be_taken();
+        let _ = script;
+        let _commits = self.store.commits();
+        deliver_in(alloc, &self.gates, &mut self.shards, gate, shard, number)
+    }
+
+    // `apply S G`: the head is processed, unless it waits. That it passes if its counts agree is known.
+    fn apply(
+        &mut self,
+        alloc: Global,
+        script: &Script,
+        shard: u32,
+        gate: u32,
+    ) -> Result<StepAnswer, AllocError>
+        requires { MayDo script.now self.old (step.Apply shard gate) }
+        ensures done { IfOk result (λ answer. MachinesDo script.now (step.Apply shard gate) self.old self.new answer) }
+        ensures refused { OnErr result (self.new ≡ self.old) }
+    {
+        heads_pass();
+        let _ = script;
+        apply_in(alloc, &mut self.shards, shard, gate)
+    }
+
+    /// The report of the account but for its order, and without answers of steps. The one error is out of memory.
+    pub(crate) fn unordered(&self, alloc: Global, script: &Script) -> Result<Report, AllocError>
+        requires { AreOf script.now self.now }
+        ensures matches { IfOk result (MatchesAccount script.now self.now.state.account) }
+        ensures answers { IfOk result (λ report. report.answers ≡ []) }
+    {
+        begun_and_replied_are_decided();
+        begun_stamps_are_coherent();
+        equality_is_decided();
+        judgements_are_of_requests();
+        placed_pairs_are_the_pairs();
+        sessions_go_in_turn();
+        stamps_are_begun();
+        let requests = script.requests.as_slice();
+        let stamps = self.clients.stamps(alloc, requests.len())?;
+        report_of(
+            alloc,
+            requests,
+            stamps.as_slice(),
+            &self.store,
+            &self.oracle,
+        )
+    }
+
+    /// How many notices there are.
+    pub(crate) fn notices(&self) -> u64
+        ensures { result ≡ length self.now.state.notices }
+    {
+        self.notices.len() as u64
+    }
+}
+
+// Replies and pairs, by the stamps and the logs of store and oracle.
+fn report_of(
+    alloc: Global,
+    requests: &[Request],
+    stamps: &[Option<Stamp>],
+    store: &Store,
+    oracle: &Oracle,
+) -> Result<Report, AllocError>
+    requires few { length requests.now < 2 ^ 32 }
+    requires many { length stamps.now ≡ length requests.now }
+    requires begun { (stamp : Stamp) → Contains stamps.now (Some stamp) → stamp.home < 8 }
+    requires settled { (entry : OracleEntry) → Contains oracle.now entry → AreOfHomes (settled_entry entry) }
+    ensures replies { IfOk result (λ report. report.replies
+        ≡ map (reply_stamped stamps.now store.now) (range_with_len 0 (length requests.now))) }
+    ensures pairs { IfOk result (λ report. report.pairs
+        ≡ all_pairs_found (request_with stamps.now) store.now oracle.now) }
+    ensures answers { IfOk result (λ report. report.answers ≡ []) }
+{
+    let replies = replies_of(alloc, requests, stamps, store)?;
+    let pairs = pairs_of(alloc, stamps, store, oracle)?;
+    Ok(Report {
+        replies,
+        pairs,
+        order: Items::new(alloc),
+        answers: Items::new(alloc),
+    })
+}

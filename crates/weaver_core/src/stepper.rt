@@ -1,0 +1,108 @@
+//! A core: a script with its machines.
+ghost use Rattle.std.specs.Prelude.{◌≡◌, [], length, OnErr, IfOk};
+ghost use Rattle.proof_base.specs.Facts.{AllHold};
+ghost use Rattle.program_defs.specs.Limits.{IsWithinLimits};
+ghost use Rattle.report_rules.specs.PrintedOrder.{IsPrintedOrder};
+ghost use Rattle.report_rules.specs.RightReport.{replies_clause};
+ghost use Rattle.order_witness.specs.Begun.{NonePrecedesItself};
+ghost use Rattle.weave_account.specs.Report.{IsReportOfAccount};
+ghost use Rattle.step_rules.specs.CoreState.{start_state};
+ghost use Rattle.step_rules.specs.IsCore.{IsCore, IsStepOf};
+ghost use Rattle.weaver_core.specs.Cores.{Does, IsBuilt};
+
+use crate::machines::Machines;
+use order_witness::order_of;
+use program_defs::{Script, Step};
+use report_rules::laws::orders_are_of_replies_and_pairs;
+use report_rules::{Report, StepAnswer};
+use std::alloc::{AllocError, Global};
+use std::marker::Model;
+use step_rules::laws::steps_keep_the_core;
+use weave_account::laws::account_may_be_ordered;
+use weave_data::Items;
+
+/// The machines of a script, run step by step (Weaver, PVLDB 9(11) 2016).
+///
+/// Contracts see the script, the logs and the notices. The logs are an account of a run of the script.
+#[derive(Drop)]
+pub struct Core {
+    script: Script,
+    machines: Machines,
+}
+
+impl Model for Core {
+    ghost use Rattle.weaver_core.specs.Cores.{CoreView, AreOf};
+
+    ghost Value = { CoreView };
+
+    ghost view = { λ c. record { script = c.script; state = c.machines.state } };
+
+    ghost invariant = { λ c. AreOf c.script c.machines };
+}
+
+impl Core {
+    /// The core of a script, before its first step. The one error is out of memory.
+    pub fn start(alloc: Global, script: Script) -> Result<Core, AllocError>
+        requires { IsWithinLimits script }
+        ensures script { IfOk result (λ core. core.script ≡ script) }
+        ensures state { IfOk result (λ core. core.state ≡ start_state script) }
+    {
+        let machines = Machines::new(alloc, &script)?;
+        Ok(Core { script, machines })
+    }
+
+    /// Does a step: its answer, and the logs and notices that it leaves, are those of the definition of steps.
+    ///
+    /// It costs what the call of its machine costs, and look-ups. The one error is out of memory, and then the core is as before.
+    pub fn step(&mut self, alloc: Global, step: &Step) -> Result<StepAnswer, AllocError>
+        requires there { IsStepOf self.old.script step.now }
+        requires built { IsBuilt self.old.script step.now }
+        ensures done { IfOk result (λ answer. Does step.now self.old self.new answer) }
+        ensures refused { OnErr result (self.new ≡ self.old) }
+    {
+        steps_keep_the_core();
+        self.machines.step(alloc, &self.script, step)
+    }
+
+    /// The script that it was started with.
+    pub fn script(&self) -> &Script
+        ensures script { result.now ≡ self.now.script }
+        ensures limits { IsWithinLimits self.now.script }
+        ensures core { IsCore self.now.script self.now.state }
+    {
+        &self.script
+    }
+
+    /// How many notices there are. The last one has this number.
+    pub fn notices(&self) -> u64
+        ensures { result ≡ length self.now.state.notices }
+    {
+        self.machines.notices()
+    }
+
+    /// The report of the account, without answers of steps. It costs its own size and the printed order. The one error is out of memory.
+    pub fn report(&self, alloc: Global) -> Result<Report, AllocError>
+        ensures report { IfOk result (IsReportOfAccount self.now.script self.now.state.account) }
+        ensures answers { IfOk result (λ report. report.answers ≡ []) }
+    {
+        account_may_be_ordered();
+        orders_are_of_replies_and_pairs();
+        let unordered = self.machines.unordered(alloc, &self.script)?;
+        with_order(alloc, &self.script, unordered)
+    }
+}
+
+// The report with its printed order.
+fn with_order(alloc: Global, script: &Script, report: Report) -> Result<Report, AllocError>
+    requires replies { AllHold (replies_clause script.now report) }
+    requires acyclic { NonePrecedesItself report }
+    ensures order { IfOk result (λ ordered. IsPrintedOrder report ordered.order) }
+    ensures replies { IfOk result (λ ordered. ordered.replies ≡ report.replies) }
+    ensures pairs { IfOk result (λ ordered. ordered.pairs ≡ report.pairs) }
+    ensures answers { IfOk result (λ ordered. ordered.answers ≡ report.answers) }
+{
+    let mut ordered = report;
+    let order = order_of(alloc, script, &ordered)?;
+    ordered.order = Items::from_vec(order);
+    Ok(ordered)
+}
