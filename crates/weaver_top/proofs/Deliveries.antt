@@ -1,13 +1,12 @@
 -- What was read, and what was delivered of an answer to it.
-use Rattle.std.proofs.Common.{◌≡◌, ◌⊎◌, ℕ, ◌<◌, ◌≤◌, List, length, true, IsTrue, Option, Some, None, IfSome, inl, inr, refl, sym, ap, ◌∙◌, subst, arith}
+use Rattle.std.proofs.Common.{◌≡◌, ℕ, ◌<◌, ◌≤◌, List, length, true, IsTrue, Option, Some, None, IfSome, inl, inr, refl, sym, ap, ◌∙◌, subst, arith}
 use Rattle.weave_io.specs.Told.{Told, Tells, Writes, WritesPrefix}
 use Rattle.weaver_top.specs.declared.answer.Answer.{Answer}
 use Rattle.weaver_top.specs.declared.status.Status.{Status}
-use Rattle.weaver_top.specs.declared.status.Status.TheVariants.{Done, Read, Refused, Write, Memory, Words, NotRight}
+use Rattle.weaver_top.specs.declared.status.Status.TheVariants.{Write, NotRight}
 use Rattle.weaver_top.specs.declared.command.Command.{Command}
-use Rattle.weaver_top.specs.declared.command.Command.TheVariants.{Run, Check}
+use Rattle.weaver_top.specs.declared.command.Command.TheVariants.{Run, Check, Trace}
 use Rattle.weaver_top.specs.Answers.{IsAnswerTo, TellsAt, TellsAnswer, can_end, Delivers}
-use Rattle.weaver_top.specs.Refusals.{CanBeTaken, TellsRefusal, check_input, input_of, run_input}
 
 -- an answer to what was read is one to what the source told
 pub fits_told : (command : Command) (left : Told) (read bytes : List ℕ) (answer : Answer) → Tells left read → bytes ≡ read → IsAnswerTo command bytes answer → IfSome left (λ input. IsAnswerTo command input answer)
@@ -23,6 +22,7 @@ too_long_told command (Some input) answer long fits = fits input (omega (arith, 
 no_write : (command : Command) → IsTrue (can_end command Write) → ⊥
 no_write Run ends = cc
 no_write Check ends = cc
+no_write Trace ends = cc
 
 not_write : (command : Command) (status : Status) → IsTrue (can_end command status) → status ≡ Write → ⊥
 not_write command status ends failed = let P : Status → Type 0 = λ status. IsTrue (can_end command status) in no_write command (subst P failed ends)
@@ -53,6 +53,7 @@ writes_less Fits Less less (Some input) before after (text, fits, appended) = (t
 only_check : (command : Command) → can_end command NotRight ≡ true → command ≡ Check
 only_check Run can = absurd (cc)
 only_check Check can = refl
+only_check Trace can = absurd (cc)
 
 pub not_right : (asked : Option Command) (command : Command) (left before after : Told) (answer : Answer) (status : Status) (Failed : Type 0) → Some command ≡ asked → status ≡ NotRight → can_end command answer.status ≡ true → IfSome left (λ input. IsAnswerTo command input answer) → Delivers answer status before after Failed → (asked ≡ Some Check) × Writes (TellsAt Check NotRight) left before after
 not_right asked command left before after answer status Failed asked_is is can fits ends =
@@ -78,48 +79,3 @@ prefix_so asked other command left before after answer status Failed other_is as
     let same : other ≡ command = cc in
     let P : Command → Type 0 = λ one. WritesPrefix (TellsAnswer one) left before after in
     subst P same (some_written other left before after answer status Failed fits can ends failed)
-
--- an input that a command takes isn't refused
-not_refused : (command : Command) (input text : List ℕ) → CanBeTaken (input_of command) input → ¬ TellsRefusal (input_of command) input text
-not_refused command input text taken (inl fault) = fault.not_taken taken
-not_refused command input text taken (inr unbuilt) = unbuilt.not_taken taken
-
--- an input that can be run has a report
-run_done : (status : Status) (input text : List ℕ) → TellsAt Run status input text → CanBeTaken run_input input → status ≡ Done
-run_done Done input text tells taken = refl
-run_done NotRight input text tells taken = absurd tells
-run_done Refused input text tells taken = absurd (not_refused Run input text taken tells)
-run_done Read input text tells taken = absurd tells
-run_done Write input text tells taken = absurd tells
-run_done Memory input text tells taken = absurd tells
-run_done Words input text tells taken = absurd tells
-
--- and one that can be judged a verdict
-judged_done : (status : Status) (input text : List ℕ) → TellsAt Check status input text → CanBeTaken check_input input → (status ≡ Done) ⊎ (status ≡ NotRight)
-judged_done Done input text tells taken = inl refl
-judged_done NotRight input text tells taken = inr refl
-judged_done Refused input text tells taken = absurd (not_refused Check input text taken tells)
-judged_done Read input text tells taken = absurd tells
-judged_done Write input text tells taken = absurd tells
-judged_done Memory input text tells taken = absurd tells
-judged_done Words input text tells taken = absurd tells
-
--- where nothing fails the status is the answer's
-module _ (before after : Told) (answer : Answer) (status : Status) (Faults Stalls : Type 0) (ends : Delivers answer status before after (Faults ⊎ Stalls)) (no_fault : ¬ Faults) (no_stall : ¬ Stalls) where
-  as_answered : status ≡ answer.status
-  as_answered = elim ends [
-    | inl (is, appended) ↦ is
-    | inr (is, failure, prefix) ↦ absurd (elim failure [ inl fault ↦ no_fault fault | inr stall ↦ no_stall stall ])
-  ]
-
-  pub all_run : (left : Told) → IfSome left (λ input. IsAnswerTo Run input answer) → IfSome left (λ input. CanBeTaken run_input input → (status ≡ Done) ⊎ (status ≡ Memory))
-  all_run None fits = tt
-  all_run (Some input) fits = λ run. inl (as_answered ∙ run_done answer.status input answer.text.items fits.tells run)
-
-  verdict : (answer.status ≡ Done) ⊎ (answer.status ≡ NotRight) → (status ≡ Done) ⊎ (status ≡ NotRight)
-  verdict (inl done) = inl (as_answered ∙ done)
-  verdict (inr not_right) = inr (as_answered ∙ not_right)
-
-  pub all_judged : (left : Told) → IfSome left (λ input. IsAnswerTo Check input answer) → IfSome left (λ input. CanBeTaken check_input input → ((status ≡ Done) ⊎ (status ≡ NotRight)) ⊎ (status ≡ Memory))
-  all_judged None fits = tt
-  all_judged (Some input) fits = λ judged. inl (verdict (judged_done answer.status input answer.text.items fits.tells judged))

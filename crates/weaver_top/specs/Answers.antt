@@ -3,12 +3,12 @@ use Rattle.std.specs.Prelude.{◌≡◌, ◌⊎◌, ℕ, Bool, true, false, IsTr
 use Rattle.weave_io.specs.Told.{Told, Appends, AppendsPrefix}
 use Rattle.weaver_top.specs.declared.answer.Answer.{Answer}
 use Rattle.weaver_top.specs.declared.command.Command.{Command}
-use Rattle.weaver_top.specs.declared.command.Command.TheVariants.{Run, Check}
+use Rattle.weaver_top.specs.declared.command.Command.TheVariants.{Run, Check, Trace}
 use Rattle.weaver_top.specs.declared.status.Status.{Status}
 use Rattle.weaver_top.specs.declared.status.Status.TheVariants.{Done, Refused, Write, NotRight}
 use Rattle.weaver_top.specs.Acceptance.{IsAcceptedByCheck}
-use Rattle.weaver_top.specs.Headlines.{TellsRightReport, TellsYes}
-use Rattle.weaver_top.specs.Refusals.{TellsRefusal, input_of}
+use Rattle.weaver_top.specs.Headlines.{TellsRightReport, TellsTrace, TellsYes}
+use Rattle.weaver_top.specs.Refusals.{TellsRefusal}
 use Rattle.weaver_top.specs.ScriptOrder.{TellsRunInScriptOrder}
 use Rattle.weaver_top.specs.VerdictLines.{TellsNo}
 
@@ -18,27 +18,35 @@ pub record TellsRun (input text : List ℕ) : Type 0 where
   pub in_script_order : TellsRunInScriptOrder input text
   pub accepted_by_check : IsAcceptedByCheck input text
 
+-- the text is the report of the steps of the script in the input, and `check` says that it is right
+pub record TellsTraceAccepted (input text : List ℕ) : Type 0 where
+  pub traced : TellsTrace input text
+  pub accepted_by_check : IsAcceptedByCheck input text
+
 -- the text is what the command has to write for the input when it ends with status 0
 abbrev pub TellsDone : Command → List ℕ → List ℕ → Type 0
 TellsDone Run input text = TellsRun input text
 TellsDone Check input text = TellsYes input text
+TellsDone Trace input text = TellsTraceAccepted input text
 
 -- or when it ends because a report isn't right
 abbrev pub TellsNotRight : Command → List ℕ → List ℕ → Type 0
 TellsNotRight Run input text = ⊥
 TellsNotRight Check input text = TellsNo input text
+TellsNotRight Trace input text = ⊥
 
 -- the text is what the command has to write for the input when it ends with this status
 abbrev pub TellsAt : Command → Status → List ℕ → List ℕ → Type 0
 TellsAt command Done input text = TellsDone command input text
 TellsAt command NotRight input text = TellsNotRight command input text
-TellsAt command Refused input text = TellsRefusal (input_of command) input text
+TellsAt command Refused input text = TellsRefusal command input text
 TellsAt command status input text = ⊥
 
 -- the command judges a report
 abbrev pub is_judging : Command → Bool
 is_judging Run = false
 is_judging Check = true
+is_judging Trace = false
 
 -- the command can end with this status and its text written
 abbrev pub can_end : Command → Status → Bool

@@ -8,9 +8,9 @@ use Rattle.weave_script.specs.CheckText.{IsCheckTextOf}
 use Rattle.weave_script.specs.CheckReading.{check_text}
 use Rattle.weave_script.specs.ReadText.{Fault, read_text}
 use Rattle.weave_script.specs.ScriptLines.{IsTextOf}
-use Rattle.weaver_top.specs.Built.{is_unbuilt}
+use Rattle.weaver_top.specs.Built.{is_unbuilt, is_unbuilt_for_trace}
 use Rattle.weaver_top.specs.declared.command.Command.{Command}
-use Rattle.weaver_top.specs.declared.command.Command.TheVariants.{Run, Check}
+use Rattle.weaver_top.specs.declared.command.Command.TheVariants.{Run, Check, Trace}
 
 -- what a command reads: the values, when bytes are a text of one, which values the command doesn't take yet, and the value or first fault of each text
 pub record InputKind : Type 1 where
@@ -32,10 +32,15 @@ check_input = record {
   read = check_text;
 }
 
+-- `trace` reads a script
+abbrev pub trace_input : InputKind
+trace_input = record { Value = Script; IsText = IsTextOf; is_unbuilt = is_unbuilt_for_trace; read = read_text }
+
 -- what a command reads
 abbrev pub input_of : Command → InputKind
 input_of Run = run_input
 input_of Check = check_input
+input_of Trace = trace_input
 
 -- the input isn't too long, and is a text of a value that the command takes
 pub record CanBeTaken (kind : InputKind) (input : List ℕ) : Type 0 where
@@ -64,6 +69,8 @@ pub record TellsUnbuilt (kind : InputKind) (input text : List ℕ) : Type 0 wher
   pub unbuilt : kind.is_unbuilt value ≡ true
   pub line : text ≡ refusal_line 0 (codes "unbuilt")
 
--- the text says why the input is refused
-abbrev pub TellsRefusal : InputKind → List ℕ → List ℕ → Type 0
-TellsRefusal kind input text = TellsFault kind input text ⊎ TellsUnbuilt kind input text
+-- the text says why the command refuses the input: by its first fault, or, of `run` and `trace`, since it doesn't take the script yet
+abbrev pub TellsRefusal : Command → List ℕ → List ℕ → Type 0
+TellsRefusal Run input text = TellsFault run_input input text ⊎ TellsUnbuilt run_input input text
+TellsRefusal Check input text = TellsFault check_input input text
+TellsRefusal Trace input text = TellsFault trace_input input text ⊎ TellsUnbuilt trace_input input text

@@ -7,6 +7,7 @@ use crate::check_command::verdict_on;
 use crate::command::Command;
 use crate::run_command::report_on;
 use crate::status::Status;
+use crate::trace_command::trace_on;
 use std::alloc::{AllocError, Global};
 use weave_script::Cause;
 use weave_text::Text;
@@ -26,12 +27,14 @@ pub(crate) fn answer_to(alloc: Global, command: Command, input: &[u8]) -> Result
     match command {
         Command::Run => report_on(alloc, input),
         Command::Check => verdict_on(alloc, input),
+        Command::Trace => trace_on(alloc, input),
     }
 }
 
 /// Says that the input is too long.
 pub(crate) fn too_long(alloc: Global) -> Result<Answer, AllocError>
-    ensures answer { IfOk result (λ answer. (command : Command) (input : List ℕ) → 4194304 < length input → IsAnswerTo command input answer) }
+    ensures answer { IfOk result (λ answer. (command : Command) (input : List ℕ)
+        → 4194304 < length input → IsAnswerTo command input answer) }
     ensures refused { IfOk result (λ answer. answer.status ≡ Status.Refused) }
 {
     refusal(alloc, 0, Cause::TooLong.text())

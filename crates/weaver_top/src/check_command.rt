@@ -31,7 +31,8 @@ pub(crate) fn verdict_on(alloc: Global, input: &[u8]) -> Result<Answer, AllocErr
 // Judges the report.
 fn verdict_for(alloc: Global, script: &Script, report: &Report) -> Result<Answer, AllocError>
     requires { IsScript script.now }
-    ensures { IfOk result (λ answer. (input : List ℕ) → length input ≤ 4194304 → IsCheckTextOf input script.now report.now → IsAnswerTo Command.Check input answer) }
+    ensures { IfOk result (λ answer. (input : List ℕ)
+        → length input ≤ 4194304 → IsCheckTextOf input script.now report.now → IsAnswerTo Command.Check input answer) }
 {
     scripts_are_small();
     match judge_report(alloc, script, report)? {

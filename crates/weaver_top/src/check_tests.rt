@@ -190,7 +190,8 @@ fn ended(line: &str) -> Status {
 const FOUR: &str =
     "weaver 1 2 1\ntx t 0 0\ncreate a\ncreate b\ncreate c\ncreate d\nlink a f c\nlink a g b\nlink a h b\nlink b f d\nlink c f d\ntag a g k x\nend\n";
 
-// A program on them, its reply, the vertex of a pair that puts it after them, the programs of the order, and what `check` writes.
+// A program on them, its reply, the vertex of a pair that puts it after them, the programs of the order, and what
+// `check` writes.
 const ASKED: [(&str, &str, &str, &str, &str); 19] = [
     ("show d", "done record", "d", " p", "yes"),
     ("show d", "done absent", "d", " p", "no iv 2"),
@@ -237,6 +238,57 @@ fn answers_and_pairs_of_each_program(rt: HostRuntime) -> Result<(), Fail> {
                 line
             )?,
             "{program}: {line}"
+        );
+    }
+    Ok(())
+}
+
+// A transaction; one that is aborted for a conflict with the next one; two programs that finish, and one that runs; and
+// a
+// transaction that is refused.
+const MIXED: &str =
+    "weaver 1 3 1\ntx t1 0 0\ncreate v\ncreate w\nset v color red\nlink v e w\ntag v e k x\nend\ntx t2 1 2\nset v color blue\nend\ntx t3 2 1\nset v color green\nend\nprog p1 3 1 show v\nprog p2 4 2 reach v w\nprog p3 5 1 around v 1\ntx t4 6 2\ncreate v\nend\n";
+
+// What the first program answers, why the two transactions don't commit, and what `check` writes.
+const MIXED_REPLIES: [(&str, &str, &str, &str); 4] = [
+    (
+        "record color=green e>w,k=x",
+        "conflict v t3",
+        "refused 1 exists at 1",
+        "yes",
+    ),
+    (
+        "record color=green e>w",
+        "conflict v t3",
+        "refused 1 exists at 1",
+        "no iv 4",
+    ),
+    (
+        "record color=green e>w,k=x",
+        "conflict w t3",
+        "refused 1 exists at 1",
+        "no vi 2",
+    ),
+    (
+        "record color=green e>w,k=x",
+        "conflict v t3",
+        "refused 1 exists at 0",
+        "no vii 7",
+    ),
+];
+
+// Pairs put the third transaction and the programs after the first one. The aborted one precedes the third by its
+// stamp, which is before that of the first.
+#[test]
+fn replies_of_each_kind(rt: HostRuntime) -> Result<(), Fail> {
+    let alloc = rt.alloc();
+    for (shown, aborted, refused, line) in MIXED_REPLIES.iter() {
+        let report = format!(in alloc;
+            "report 1\ntx t1 0:0:1,0,1 committed 1\ntx t2 0:2:0,0,1 {aborted}\ntx t3 0:1:0,1,0 committed 2\nprog p1 0:1:0,2,0 done {shown}\nprog p2 0:2:0,0,2 done yes\nprog p3 0:1:0,3,0 running\ntx t4 0:2:0,0,3 {refused}\nsettled v t1 t3\nsettled v t1 p1\nsettled w t1 p2\nsettled v t1 p3\norder t1 p2 t3 p1\nend\n"
+        )?;
+        assert!(rt;
+            writes(&rt, alloc, MIXED, report.as_str(), ended(line), line)?,
+            "{line}"
         );
     }
     Ok(())

@@ -5,8 +5,8 @@ ghost use Rattle.weave_io.specs.Told.{IsReadWhole, KeepsWritten, Tells, TakesAtM
 ghost use Rattle.weaver_top.specs.Acceptance.{IsAcceptedByCheck};
 ghost use Rattle.weaver_top.specs.Answers.{Delivers, IsAnswerTo, TellsAnswer, can_end};
 ghost use Rattle.weaver_top.specs.Commands.{Asks, command_of};
-ghost use Rattle.weaver_top.specs.Headlines.{TellsRightReport, TellsYes};
-ghost use Rattle.weaver_top.specs.Refusals.{CanBeTaken, TellsRefusal, check_input, input_of, run_input};
+ghost use Rattle.weaver_top.specs.Headlines.{TellsRightReport, TellsTrace, TellsYes};
+ghost use Rattle.weaver_top.specs.Refusals.{CanBeTaken, TellsRefusal, check_input, run_input, trace_input};
 ghost use Rattle.weaver_top.specs.ScriptOrder.{TellsRunInScriptOrder};
 ghost use Rattle.weaver_top.specs.VerdictLines.{TellsNo};
 
@@ -16,7 +16,9 @@ use crate::status::Status;
 use std::alloc::Global;
 use weave_io::{ReadFault, Sink, Source, read_all, write_all};
 
-/// Runs the command of the command line: `run` reads a script to the end of the source, runs it, and writes its report to the sink; `check` reads a script and then a report, and writes whether the report is right.
+/// Runs the command of the command line: `run` reads a script to the end of the source, runs it, and writes its report
+/// to the sink; `trace` does the script's steps instead, and writes their report; `check` reads a script and then a
+/// report, and writes whether the report is right.
 ///
 /// It has no runtime, so it can't wait, and always returns.
 pub fn execute<S: Source, K: Sink>(
@@ -28,6 +30,8 @@ pub fn execute<S: Source, K: Sink>(
     // The headlines.
     ensures right_report { Asks (map string_bytes words.now) Command.Run → result ≡ Status.Done
         → Writes TellsRightReport (S.left source.old) (K.written sink.old) (K.written sink.new) }
+    ensures traced { Asks (map string_bytes words.now) Command.Trace → result ≡ Status.Done
+        → Writes TellsTrace (S.left source.old) (K.written sink.old) (K.written sink.new) }
     ensures yes { Asks (map string_bytes words.now) Command.Check → result ≡ Status.Done
         → Writes TellsYes (S.left source.old) (K.written sink.old) (K.written sink.new) }
     ensures no { result ≡ Status.NotRight
@@ -41,11 +45,15 @@ pub fn execute<S: Source, K: Sink>(
     ensures accepted_by_check { Asks (map string_bytes words.now) Command.Run → result ≡ Status.Done
         → Writes IsAcceptedByCheck (S.left source.old) (K.written sink.old) (K.written sink.new) }
 
+    // What `trace` does beside: `check` accepts its report.
+    ensures trace_accepted { Asks (map string_bytes words.now) Command.Trace → result ≡ Status.Done
+        → Writes IsAcceptedByCheck (S.left source.old) (K.written sink.old) (K.written sink.new) }
+
     // When each other status comes.
     ensures words { (result ≡ Status.Words) ↔ (command_of (map string_bytes words.now) ≡ None) }
     ensures read { result ≡ Status.Read → Rose (S.faults source.old) (S.faults source.new) }
     ensures refused { (command : Command) → Asks (map string_bytes words.now) command → result ≡ Status.Refused
-        → Writes (TellsRefusal (input_of command)) (S.left source.old) (K.written sink.old) (K.written sink.new) }
+        → Writes (TellsRefusal command) (S.left source.old) (K.written sink.old) (K.written sink.new) }
     ensures write { result ≡ Status.Write →
         Rose (K.faults sink.old) (K.faults sink.new) ⊎ Rose (K.stalls sink.old) (K.stalls sink.new) }
     ensures prefix { (command : Command) → Asks (map string_bytes words.now) command → result ≡ Status.Write
@@ -78,6 +86,12 @@ pub fn execute<S: Source, K: Sink>(
         → ¬ Rose (K.stalls sink.old) (K.stalls sink.new)
         → IfSome (S.left source.old) (λ input. CanBeTaken check_input input
         → ((result ≡ Status.Done) ⊎ (result ≡ Status.NotRight)) ⊎ (result ≡ Status.Memory)) }
+    ensures all_traced { Asks (map string_bytes words.now) Command.Trace
+        → ¬ Rose (S.faults source.old) (S.faults source.new)
+        → ¬ Rose (K.faults sink.old) (K.faults sink.new)
+        → ¬ Rose (K.stalls sink.old) (K.stalls sink.new)
+        → IfSome (S.left source.old) (λ input. CanBeTaken trace_input input
+        → (result ≡ Status.Done) ⊎ (result ≡ Status.Memory)) }
 {
     let Some(command) = command_of(words) else {
         return Status::Words;
@@ -100,7 +114,8 @@ fn prepare<S: Source>(
     ensures all_is_read { IfOk result (λ answer. (answer.status ≡ Status.Done) ⊎ (answer.status ≡ Status.NotRight)
         → Tells (S.left source.new) []) }
     ensures read { result ≡ Err PrepareError.Read → Rose (S.faults source.old) (S.faults source.new) }
-    ensures read_in_time { result ≡ Err PrepareError.Read → TakesAtMost (S.left source.old) (S.left source.new) 4194304 }
+    ensures read_in_time { result ≡ Err PrepareError.Read
+        → TakesAtMost (S.left source.old) (S.left source.new) 4194304 }
     ensures read_first { OnOk result (IsReadWhole (S.left source.old) (S.left source.new)) }
     ensures rest { TakesAtMost (S.left source.old) (S.left source.new) (4194305) }
 {

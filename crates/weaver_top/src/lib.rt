@@ -1,6 +1,9 @@
 //! The top call: a command line, a source and a sink in, a status out.
 //!
-//! `execute` finds the command, reads the input whole, and writes one text: `run` reads a script from the input, runs it and writes its report; `check` reads a script and a report after it, and writes whether the report is right for the script: of every script and report that can be read. `weave` is `execute` with a runtime, for threads to come.
+//! `execute` finds the command, reads the input whole, and writes one text: `run` reads a script from the input, runs
+//! it and writes its report; `trace` reads a script, does its steps one after another, and writes their report; `check`
+//! reads a script and a report after it, and writes whether the report is right for the script. It judges every script
+//! and report that can be read. `weave` is `execute` with a runtime, for threads to come.
 #![tactic(auto)]
 
 mod answer;
@@ -17,6 +20,9 @@ mod status;
 #[cfg(test)]
 mod tests;
 mod top_call;
+mod trace_command;
+#[cfg(test)]
+mod trace_tests;
 
 pub use command::Command;
 pub use execution::execute;

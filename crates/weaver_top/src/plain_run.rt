@@ -86,7 +86,7 @@ fn operations(request: &Request) -> &[Op]
     }
 }
 
-// Runs a transaction after so many commits: the next number, or refused there.
+// Runs a transaction after this number of commits. It gets the next number, or is refused there.
 fn judge(
     alloc: Global,
     graph: &mut Graph,
@@ -96,7 +96,8 @@ fn judge(
     requires few { length ops.now < 2 ^ 32 }
     requires room { commits < 2 ^ 64 - 1 }
     ensures verdict { IfOk result (λ state. state ≡ plain_state commits (transaction ops.now (plain_of graph.old))) }
-    ensures left { OnOk result (plain_of graph.new ≡ graph_left (plain_of graph.old) (transaction ops.now (plain_of graph.old))) }
+    ensures left { OnOk result (plain_of graph.new
+        ≡ graph_left (plain_of graph.old) (transaction ops.now (plain_of graph.old))) }
 {
     match graph.run_tx(alloc, ops) {
         Ok(gots) => Ok(ReplyState::Committed {

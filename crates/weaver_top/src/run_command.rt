@@ -36,7 +36,8 @@ pub(crate) fn report_on(alloc: Global, input: &[u8]) -> Result<Answer, AllocErro
 // Runs the script where `run` takes it.
 fn answer_for(alloc: Global, script: &Script) -> Result<Answer, AllocError>
     requires { IsScript script.now }
-    ensures { IfOk result (λ answer. (input : List ℕ) → length input ≤ 4194304 → IsTextOf input script.now → IsAnswerTo Command.Run input answer) }
+    ensures { IfOk result (λ answer. (input : List ℕ)
+        → length input ≤ 4194304 → IsTextOf input script.now → IsAnswerTo Command.Run input answer) }
 {
     texts_are_of_one_script();
     if has_program(script) || has_more_gatekeepers(script) {
@@ -52,7 +53,8 @@ fn answer_for(alloc: Global, script: &Script) -> Result<Answer, AllocError>
 fn report_of(alloc: Global, script: &Script) -> Result<Vec<u8>, AllocError>
     requires valid { IsScript script.now }
     requires built { is_unbuilt script.now ≡ false }
-    ensures { IfOk result (λ text. (input : List ℕ) → length input ≤ 4194304 → IsTextOf input script.now → TellsRun input text.items) }
+    ensures { IfOk result (λ text. (input : List ℕ)
+        → length input ≤ 4194304 → IsTextOf input script.now → TellsRun input text.items) }
 {
     transactions_at_one_gatekeeper_are_plain();
     plain_run_is_right();

@@ -93,7 +93,7 @@ fn refused_operations(rt: HostRuntime) -> Result<(), Fail> {
     Ok(())
 }
 
-// Lines that set so many properties of the vertex v, from this one on.
+// Lines that set this number of properties of the vertex v, from this one on.
 fn set_lines(text: &mut Vec<u8>, first: u32, count: u32) -> Result<(), AllocError>
     requires { first + count < 1000 }
 {
@@ -240,7 +240,8 @@ fn words_that_are_no_command(rt: HostRuntime) -> Result<(), Fail> {
     assert!(rt; refuses_words(&rt, rt.alloc(), &["Run"])?);
     assert!(rt; refuses_words(&rt, rt.alloc(), &["check", "now"])?);
     assert!(rt; refuses_words(&rt, rt.alloc(), &["checks"])?);
-    assert!(rt; refuses_words(&rt, rt.alloc(), &["trace"])?);
+    assert!(rt; refuses_words(&rt, rt.alloc(), &["trace", "now"])?);
+    assert!(rt; refuses_words(&rt, rt.alloc(), &["traces"])?);
     assert!(rt; refuses_words(&rt, rt.alloc(), &["load", "7", "0"])?);
     Ok(())
 }

@@ -5,8 +5,8 @@ ghost use Rattle.weave_io.specs.Told.{IsReadWhole, KeepsWritten, Tells, TakesAtM
 ghost use Rattle.weaver_top.specs.Acceptance.{IsAcceptedByCheck};
 ghost use Rattle.weaver_top.specs.Answers.{TellsAnswer};
 ghost use Rattle.weaver_top.specs.Commands.{Asks, command_of};
-ghost use Rattle.weaver_top.specs.Headlines.{TellsRightReport, TellsYes};
-ghost use Rattle.weaver_top.specs.Refusals.{CanBeTaken, TellsRefusal, check_input, input_of, run_input};
+ghost use Rattle.weaver_top.specs.Headlines.{TellsRightReport, TellsTrace, TellsYes};
+ghost use Rattle.weaver_top.specs.Refusals.{CanBeTaken, TellsRefusal, check_input, run_input, trace_input};
 ghost use Rattle.weaver_top.specs.ScriptOrder.{TellsRunInScriptOrder};
 ghost use Rattle.weaver_top.specs.VerdictLines.{TellsNo};
 
@@ -19,7 +19,8 @@ use std::sync::Wait;
 use std::thread::Threads;
 use weave_io::{Sink, Source};
 
-/// Runs the command of the command line, as `execute` does. The threads that a command may start, and what is called round each turn of them, are given here.
+/// Runs the command of the command line, as `execute` does. The threads that a command may start, and what is called
+/// round each turn of them, are given here.
 pub fn weave<R: Threads + Wait + Sync, S: Source, K: Sink, P: Pace>(
     rt: &R,
     alloc: Global,
@@ -31,6 +32,8 @@ pub fn weave<R: Threads + Wait + Sync, S: Source, K: Sink, P: Pace>(
     // The headlines.
     ensures right_report { Asks (map string_bytes words.now) Command.Run → result ≡ Status.Done
         → Writes TellsRightReport (S.left source.old) (K.written sink.old) (K.written sink.new) }
+    ensures traced { Asks (map string_bytes words.now) Command.Trace → result ≡ Status.Done
+        → Writes TellsTrace (S.left source.old) (K.written sink.old) (K.written sink.new) }
     ensures yes { Asks (map string_bytes words.now) Command.Check → result ≡ Status.Done
         → Writes TellsYes (S.left source.old) (K.written sink.old) (K.written sink.new) }
     ensures no { result ≡ Status.NotRight
@@ -44,11 +47,15 @@ pub fn weave<R: Threads + Wait + Sync, S: Source, K: Sink, P: Pace>(
     ensures accepted_by_check { Asks (map string_bytes words.now) Command.Run → result ≡ Status.Done
         → Writes IsAcceptedByCheck (S.left source.old) (K.written sink.old) (K.written sink.new) }
 
+    // What `trace` does beside: `check` accepts its report.
+    ensures trace_accepted { Asks (map string_bytes words.now) Command.Trace → result ≡ Status.Done
+        → Writes IsAcceptedByCheck (S.left source.old) (K.written sink.old) (K.written sink.new) }
+
     // When each other status comes.
     ensures words { (result ≡ Status.Words) ↔ (command_of (map string_bytes words.now) ≡ None) }
     ensures read { result ≡ Status.Read → Rose (S.faults source.old) (S.faults source.new) }
     ensures refused { (command : Command) → Asks (map string_bytes words.now) command → result ≡ Status.Refused
-        → Writes (TellsRefusal (input_of command)) (S.left source.old) (K.written sink.old) (K.written sink.new) }
+        → Writes (TellsRefusal command) (S.left source.old) (K.written sink.old) (K.written sink.new) }
     ensures write { result ≡ Status.Write →
         Rose (K.faults sink.old) (K.faults sink.new) ⊎ Rose (K.stalls sink.old) (K.stalls sink.new) }
     ensures prefix { (command : Command) → Asks (map string_bytes words.now) command → result ≡ Status.Write
@@ -81,6 +88,12 @@ pub fn weave<R: Threads + Wait + Sync, S: Source, K: Sink, P: Pace>(
         → ¬ Rose (K.stalls sink.old) (K.stalls sink.new)
         → IfSome (S.left source.old) (λ input. CanBeTaken check_input input
         → ((result ≡ Status.Done) ⊎ (result ≡ Status.NotRight)) ⊎ (result ≡ Status.Memory)) }
+    ensures all_traced { Asks (map string_bytes words.now) Command.Trace
+        → ¬ Rose (S.faults source.old) (S.faults source.new)
+        → ¬ Rose (K.faults sink.old) (K.faults sink.new)
+        → ¬ Rose (K.stalls sink.old) (K.stalls sink.new)
+        → IfSome (S.left source.old) (λ input. CanBeTaken trace_input input
+        → (result ≡ Status.Done) ⊎ (result ≡ Status.Memory)) }
 {
     let _ = rt;
     let _ = pace;

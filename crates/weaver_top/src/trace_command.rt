@@ -1,0 +1,109 @@
+//! What `trace` answers to an input.
+ghost use Rattle.std.specs.Prelude.{◌≡◌, ◌≤◌, ◌<◌, ℕ, false, List, length, slice_get, Some, IfOk, OnOk};
+ghost use Rattle.std.specs.List.{AllByRecursion};
+ghost use Rattle.step_rules.specs.CoreState.{start_state};
+ghost use Rattle.step_rules.specs.IsCore.{IsStepOf};
+ghost use Rattle.step_rules.specs.Trace.{trace_of};
+ghost use Rattle.weave_script.specs.Scripts.{IsScript, steps_of};
+ghost use Rattle.weave_script.specs.ScriptLines.{IsTextOf};
+ghost use Rattle.weaver_core.specs.Cores.{IsBuilt};
+ghost use Rattle.weaver_top.specs.Answers.{IsAnswerTo, TellsTraceAccepted};
+ghost use Rattle.weaver_top.specs.Built.{is_unbuilt_for_trace};
+
+use crate::answer::{Answer, refusal};
+use crate::built::{has_program, has_untaken_step};
+use crate::command::Command;
+use crate::status::Status;
+use program_defs::{Script, Step};
+use report_rules::StepAnswer;
+use report_rules::laws::orders_are_of_replies_and_pairs;
+use std::alloc::{AllocError, Global};
+use weave_account::laws::account_is_right;
+use weave_data::Items;
+use weave_report::{print_report, printed_text_is_text};
+use weave_script::{
+    ScriptFault, read_script, report_texts_follow_script_texts, script_names_are_distinct,
+    scripts_are_small, texts_are_of_one_script, texts_are_read,
+};
+use weaver_core::Core;
+
+/// Reads the script, does its steps if `trace` takes it, and prints their report; or says why the input is refused.
+pub(crate) fn trace_on(alloc: Global, input: &[u8]) -> Result<Answer, AllocError>
+    requires { length input.now ≤ 4194304 }
+    ensures { IfOk result (IsAnswerTo Command.Trace input.now) }
+{
+    texts_are_read();
+    texts_are_of_one_script();
+    match read_script(alloc, input) {
+        Ok(script) => answer_for(alloc, script),
+        Err(ScriptFault::Refused { line, cause }) => refusal(alloc, line, cause.text()),
+        Err(ScriptFault::Memory) => Err(AllocError),
+    }
+}
+
+// Does the steps of the script if `trace` takes it.
+fn answer_for(alloc: Global, script: Script) -> Result<Answer, AllocError>
+    requires { IsScript script }
+    ensures { IfOk result (λ answer. (input : List ℕ)
+        → length input ≤ 4194304 → IsTextOf input script → IsAnswerTo Command.Trace input answer) }
+{
+    texts_are_of_one_script();
+    if has_program(&script) || has_untaken_step(&script) {
+        return refusal(alloc, 0, b"unbuilt");
+    }
+    Ok(Answer {
+        status: Status::Done,
+        text: report_of(alloc, script)?,
+    })
+}
+
+// Does the steps of a script that is built, and prints their report.
+fn report_of(alloc: Global, script: Script) -> Result<Vec<u8>, AllocError>
+    requires valid { IsScript script }
+    requires built { is_unbuilt_for_trace script ≡ false }
+    ensures { IfOk result (λ text. (input : List ℕ)
+        → length input ≤ 4194304 → IsTextOf input script → TellsTraceAccepted input text.items) }
+{
+    account_is_right();
+    orders_are_of_replies_and_pairs();
+    scripts_are_small();
+    script_names_are_distinct();
+    printed_text_is_text();
+    report_texts_follow_script_texts();
+    let mut core = Core::start(alloc, script)?;
+    let answers = traced(alloc, &mut core)?;
+    let mut report = core.report(alloc)?;
+    report.answers = answers;
+    let text = print_report(alloc, core.script(), &report)?;
+    Ok(text)
+}
+
+// Does the steps of the core's script, one after another, and gives their answers.
+fn traced(alloc: Global, core: &mut Core) -> Result<Items<StepAnswer>, AllocError>
+    requires start { core.old.state ≡ start_state core.old.script }
+    requires steps { AllByRecursion (IsStepOf core.old.script) (steps_of core.old.script.steps) }
+    requires built { AllByRecursion (IsBuilt core.old.script) (steps_of core.old.script.steps) }
+    ensures script { OnOk result (core.new.script ≡ core.old.script) }
+    ensures state { OnOk result (core.new.state ≡ (trace_of core.old.script (steps_of core.old.script.steps)).state) }
+    ensures answers { IfOk result (λ answers. answers
+        ≡ (trace_of core.old.script (steps_of core.old.script.steps)).answers) }
+{
+    let count = steps_of(core.script()).len();
+    let mut answers = Items::new(alloc);
+    for index in 0..count {
+        let step = steps_of(core.script())[index];
+        let answer = core.step(alloc, &step)?;
+        answers.push(answer)?;
+    }
+    Ok(answers)
+}
+
+// The steps of a script.
+fn steps_of(script: &Script) -> &[Step]
+    ensures { result.now ≡ steps_of script.now.steps }
+{
+    match &script.steps {
+        Some(steps) => steps.as_slice(),
+        None => &[],
+    }
+}
