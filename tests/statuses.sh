@@ -40,6 +40,25 @@ text=$("$program" check <"$scratch/wrong"); status=$?
 is "a wrong report: status" 6 $status
 is "a wrong report: text" "no iv 2" "$text"
 
+steps="$scratch/steps"
+printf 'weaver 1 2 1\ntx a 0 0\ncreate v\nend\ntx b 1 1\nget v\nend\nsteps\nbegin a\njudge 0\nbegin b\njudge 1\n' >"$steps"
+report=$'report 1\ntx a 0:0:1,0 committed 1\ntx b 0:1:0,1 committed 2\ngot 1 record\nsettled v a b\norder a b\ndid 1 ok\ndid 2 ok\ndid 3 ok\ndid 4 ok\nend'
+
+text=$("$program" trace <"$steps"); status=$?
+is "trace: status" 0 $status
+is "trace: text" "$report" "$text"
+
+text=$({ cat "$steps"; printf '%s\n' "$text"; } | "$program" check); status=$?
+is "the report of trace: status" 0 $status
+is "the report of trace: text" yes "$text"
+
+text=$(printf 'weaver 1 1 1\nprog p 0 0 show v\n' | "$program" trace); status=$?
+is "a script that trace doesn't take: status" 2 $status
+is "a script that trace doesn't take: text" "refused 0 unbuilt" "$text"
+
+text=$("$program" trace more <"$steps"); status=$?
+is "a word after trace: status" 5 $status
+
 text=$(printf 'weaver 1\n' | "$program" run); status=$?
 is "a refused script: status" 2 $status
 is "a refused script: text" "refused 1 header" "$text"
