@@ -20,18 +20,16 @@ use Rattle.weave_entries.specs.declared.shard_log.ShardDeed.TheVariants.{Arrived
 use Rattle.weave_entries.specs.ShardReplay.{arrived_at, processed_by, processed_count, head_of, updates_of, waits_at, first_unready, dropped_after, dropped_from}
 use Rattle.vector_stamp.specs.Precedence.{Given}
 use Rattle.weave_entries.specs.ShardRules.{updates_read, is_settled_by, IsKeptFor, IsTakable, PassesAt, FitsShard}
-use Rattle.shard_node.specs.Keeping.{chain_in_if, versions_from, IsInboxOf, IsReplayOf}
+use Rattle.shard_node.specs.declared.waiting.Waiting.{Waiting}
+use Rattle.shard_node.specs.Keeping.{chain_in_if, versions_from, head_in, LeadsTo, IsInboxOf, IsReplayOf}
+use Rattle.shard_node.proofs.Leading.{stamp_in, stamp_at, leads-new, leads-some, leads-stamp, leads-message, leads-still}
 use Rattle.shard_node.proofs.Places.{get_set_here, get_set_other, some_is}
 use Rattle.shard_node.proofs.Replay.{arrived-still, arrived-new, arrived-others, count-still, count-applied, updates-still, updates-applied, all-still, all-applied, dropped-push}
 use Rattle.shard_node.proofs.Updates.{chain_from, parts-on}
 
--- the stamp of a message
-abbrev pub stamp_in : Message → Stamp
-stamp_in message = message.stamp
-
 -- An inbox
 
-module _ (gate : ℕ) (log : List ShardEntry) (inbox : Incoming Message) (kept : IsInboxOf gate log inbox) where
+module _ (gate : ℕ) (log : List ShardEntry) (inbox : Incoming Waiting) (kept : IsInboxOf gate log inbox) where
   -- a number that has not arrived is above the processed ones
   above_processed : (number : ℕ) → 1 ≤ number → arrived_at gate number log ≡ None → processed_count gate log < number
   above_processed number some none = elim (cases_lt (processed_count gate log) number) [
@@ -42,43 +40,57 @@ module _ (gate : ℕ) (log : List ShardEntry) (inbox : Incoming Message) (kept :
   pub has-arrived : (number : ℕ) → 1 ≤ number → has_arrived number inbox ≡ is_some (arrived_at gate number log)
   has-arrived number some = elim (leb_tells number inbox.processed) [
     | inl within ↦ rw within.0 (sym (kept.arrived number some (subst (λ n. number ≤ n) kept.processed within.1)))
-    | inr above ↦ rw above.0 (ap is_some (kept.waits number (subst (λ n. n < number) kept.processed above.1)))
+    | inr above ↦ rw above.0 (leads-some log (waiting_at number inbox) (arrived_at gate number log) (kept.waits number (subst (λ n. n < number) kept.processed above.1)))
   ]
 
-  pub head-is : incoming.head_of inbox ≡ head_of gate log
-  head-is = ap (λ n. waiting_at (n + 1) inbox) kept.processed ∙ kept.waits (processed_count gate log + 1) (omega arith)
+  -- its head leads to the head of the channel
+  pub head-leads : LeadsTo log (incoming.head_of inbox) (head_of gate log)
+  head-leads = subst (λ (found : Option Waiting). LeadsTo log found (head_of gate log)) (sym (ap (λ n. waiting_at (n + 1) inbox) kept.processed)) (kept.waits (processed_count gate log + 1) (omega arith))
+
+  pub head-is : head_in log inbox ≡ head_of gate log
+  head-is = leads-message log (incoming.head_of inbox) (head_of gate log) head-leads
+
+  pub head-stamp : option_map stamp_at (incoming.head_of inbox) ≡ option_map stamp_in (head_of gate log)
+  head-stamp = leads-stamp log (incoming.head_of inbox) (head_of gate log) head-leads
+
+  -- a number that waits leads to what it led to in a longer log, if that has the same message under it
+  waits-still : (entry : ShardEntry) (number : ℕ) → processed_count gate log < number → arrived_at gate number (log ++ entry ∷ []) ≡ arrived_at gate number log → LeadsTo (log ++ entry ∷ []) (waiting_at number inbox) (arrived_at gate number (log ++ entry ∷ []))
+  waits-still entry number above same = subst (LeadsTo (log ++ entry ∷ []) (waiting_at number inbox)) (sym same) (leads-still log (entry ∷ []) (waiting_at number inbox) (arrived_at gate number log) (kept.waits number above))
 
   -- it is that of a longer log, if nothing happened on the channel
-  inbox-still : (longer : List ShardEntry) → processed_count gate longer ≡ processed_count gate log → ((number : ℕ) → arrived_at gate number longer ≡ arrived_at gate number log) → IsInboxOf gate longer inbox
-  inbox-still longer count same = record {
+  inbox-still : (entry : ShardEntry) → processed_count gate (log ++ entry ∷ []) ≡ processed_count gate log → ((number : ℕ) → arrived_at gate number (log ++ entry ∷ []) ≡ arrived_at gate number log) → IsInboxOf gate (log ++ entry ∷ []) inbox
+  inbox-still entry count same = record {
     processed = kept.processed ∙ sym count;
-    last = kept.last ∙ ap (option_map stamp_in) (sym (ap (λ n. arrived_at gate n longer) count ∙ same (processed_count gate log)));
-    waits = λ number above. kept.waits number (subst (λ n. n < number) count above) ∙ sym (same number);
+    last = kept.last ∙ ap (option_map stamp_in) (sym (ap (λ n. arrived_at gate n (log ++ entry ∷ [])) count ∙ same (processed_count gate log)));
+    waits = λ number above. waits-still entry number (subst (λ n. n < number) count above) (same number);
     arrived = λ number some within. ap is_some (same number) ∙ kept.arrived number some (subst (λ n. number ≤ n) count within);
     from_one = same 0 ∙ kept.from_one;
   }
 
   -- a message arrived
-  inbox-arrives : WaitingLaws stamp_in → (author number : ℕ) (message : Message) → 1 ≤ number → arrived_at gate number log ≡ None → IsInboxOf gate (log ++ record { author = author; deed = Arrived gate number message } ∷ []) (after_arrival number message inbox)
-  inbox-arrives laws author number message some none =
+  inbox-arrives : WaitingLaws stamp_at → (author number : ℕ) (message : Message) (waiting : Waiting) → waiting.place ≡ length log → waiting.stamp ≡ message.stamp → 1 ≤ number → arrived_at gate number log ≡ None → IsInboxOf gate (log ++ record { author = author; deed = Arrived gate number message } ∷ []) (after_arrival number waiting inbox)
+  inbox-arrives laws author number message waiting place stamp some none =
       let entry : ShardEntry = record { author = author; deed = Arrived gate number message } in
       let above = above_processed number some none in
       let new : has_arrived number inbox ≡ false = has-arrived number some ∙ ap is_some none in
       let count : processed_count gate (log ++ entry ∷ []) ≡ processed_count gate log = count-still log entry refl gate in
       let others : (k : ℕ) → number ≢ k → arrived_at gate k (log ++ entry ∷ []) ≡ arrived_at gate k log = λ k differ. arrived-others log author gate number message gate k (λ same. differ same.1) in
       record {
-        processed = laws.processed number message inbox ∙ kept.processed ∙ sym count;
-        last = laws.last number message inbox ∙ kept.last ∙ ap (option_map stamp_in) (sym (ap (λ n. arrived_at gate n (log ++ entry ∷ [])) count ∙ others (processed_count gate log) (λ same. omega (arith, same, above))));
+        processed = laws.processed number waiting inbox ∙ kept.processed ∙ sym count;
+        last = laws.last number waiting inbox ∙ kept.last ∙ ap (option_map stamp_in) (sym (ap (λ n. arrived_at gate n (log ++ entry ∷ [])) count ∙ others (processed_count gate log) (λ same. omega (arith, same, above))));
         waits = λ k over. elim (cases_eq k number) [
-          | inl same ↦ subst (λ n. waiting_at n (after_arrival number message inbox) ≡ arrived_at gate n (log ++ entry ∷ [])) (sym same) (laws.arrived number message inbox new ∙ sym (arrived-new log author gate number message none))
-          | inr differ ↦ laws.others number k message inbox differ ∙ kept.waits k (subst (λ n. n < k) count over) ∙ sym (others k (λ same. differ (sym same)))
+          | inl same ↦
+              let found : waiting_at k (after_arrival number waiting inbox) ≡ Some waiting = ap (λ n. waiting_at n (after_arrival number waiting inbox)) same ∙ laws.arrived number waiting inbox new in
+              let there : arrived_at gate k (log ++ entry ∷ []) ≡ Some message = ap (λ n. arrived_at gate n (log ++ entry ∷ [])) same ∙ arrived-new log author gate number message none in
+              subst (λ (x : Option Waiting). LeadsTo (log ++ entry ∷ []) x (arrived_at gate k (log ++ entry ∷ []))) (sym found) (subst (LeadsTo (log ++ entry ∷ []) (Some waiting)) (sym there) (leads-new log author gate number message waiting place stamp))
+          | inr differ ↦ subst (λ (x : Option Waiting). LeadsTo (log ++ entry ∷ []) x (arrived_at gate k (log ++ entry ∷ []))) (sym (laws.others number k waiting inbox differ)) (waits-still entry k (subst (λ n. n < k) count over) (others k (λ same. differ (sym same))))
         ];
         arrived = λ k from_one within. let below = subst (λ n. k ≤ n) count within in ap is_some (others k (λ same. omega (arith, same, above, below))) ∙ kept.arrived k from_one below;
         from_one = others 0 (λ same. omega (arith, same, some)) ∙ kept.from_one;
       }
 
   -- its head was processed
-  inbox-advances : WaitingLaws stamp_in → (author : ℕ) (head : Message) → head_of gate log ≡ Some head → IsInboxOf gate (log ++ record { author = author; deed = Applied gate (processed_count gate log + 1) } ∷ []) (after_head stamp_in inbox)
+  inbox-advances : WaitingLaws stamp_at → (author : ℕ) (head : Message) → head_of gate log ≡ Some head → IsInboxOf gate (log ++ record { author = author; deed = Applied gate (processed_count gate log + 1) } ∷ []) (after_head stamp_at inbox)
   inbox-advances laws author head is =
       let entry : ShardEntry = record { author = author; deed = Applied gate (processed_count gate log + 1) } in
       let count : processed_count gate (log ++ entry ∷ []) ≡ processed_count gate log + 1 = count-applied log author gate (processed_count gate log + 1) gate ∙ ap (λ (b : Bool). processed_count gate log + cond b 1 0) (eq-eqb gate gate refl) in
@@ -86,8 +98,10 @@ module _ (gate : ℕ) (log : List ShardEntry) (inbox : Incoming Message) (kept :
       let processed_is = kept.processed in
       record {
         processed = ap (λ n. n + 1) processed_is ∙ sym count;
-        last = ap (option_map stamp_in) (head-is ∙ sym (same (processed_count gate log + 1)) ∙ ap (λ n. arrived_at gate n (log ++ entry ∷ [])) (sym count));
-        waits = λ k over. let over_next = subst (λ n. n < k) count over in laws.still k inbox (λ at. omega (arith, at, over_next, processed_is)) ∙ kept.waits k (omega (arith, over_next)) ∙ sym (same k);
+        last = head-stamp ∙ ap (option_map stamp_in) (sym (same (processed_count gate log + 1)) ∙ ap (λ n. arrived_at gate n (log ++ entry ∷ [])) (sym count));
+        waits = λ k over.
+            let over_next = subst (λ n. n < k) count over in
+            subst (λ (x : Option Waiting). LeadsTo (log ++ entry ∷ []) x (arrived_at gate k (log ++ entry ∷ []))) (sym (laws.still k inbox (λ at. omega (arith, at, over_next, processed_is)))) (waits-still entry k (omega (arith, over_next)) (same k));
         arrived = λ k from_one within. let below = subst (λ n. k ≤ n) count within in elim (cases_eq k (processed_count gate log + 1)) [
           | inl at ↦ ap (λ n. is_some (arrived_at gate n (log ++ entry ∷ []))) at ∙ ap is_some (same (processed_count gate log + 1) ∙ is)
           | inr before ↦ ap is_some (same k) ∙ kept.arrived k from_one (elim (cases_lt k (processed_count gate log + 1)) [
@@ -103,7 +117,7 @@ pub inbox-new : (gate : ℕ) → IsInboxOf gate [] nothing_arrived
 inbox-new gate = record {
   processed = refl;
   last = refl;
-  waits = λ number above. refl;
+  waits = λ number above. tt;
   arrived = λ number some within. absurd (omega (arith, some, within));
   from_one = refl;
 }
@@ -120,7 +134,7 @@ other_count author gate log other differ =
 
 -- All that is kept
 
-module _ (gates : ℕ) (inboxes : List (Incoming Message)) (chains : Chains) (log : List ShardEntry) (kept : IsReplayOf gates inboxes chains log) where
+module _ (gates : ℕ) (inboxes : List (Incoming Waiting)) (chains : Chains) (log : List ShardEntry) (kept : IsReplayOf gates inboxes chains log) where
   -- nothing is dropped by a deed that drops nothing
   dropped-none : (entry : ShardEntry) → ((v : Name) (dropped : ℕ) → dropped_after v log entry.deed dropped ≡ dropped) → (v : Name) → dropped_from v [] (log ++ entry ∷ []) 0 ≡ 0
   dropped-none entry still v = dropped-push v [] log entry 0 ∙ still v (dropped_from v [] log 0) ∙ kept.nothing_dropped v
@@ -134,7 +148,7 @@ module _ (gates : ℕ) (inboxes : List (Incoming Message)) (chains : Chains) (lo
       ∙ sym (chain-is v (log ++ entry ∷ []) (dropped-none entry still v))
 
   -- with an inbox in its place the others stay
-  placed : (gate : ℕ) (next : Incoming Message) (longer : List ShardEntry) → gate < gates → IsInboxOf gate longer next → ((other : ℕ) (inbox : Incoming Message) → other ≢ gate → IsInboxOf other log inbox → IsInboxOf other longer inbox) → (other : ℕ) (inbox : Incoming Message) → slice_get (slice_set inboxes gate next) other ≡ Some inbox → IsInboxOf other longer inbox
+  placed : (gate : ℕ) (next : Incoming Waiting) (longer : List ShardEntry) → gate < gates → IsInboxOf gate longer next → ((other : ℕ) (inbox : Incoming Waiting) → other ≢ gate → IsInboxOf other log inbox → IsInboxOf other longer inbox) → (other : ℕ) (inbox : Incoming Waiting) → slice_get (slice_set inboxes gate next) other ≡ Some inbox → IsInboxOf other longer inbox
   placed gate next longer below here others other inbox at =
       let count = kept.count in
       elim (cases_eq other gate) [
@@ -145,16 +159,16 @@ module _ (gates : ℕ) (inboxes : List (Incoming Message)) (chains : Chains) (lo
       ]
 
   -- a message arrived
-  pub keeps_arrived : WaitingLaws stamp_in → (author gate number : ℕ) (message : Message) (inbox next : Incoming Message) (longer : List ShardEntry) → gate < gates → 1 ≤ number → IsTakable message → arrived_at gate number log ≡ None → slice_get inboxes gate ≡ Some inbox → next ≡ after_arrival number message inbox → longer ≡ log ++ record { author = author; deed = Arrived gate number message } ∷ [] → IsReplayOf gates (slice_set inboxes gate next) chains longer
-  keeps_arrived laws author gate number message inbox next longer below some takable none at is longer_is =
+  pub keeps_arrived : WaitingLaws stamp_at → (author gate number : ℕ) (message : Message) (waiting : Waiting) (inbox next : Incoming Waiting) (longer : List ShardEntry) → waiting.place ≡ length log → waiting.stamp ≡ message.stamp → gate < gates → 1 ≤ number → IsTakable message → arrived_at gate number log ≡ None → slice_get inboxes gate ≡ Some inbox → next ≡ after_arrival number waiting inbox → longer ≡ log ++ record { author = author; deed = Arrived gate number message } ∷ [] → IsReplayOf gates (slice_set inboxes gate next) chains longer
+  keeps_arrived laws author gate number message waiting inbox next longer place stamp below some takable none at is longer_is =
       let entry : ShardEntry = record { author = author; deed = Arrived gate number message } in
-      let here : IsInboxOf gate (log ++ entry ∷ []) next = subst (IsInboxOf gate (log ++ entry ∷ [])) (sym is) (inbox-arrives gate log inbox (kept.channels gate inbox at) laws author number message some none) in
+      let here : IsInboxOf gate (log ++ entry ∷ []) next = subst (IsInboxOf gate (log ++ entry ∷ [])) (sym is) (inbox-arrives gate log inbox (kept.channels gate inbox at) laws author number message waiting place stamp some none) in
       let still : (v : Name) (dropped : ℕ) → dropped_after v log entry.deed dropped ≡ dropped = λ v dropped. refl in
       subst (λ (l : List ShardEntry). IsReplayOf gates (slice_set inboxes gate next) chains l) (sym longer_is) (record {
         some_gate = kept.some_gate;
         few_gates = kept.few_gates;
         count = length-set inboxes gate next ∙ kept.count;
-        channels = placed gate next (log ++ entry ∷ []) below here (λ other one differ of. inbox-still other log one of (log ++ entry ∷ []) (count-still log entry refl other) (λ k. arrived-others log author gate number message other k (λ same. differ (sym same.0))));
+        channels = placed gate next (log ++ entry ∷ []) below here (λ other one differ of. inbox-still other log one of entry (count-still log entry refl other) (λ k. arrived-others log author gate number message other k (λ same. differ (sym same.0))));
         chains_are = chains-still entry refl still;
         takable = λ at_gate k one arrived. elim (cases_eq gate at_gate) [
           | inl same ↦ elim (cases_eq number k) [
@@ -171,10 +185,10 @@ module _ (gates : ℕ) (inboxes : List (Incoming Message)) (chains : Chains) (lo
       })
 
   -- a head was processed
-  pub keeps_applied : WaitingLaws stamp_in
-      → (author gate number : ℕ) (head : Message) (inbox next : Incoming Message) (after : Chains) (longer : List ShardEntry)
+  pub keeps_applied : WaitingLaws stamp_at
+      → (author gate number : ℕ) (head : Message) (inbox next : Incoming Waiting) (after : Chains) (longer : List ShardEntry)
       → gate < gates → head_of gate log ≡ Some head → waits_at head log ≡ None → PassesAt log head
-      → slice_get inboxes gate ≡ Some inbox → next ≡ after_head stamp_in inbox → number ≡ inbox.processed + 1
+      → slice_get inboxes gate ≡ Some inbox → next ≡ after_head stamp_at inbox → number ≡ inbox.processed + 1
       → ((v : Name) → chain_of after v ≡ after_parts head.stamp v (chain_of chains v) head.parts)
       → longer ≡ log ++ record { author = author; deed = Applied gate number } ∷ []
       → IsReplayOf gates (slice_set inboxes gate next) after longer
@@ -189,7 +203,7 @@ module _ (gates : ℕ) (inboxes : List (Incoming Message)) (chains : Chains) (lo
         some_gate = kept.some_gate;
         few_gates = kept.few_gates;
         count = length-set inboxes gate next ∙ kept.count;
-        channels = placed gate next (log ++ entry ∷ []) below here (λ other one differ of. inbox-still other log one of (log ++ entry ∷ []) (other_count author gate log other (λ same. differ (sym same))) (λ k. arrived-still log entry refl other k));
+        channels = placed gate next (log ++ entry ∷ []) below here (λ other one differ of. inbox-still other log one of entry (other_count author gate log other (λ same. differ (sym same))) (λ k. arrived-still log entry refl other k));
         chains_are = λ v.
             applied v
             ∙ ap (λ (chain : Option ChainView). after_parts head.stamp v chain head.parts) (kept.chains_are v ∙ chain-is v log (kept.nothing_dropped v))
@@ -216,7 +230,7 @@ module _ (gates : ℕ) (inboxes : List (Incoming Message)) (chains : Chains) (lo
         some_gate = kept.some_gate;
         few_gates = kept.few_gates;
         count = kept.count;
-        channels = λ gate inbox at. inbox-still gate log inbox (kept.channels gate inbox at) (log ++ entry ∷ []) (count-still log entry refl gate) (λ k. arrived-still log entry refl gate k);
+        channels = λ gate inbox at. inbox-still gate log inbox (kept.channels gate inbox at) entry (count-still log entry refl gate) (λ k. arrived-still log entry refl gate k);
         chains_are = chains-still entry refl still;
         takable = λ at_gate k one arrived. kept.takable at_gate k one (sym (arrived-still log entry refl at_gate k) ∙ arrived);
         all_arrived = all-still log entry refl kept.all_arrived;
@@ -225,14 +239,14 @@ module _ (gates : ℕ) (inboxes : List (Incoming Message)) (chains : Chains) (lo
       })
 
 -- before the first entry nothing has arrived, and no vertex has updates
-pub keeps_none : (gates : ℕ) (inboxes : List (Incoming Message)) (chains : Chains) (log : List ShardEntry) → log ≡ [] → 1 ≤ gates → gates ≤ 8 → length inboxes ≡ gates → All (λ (inbox : Incoming Message). inbox ≡ nothing_arrived) inboxes → ((v : Name) → chain_of chains v ≡ None) → IsReplayOf gates inboxes chains log
+pub keeps_none : (gates : ℕ) (inboxes : List (Incoming Waiting)) (chains : Chains) (log : List ShardEntry) → log ≡ [] → 1 ≤ gates → gates ≤ 8 → length inboxes ≡ gates → All (λ (inbox : Incoming Waiting). inbox ≡ nothing_arrived) inboxes → ((v : Name) → chain_of chains v ≡ None) → IsReplayOf gates inboxes chains log
 keeps_none gates inboxes chains log log_is some few count empty none =
     subst (λ (l : List ShardEntry). IsReplayOf gates inboxes chains l) (sym log_is) (record {
       some_gate = some;
       few_gates = few;
       count = count;
       channels = λ gate inbox at.
-          let new : inbox ≡ nothing_arrived = subst (λ (one : Incoming Message). one ≡ nothing_arrived) (get_or_from_slice_get inboxes gate inbox inbox at) (empty gate inbox (slice_get_within inboxes gate inbox at)) in
+          let new : inbox ≡ nothing_arrived = subst (λ (one : Incoming Waiting). one ≡ nothing_arrived) (get_or_from_slice_get inboxes gate inbox inbox at) (empty gate inbox (slice_get_within inboxes gate inbox at)) in
           subst (IsInboxOf gate []) (sym new) (inbox-new gate);
       chains_are = none;
       takable = λ gate number message arrived. let never : None ≡ Some message = arrived in absurd cc;

@@ -1,4 +1,5 @@
 pub mod Places
+pub mod Leading
 pub mod Replay
 pub mod Updates
 pub mod Keeping

@@ -23,10 +23,12 @@ use Rattle.weave_entries.specs.declared.message.Message.{Message}
 use Rattle.weave_entries.specs.declared.shard_log.ShardEntry.{ShardEntry}
 use Rattle.weave_entries.specs.ShardReplay.{Update, arrived_at, processed_count, head_of, last_of, updates_of, waits_at, state_of_updates, is_past, is_ready_for, first_unready, kept_of}
 use Rattle.weave_entries.specs.ShardRules.{update_stamps, kept_stamps, updates_read, PassesAt}
-use Rattle.shard_node.specs.Keeping.{versions_from, chain_in, first_differing, is_after, is_channel_ready, first_not_ready, IsInboxOf, IsReplayOf}
+use Rattle.shard_node.specs.declared.waiting.Waiting.{Waiting}
+use Rattle.shard_node.specs.Keeping.{versions_from, chain_in, head_in, first_differing, is_after, is_channel_ready, first_not_ready, IsInboxOf, IsReplayOf}
 use Rattle.shard_node.proofs.Replay.{processed_are_few}
 use Rattle.shard_node.proofs.Updates.{chain_from, or_new, count-is, newest-state-is, kept-stamps-are, length-versions}
-use Rattle.shard_node.proofs.Keeping.{stamp_in, has-arrived, head-is, chain-is}
+use Rattle.shard_node.proofs.Leading.{stamp_in, leads-some}
+use Rattle.shard_node.proofs.Keeping.{has-arrived, head-leads, head-is, head-stamp, chain-is}
 
 none_mapped : {A B : Type 0} (f : A → B) (x : Option A) → option_map f x ≡ None → x ≡ None
 none_mapped f None none = refl
@@ -44,16 +46,16 @@ after-is : (stamp : Stamp) (found : Option Message) → is_after stamp (option_m
 after-is stamp None = refl
 after-is stamp (Some message) = refl
 
-ready-is : (stamp : Stamp) (gate : ℕ) (log : List ShardEntry) (inbox : Incoming Message) → IsInboxOf gate log inbox → is_channel_ready stamp inbox ≡ is_ready_for stamp log gate
+ready-is : (stamp : Stamp) (gate : ℕ) (log : List ShardEntry) (inbox : Incoming Waiting) → IsInboxOf gate log inbox → is_channel_ready stamp inbox ≡ is_ready_for stamp log gate
 ready-is stamp gate log inbox kept =
-    (λ i. is_after stamp (kept.last i) || is_after stamp (option_map stamp_in (head-is gate log inbox kept i)))
+    (λ i. is_after stamp (kept.last i) || is_after stamp (head-stamp gate log inbox kept i))
     ∙ (λ i. after-is stamp (last_of gate log) i || after-is stamp (head_of gate log) i)
 
 turned : {A : Type 0} (ready : Bool) (x y : A) → cond ready x y ≡ cond (not ready) y x
 turned true x y = refl
 turned false x y = refl
 
-unready-from : (place : ℕ) (stamp : Stamp) (inboxes : List (Incoming Message)) (log : List ShardEntry) → ((k : ℕ) (inbox : Incoming Message) → slice_get inboxes k ≡ Some inbox → is_channel_ready stamp inbox ≡ is_ready_for stamp log (place + k)) → first_not_ready place stamp inboxes ≡ find (λ gate. not (is_ready_for stamp log gate)) (range_with_len place (length inboxes))
+unready-from : (place : ℕ) (stamp : Stamp) (inboxes : List (Incoming Waiting)) (log : List ShardEntry) → ((k : ℕ) (inbox : Incoming Waiting) → slice_get inboxes k ≡ Some inbox → is_channel_ready stamp inbox ≡ is_ready_for stamp log (place + k)) → first_not_ready place stamp inboxes ≡ find (λ gate. not (is_ready_for stamp log gate)) (range_with_len place (length inboxes))
 unready-from place stamp [] log each = refl
 unready-from place stamp (inbox ∷ inboxes) log each =
     let at_place : place + 0 ≡ place = omega arith in
@@ -62,12 +64,12 @@ unready-from place stamp (inbox ∷ inboxes) log each =
     unready-from (place + 1) stamp inboxes log (λ k one at. each (suc k) one at ∙ ap (is_ready_for stamp log) (omega arith)) in
     (λ i. cond (here i) (rest i) (Some place)) ∙ turned (is_ready_for stamp log place) (find (λ gate. not (is_ready_for stamp log gate)) (range_with_len (place + 1) (length inboxes))) (Some place)
 
-module _ (gates : ℕ) (inboxes : List (Incoming Message)) (chains : Chains) (log : List ShardEntry) (kept : IsReplayOf gates inboxes chains log) where
+module _ (gates : ℕ) (inboxes : List (Incoming Waiting)) (chains : Chains) (log : List ShardEntry) (kept : IsReplayOf gates inboxes chains log) where
   -- the inbox of a gatekeeper is in its place
-  pub at_gate : (gate : ℕ) (inbox : Incoming Message) → gate < gates → inbox ≡ get_or inboxes gate inbox → slice_get inboxes gate ≡ Some inbox
+  pub at_gate : (gate : ℕ) (inbox : Incoming Waiting) → gate < gates → inbox ≡ get_or inboxes gate inbox → slice_get inboxes gate ≡ Some inbox
   at_gate gate inbox below is = let count = kept.count in slice_get_read inboxes _ gate inbox refl (omega (arith, below, count)) is
 
-  pub arrived-is : (gate number : ℕ) (inbox : Incoming Message) → slice_get inboxes gate ≡ Some inbox → 1 ≤ number → has_arrived number inbox ≡ is_some (arrived_at gate number log)
+  pub arrived-is : (gate number : ℕ) (inbox : Incoming Waiting) → slice_get inboxes gate ≡ Some inbox → 1 ≤ number → has_arrived number inbox ≡ is_some (arrived_at gate number log)
   arrived-is gate number inbox at some = has-arrived gate log inbox (kept.channels gate inbox at) number some
 
   pub unready-is : (stamp : Stamp) → first_not_ready 0 stamp inboxes ≡ first_unready gates stamp log
@@ -75,14 +77,22 @@ module _ (gates : ℕ) (inboxes : List (Incoming Message)) (chains : Chains) (lo
       unready-from 0 stamp inboxes log (λ k inbox at. ready-is stamp k log inbox (kept.channels k inbox at) ∙ ap (is_ready_for stamp log) (omega arith))
       ∙ ap (λ n. find (λ gate. not (is_ready_for stamp log gate)) (range_with_len 0 n)) kept.count
 
-  pub inbox-head : (gate : ℕ) (inbox : Incoming Message) → slice_get inboxes gate ≡ Some inbox → incoming.head_of inbox ≡ head_of gate log
+  pub inbox-head : (gate : ℕ) (inbox : Incoming Waiting) → slice_get inboxes gate ≡ Some inbox → head_in log inbox ≡ head_of gate log
   inbox-head gate inbox at = head-is gate log inbox (kept.channels gate inbox at)
 
+  -- what was found in the log's items is the head
+  pub head-found : (gate : ℕ) (inbox : Incoming Waiting) (items : List ShardEntry) (found : Option Message) → slice_get inboxes gate ≡ Some inbox → items ≡ log → found ≡ head_in items inbox → head_of gate log ≡ found
+  head-found gate inbox items found at same is = sym (inbox-head gate inbox at) ∙ ap (λ (l : List ShardEntry). head_in l inbox) (sym same) ∙ sym is
+
+  -- and then something waits there
+  pub head-waits : (gate : ℕ) (inbox : Incoming Waiting) (head : Message) → slice_get inboxes gate ≡ Some inbox → head_of gate log ≡ Some head → is_some (incoming.head_of inbox) ≡ true
+  head-waits gate inbox head at is = leads-some log (incoming.head_of inbox) (head_of gate log) (head-leads gate log inbox (kept.channels gate inbox at)) ∙ ap is_some is
+
   -- its next number is one more than what was processed, which the log bounds
-  pub number-is : (gate : ℕ) (inbox : Incoming Message) → slice_get inboxes gate ≡ Some inbox → inbox.processed ≡ processed_count gate log
+  pub number-is : (gate : ℕ) (inbox : Incoming Waiting) → slice_get inboxes gate ≡ Some inbox → inbox.processed ≡ processed_count gate log
   number-is gate inbox at = (kept.channels gate inbox at).processed
 
-  pub processed-few : (gate : ℕ) (inbox : Incoming Message) → slice_get inboxes gate ≡ Some inbox → inbox.processed ≤ length log
+  pub processed-few : (gate : ℕ) (inbox : Incoming Waiting) → slice_get inboxes gate ≡ Some inbox → inbox.processed ≤ length log
   processed-few gate inbox at = let few = processed_are_few gate log in subst (λ n. n ≤ length log) (sym (number-is gate inbox at)) few
 
   -- Chains

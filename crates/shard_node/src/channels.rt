@@ -1,15 +1,16 @@
 //! The incoming channels of a shard.
-ghost use Rattle.std.specs.Prelude.{◌≡◌, ◌<◌, ◌^◌, All, length, IfOk, vec_len};
-ghost use Rattle.shard_queue.specs.Incoming.{nothing_arrived};
+ghost use Rattle.std.specs.Prelude.{◌≡◌, ◌+◌, ◌<◌, ◌^◌, All, length, IfOk, IsSome, vec_len};
+ghost use Rattle.shard_queue.specs.Incoming.{nothing_arrived, head_of, after_head};
+ghost use Rattle.shard_node.specs.declared.waiting.Waiting.{Waiting};
 ghost use Rattle.shard_node.specs.Keeping.{is_channel_ready, first_not_ready};
 
+use crate::waiting::Waiting;
 use shard_queue::Inbox;
 use std::alloc::{AllocError, Global};
 use vector_stamp::{Stamp, Stamped};
-use weave_entries::Message;
 
 /// A channel from each gatekeeper, on which nothing arrived yet.
-pub(crate) fn empty_channels(alloc: Global, gates: u32) -> Result<Vec<Inbox<Message>>, AllocError>
+pub(crate) fn empty_channels(alloc: Global, gates: u32) -> Result<Vec<Inbox<Waiting>>, AllocError>
     ensures count { IfOk result (λ channels. vec_len channels ≡ gates) }
     ensures empty { IfOk result (λ channels. All (λ channel. channel ≡ nothing_arrived) channels.items) }
 {
@@ -21,7 +22,7 @@ pub(crate) fn empty_channels(alloc: Global, gates: u32) -> Result<Vec<Inbox<Mess
 }
 
 /// Whether the last processed message of a channel, or its head, has a stamp after this one.
-pub(crate) fn is_ready(channel: &Inbox<Message>, stamp: &Stamp) -> bool
+pub(crate) fn is_ready(channel: &Inbox<Waiting>, stamp: &Stamp) -> bool
     ensures { result ≡ is_channel_ready stamp.now channel.now }
 {
     if let Some(last) = channel.last() {
@@ -36,7 +37,7 @@ pub(crate) fn is_ready(channel: &Inbox<Message>, stamp: &Stamp) -> bool
 }
 
 /// The least gatekeeper whose channel is not ready.
-pub(crate) fn first_unready(channels: &[Inbox<Message>], stamp: &Stamp) -> Option<u32>
+pub(crate) fn first_unready(channels: &[Inbox<Waiting>], stamp: &Stamp) -> Option<u32>
     requires { length channels.now < 2 ^ 32 }
     ensures { result ≡ first_not_ready 0 stamp.now channels.now }
 {
@@ -46,4 +47,16 @@ pub(crate) fn first_unready(channels: &[Inbox<Message>], stamp: &Stamp) -> Optio
         }
     }
     None
+}
+
+/// Goes on to the next message of a channel, and answers the number of the one that was processed.
+pub(crate) fn pass_head(channel: &mut Inbox<Waiting>) -> u64
+    requires head { IsSome (head_of channel.old) }
+    requires number { channel.old.processed + 1 < u64.MAX }
+    ensures number { result ≡ channel.old.processed + 1 }
+    ensures next { channel.new ≡ after_head (λ (waiting : Waiting). waiting.stamp) channel.old }
+{
+    let number = channel.next();
+    channel.advance();
+    number
 }

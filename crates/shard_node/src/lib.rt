@@ -10,6 +10,7 @@ mod shard;
 #[cfg(test)]
 mod tests;
 mod turns;
+mod waiting;
 
 pub use fault::{ApplyFault, VisitFault};
 pub use shard::Shard;

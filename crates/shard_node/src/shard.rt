@@ -12,9 +12,10 @@ ghost use Rattle.weave_entries.specs.ShardReplay.{arrived_at, processed_count, h
 ghost use Rattle.weave_entries.specs.ShardRules.{kept_stamps, updates_read, is_settled_by, pairs_after_visit, entries_of_visit, is_judge_asked, IsKeptFor, IsTakable, PassesAt, IsShardLog};
 ghost use Rattle.shard_node.specs.Shards.{AddsEntry, IsNext, IsRightlyUnapplied, IsRightlyUnread};
 
-use crate::channels::{empty_channels, first_unready};
+use crate::channels::{empty_channels, first_unready, pass_head};
 use crate::fault::{ApplyFault, VisitFault};
 use crate::turns::first_waiting;
+use crate::waiting::{Waiting, head_message};
 use graph_ops::Record;
 use shard_queue::laws::each_number_waits_by_itself;
 use shard_queue::{Arrival, Inbox};
@@ -24,7 +25,7 @@ use vector_stamp::laws::the_last_update_read_is_seen;
 use vector_stamp::{Judge, Stamp};
 use version_chain::View;
 use version_graph::VersionGraph;
-use weave_data::{Copied, Name};
+use weave_data::Name;
 use weave_entries::{Message, ShardDeed, ShardEntry};
 
 /// A shard. Contracts see its number, the number of gatekeepers, and its log.
@@ -32,7 +33,7 @@ use weave_entries::{Message, ShardDeed, ShardEntry};
 pub struct Shard {
     number: u32,
     pub(crate) gates: u32,
-    pub(crate) channels: Vec<Inbox<Message>>,
+    pub(crate) channels: Vec<Inbox<Waiting>>,
     pub(crate) graph: VersionGraph,
     pub(crate) log: Vec<ShardEntry>,
 }
@@ -83,18 +84,21 @@ impl Shard {
         ensures repeat { IfOk result (λ arrival. arrival ≡ Arrival.Repeat → self.new ≡ self.old) }
         ensures refused { OnErr result (self.new ≡ self.old) }
     {
-        each_number_waits_by_itself::<Message>();
+        each_number_waits_by_itself::<Waiting>();
         let channel = &mut self.channels[gate as usize];
         if channel.has(number) {
             return Ok(Arrival::Repeat);
         }
-        let copied = message.copy(alloc)?;
         self.log.reserve(1)?;
-        channel.arrive(alloc, number, message)?;
+        let waiting = Waiting {
+            place: self.log.len(),
+            stamp: message.stamp,
+        };
+        channel.arrive(alloc, number, waiting)?;
         let deed = ShardDeed::Arrived {
             gate,
             number,
-            message: copied,
+            message,
         };
         self.log.push_reserved(ShardEntry { author, deed });
         Ok(Arrival::Kept)
@@ -111,19 +115,18 @@ impl Shard {
         ensures refused { IfErr result (λ fault. IsRightlyUnapplied gate self.old.log fault) }
         ensures unchanged { OnErr result (self.new ≡ self.old) }
     {
-        each_number_waits_by_itself::<Message>();
+        each_number_waits_by_itself::<Waiting>();
         let channel = &mut self.channels[gate as usize];
-        let Some(head) = channel.head() else {
+        self.log.reserve(1)?;
+        let Some(head) = head_message(channel, self.log.as_slice()) else {
             return Err(ApplyFault::Empty);
         };
         if let Some(vertex) = first_waiting(&self.graph, head.parts.as_slice()) {
             return Err(ApplyFault::Waits { vertex });
         }
-        self.log.reserve(1)?;
         self.graph
             .apply_parts(alloc, head.stamp, head.parts.as_slice())?;
-        let number = channel.next();
-        channel.advance();
+        let number = pass_head(channel);
         let deed = ShardDeed::Applied { gate, number };
         self.log.push_reserved(ShardEntry { author, deed });
         Ok(())

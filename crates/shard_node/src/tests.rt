@@ -12,6 +12,7 @@ ghost use Rattle.weave_entries.specs.ShardReplay.{head_of};
 ghost use Rattle.weave_entries.specs.ShardRules.{IsTakable, PassesAt};
 ghost use Rattle.shard_node.specs.TestWords.{arrived_stamps};
 
+use crate::waiting::head_message;
 use crate::{ApplyFault, Arrival, Shard, VisitFault};
 use graph_ops::{Name, Op, Part, Record, apply_op};
 use std::alloc::Global;
@@ -293,7 +294,7 @@ fn head_passes(rt: &impl Abort, alloc: Global, shard: &Shard, gate: u32) -> bool
     ensures { IsTrue result → (head : Message) → head_of gate shard.now.log ≡ Some head → PassesAt shard.now.log head }
 {
     let channel = &shard.channels[gate as usize];
-    let Some(head) = channel.head() else {
+    let Some(head) = head_message(channel, shard.log.as_slice()) else {
         return true;
     };
     parts_pass(rt, alloc, &shard.graph, head.parts.as_slice())

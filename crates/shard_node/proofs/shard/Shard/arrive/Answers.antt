@@ -1,8 +1,10 @@
-use Rattle.std.proofs.Common.{◌≡◌, ◌++◌, ◌∷◌, [], ◌<◌, Bool, true, false, cond, is_some, sym, ap, subst, ◌∙◌}
+use Rattle.std.proofs.Common.{◌≡◌, ◌++◌, ◌∷◌, [], ◌<◌, Bool, true, false, cond, is_some, List, length, refl, sym, ap, subst, ◌∙◌, arith}
 use Rattle.shard_queue.specs.Incoming.{has_arrived}
 use Rattle.shard_queue.specs.declared.inbox.Arrival.TheVariants.{Kept, Repeat}
+use Rattle.weave_entries.specs.declared.shard_log.ShardEntry.{ShardEntry}
 use Rattle.weave_entries.specs.declared.shard_log.ShardDeed.TheVariants.{Arrived}
 use Rattle.weave_entries.specs.ShardReplay.{arrived_at}
+use Rattle.shard_node.specs.declared.waiting.Waiting.{Waiting}
 use Rattle.shard_node.specs.Shards.{ShardView}
 use Rattle.shard_node.proofs.Keeping.{keeps_arrived}
 use Rattle.shard_node.proofs.Ready.{not_there, at_gate, arrived-is}
@@ -10,14 +12,17 @@ use Rattle.shard_node.proofs.shard.Shard.arrive.Goals as goal
 
 pub invariant_of-self-2 : goal.invariant_of-self-2
 invariant_of-self-2 c =
+    let same : length c.reserve.new.self.items ≡ length c.self.inside.log.items = ap length c.reserve.ensures.items in
+    let place : c.len.result ≡ length c.self.inside.log.items = omega (arith, c.len.ensures, c.reserve.new.self.ok.0, same) in
     let inbox = c.index_mut-channel.result.now in
     let below : c.args.gate < c.self.inside.gates = subst (λ (v : ShardView). c.args.gate < v.gates) (sym c.self.view_is) c.requires.gate in
     let at = at_gate _ _ _ _ c.self.invariant c.args.gate inbox below c.index_mut-channel.ensures.value in
     let new : has_arrived c.args.number inbox ≡ false = sym c.has.ensures ∙ c.if-has.false in
     let none = not_there _ (sym (arrived-is _ _ _ _ c.self.invariant c.args.gate c.args.number inbox at c.requires.number) ∙ new) in
-    keeps_arrived _ _ _ _ c.self.invariant c.each_number_waits_by_itself.ensures c.args.author c.args.gate c.args.number c.args.message inbox c.arrive.new.self _ below c.requires.number c.requires.message none at
+    let waiting : Waiting = record { place = c.len.result; stamp = c.args.message.stamp } in
+    keeps_arrived _ _ _ _ c.self.invariant c.each_number_waits_by_itself.ensures c.args.author c.args.gate c.args.number c.args.message waiting inbox c.arrive.new.self _ place refl below c.requires.number c.requires.message none at
     c.in_ok-arrive.ensures.inbox
-    (c.push_reserved.ensures.items ∙ (λ i. c.reserve.ensures.items i ++ record { author = c.args.author; deed = Arrived c.args.gate c.args.number (c.in_ok-copied.ensures i) } ∷ []))
+    (c.push_reserved.ensures.items ∙ ap (λ (l : List ShardEntry). l ++ record { author = c.args.author; deed = Arrived c.args.gate c.args.number c.args.message } ∷ []) c.reserve.ensures.items)
 
 pub returns-clause-answer : goal.returns-clause-answer
 returns-clause-answer c =
