@@ -6,6 +6,7 @@ use Rattle.weave_script.specs.declared.fault.LineFault.{LineFault}
 use Rattle.weave_script.specs.declared.fault.LineFault.TheVariants as line_fault
 use Rattle.weave_script.specs.declared.part.Taken.{Taken}
 use Rattle.weave_script.specs.declared.part.Taken.TheVariants as taken
+use Rattle.weave_script.specs.declared.reader.Reader.{Reader}
 use Rattle.weave_script.specs.declared.reading.Place.{Place}
 use Rattle.weave_script.specs.declared.reading.Place.TheVariants.{Start, Between, Inside, Behind}
 use Rattle.weave_script.specs.declared.reading.Reading.{Reading}
@@ -48,8 +49,8 @@ same_end : (report : Bool) (reading : Reading) (line : Line) → ends_before rep
 same_end report reading line = ap (λ begins. report && is_open reading.place && begins) (same_report line)
 
 -- a line is taken as its first twelve words are
-pub Takes-few : (report : Bool) (reading : Reading) (line : Line) (result : Result Taken LineFault) → Takes report reading (take 12 line) result → Takes report reading line result
-Takes-few report reading line (Ok (taken.Line reader)) (ready, ends, read) = (ready, sym (same_end report reading line) ∙ ends, sym (same_line reading line) ∙ read)
-Takes-few report reading line (Ok (taken.Nothing reader)) (ready, same, ends) = (ready, same, sym (same_end report reading line) ∙ ends)
-Takes-few report reading line (Err (line_fault.Refused cause)) (ends, read) = (sym (same_end report reading line) ∙ ends, sym (same_line reading line) ∙ read)
-Takes-few report reading line (Err line_fault.Memory) taken = tt
+pub Takes-few : (report : Bool) (reading : Reading) (line : Line) (reader : Reader) (result : Result Taken LineFault) → Takes report reading (take 12 line) reader result → Takes report reading line reader result
+Takes-few report reading line reader (Ok taken.Line) (ready, ends, read) = (ready, sym (same_end report reading line) ∙ ends, sym (same_line reading line) ∙ read)
+Takes-few report reading line reader (Ok taken.Nothing) (ready, same, ends) = (ready, same, sym (same_end report reading line) ∙ ends)
+Takes-few report reading line reader (Err (line_fault.Refused cause)) (ends, read) = (sym (same_end report reading line) ∙ ends, sym (same_line reading line) ∙ read)
+Takes-few report reading line reader (Err line_fault.Memory) taken = tt

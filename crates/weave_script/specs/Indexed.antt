@@ -43,8 +43,8 @@ pub record IsReady (reader : Reader) : Type 0 where
   pub indexed : IsIndexed reader
   pub within : over_limit (counts_so_far reader.reading) ≡ None
 
--- a function gives the reader after a line, or the line's cause, unless memory runs out
-abbrev pub Gives : (Reader → Type 0) → Result Reader LineFault → Read Reading → Type 0
-Gives Fits (Ok reader) read = (read ≡ Ok reader.reading) × Fits reader
-Gives Fits (Err (Refused cause)) read = read ≡ Err cause
-Gives Fits (Err Memory) read = Unit {0}
+-- a function changes the reader to that after a line, or gives the line's cause, unless memory runs out
+abbrev pub Gives : (Reader → Type 0) → Result Unit LineFault → Reader → Read Reading → Type 0
+Gives Fits (Ok done) reader read = (read ≡ Ok reader.reading) × Fits reader
+Gives Fits (Err (Refused cause)) reader read = read ≡ Err cause
+Gives Fits (Err Memory) reader read = Unit {0}

@@ -10,6 +10,7 @@ use Rattle.weave_script.specs.declared.head.Head.{Head}
 use Rattle.weave_script.specs.declared.part.Part.{Part}
 use Rattle.weave_script.specs.declared.part.Taken.{Taken}
 use Rattle.weave_script.specs.declared.part.Taken.TheVariants as taken
+use Rattle.weave_script.specs.declared.reader.Reader.{Reader}
 use Rattle.weave_script.specs.declared.reading.Reading.{Reading}
 use Rattle.weave_script.specs.Indexed.{IsReady}
 use Rattle.weave_script.specs.ReadText.{Fault, is_open, is_report}
@@ -26,12 +27,12 @@ GivesPart (Err Memory) read = Unit {0}
 abbrev pub ends_before : Bool → Reading → Line → Bool
 ends_before report reading line = report && is_open reading.place && is_report line
 
--- what a line of these words is taken as, where it isn't skipped, unless memory runs out
-abbrev pub Takes : Bool → Reading → Line → Result Taken LineFault → Type 0
-Takes report reading line (Ok (taken.Line reader)) = IsReady reader × (ends_before report reading line ≡ false) × (after_line reading line ≡ Ok reader.reading)
-Takes report reading line (Ok (taken.Nothing reader)) = IsReady reader × (reader.reading ≡ reading) × (ends_before report reading line ≡ true)
-Takes report reading line (Err (line_fault.Refused cause)) = (ends_before report reading line ≡ false) × (after_line reading line ≡ Err cause)
-Takes report reading line (Err line_fault.Memory) = Unit {0}
+-- what a line of these words is taken as, where it isn't skipped, and the reader after it, unless memory runs out
+abbrev pub Takes : Bool → Reading → Line → Reader → Result Taken LineFault → Type 0
+Takes report reading line reader (Ok taken.Line) = IsReady reader × (ends_before report reading line ≡ false) × (after_line reading line ≡ Ok reader.reading)
+Takes report reading line reader (Ok taken.Nothing) = IsReady reader × (reader.reading ≡ reading) × (ends_before report reading line ≡ true)
+Takes report reading line reader (Err (line_fault.Refused cause)) = (ends_before report reading line ≡ false) × (after_line reading line ≡ Err cause)
+Takes report reading line reader (Err line_fault.Memory) = Unit {0}
 
 -- the script before a report, or the fault of the text, unless memory runs out
 abbrev pub GivesHead : Result Head ScriptFault → Result text.Head Fault → Type 0

@@ -1,5 +1,5 @@
 //! The lines of a text, up to where its script ends.
-ghost use Rattle.std.specs.Prelude.{◌≡◌, ◌≤◌, ◌<◌, ◌^◌, ◌+◌, map, length, IfOk, IsTrue};
+ghost use Rattle.std.specs.Prelude.{◌≡◌, ◌≤◌, ◌<◌, ◌^◌, ◌+◌, map, take, length, IfOk, OnOk};
 ghost use Rattle.weave_text.specs.Cutting.{lines_of, words_of, is_skipped};
 ghost use Rattle.weave_script.specs.Indexed.{IsReady};
 ghost use Rattle.weave_script.specs.Parts.{GivesPart, Takes};
@@ -10,8 +10,8 @@ use crate::fault::{Cause, LineFault, ScriptFault};
 use crate::limits::MOST_BYTES;
 use crate::reader::{Reader, after_line, start};
 use crate::reading::Place;
-use std::alloc::Global;
-use weave_text::{first_line, first_words, is, is_skipped};
+use std::alloc::{AllocError, Global};
+use weave_text::{Pieces, first_line, is, is_skipped};
 
 /// No line of the grammar has as many words, so those behind them aren't looked at.
 const MOST_WORDS: usize = 12;
@@ -46,13 +46,14 @@ fn read_on(alloc: Global, report: bool, bytes: &[u8]) -> Result<Part<'_>, Script
     ensures room { IfOk result (λ part. part.line + length part.left.now ≤ 4194305) }
 {
     let mut reader = start(alloc);
+    let mut words = Vec::new(alloc);
     let mut line = 1;
     let mut left = bytes;
     while let Some((first, rest)) = first_line(left) {
         if !is_skipped(first) {
-            match take(alloc, report, reader, first) {
-                Ok(Taken::Line(next)) => reader = next,
-                Ok(Taken::Nothing(reader)) => return Ok(Part { reader, line, left }),
+            match take(alloc, report, &mut reader, &mut words, first) {
+                Ok(Taken::Line) => {}
+                Ok(Taken::Nothing) => return Ok(Part { reader, line, left }),
                 Err(LineFault::Refused(cause)) => return Err(ScriptFault::Refused { line, cause }),
                 Err(LineFault::Memory) => return Err(ScriptFault::Memory),
             }
@@ -64,36 +65,50 @@ fn read_on(alloc: Global, report: bool, bytes: &[u8]) -> Result<Part<'_>, Script
 }
 
 /// What a line was taken as.
-#[derive(Drop)]
+#[derive(Clone, Copy)]
 pub(crate) enum Taken {
     /// It is one of the script.
-    Line(Reader),
+    Line,
     /// It is the first one of a report.
-    Nothing(Reader),
+    Nothing,
 }
 
-fn take(alloc: Global, report: bool, reader: Reader, line: &[u8]) -> Result<Taken, LineFault>
-    requires { IsReady reader }
-    ensures { Takes report reader.reading (words_of line.now) result }
+fn take<'a>(
+    alloc: Global,
+    report: bool,
+    reader: &mut Reader,
+    words: &mut Vec<&'a [u8]>,
+    line: &'a [u8],
+) -> Result<Taken, LineFault>
+    requires { IsReady reader.old }
+    ensures { Takes report reader.old.reading (words_of line.now) reader.new result }
 {
-    let words = first_words(alloc, MOST_WORDS, line)?;
-    take_words(alloc, report, reader, &words)
+    cut(words, line)?;
+    take_words(alloc, report, reader, words)
+}
+
+// Puts the first words of a line in the place of what was there, so that all lines use the same memory.
+fn cut<'a>(words: &mut Vec<&'a [u8]>, line: &'a [u8]) -> Result<(), AllocError>
+    ensures { OnOk result (map (λ word. word.now) words.new.items ≡ take MOST_WORDS (words_of line.now)) }
+{
+    words.clear();
+    words.extend(Pieces::words(line).take(MOST_WORDS))
 }
 
 fn take_words(
     alloc: Global,
     report: bool,
-    reader: Reader,
+    reader: &mut Reader,
     words: &[&[u8]],
 ) -> Result<Taken, LineFault>
-    requires { IsReady reader }
-    ensures { Takes report reader.reading (map (λ word. word.now) words.now) result }
+    requires { IsReady reader.old }
+    ensures { Takes report reader.old.reading (map (λ word. word.now) words.now) reader.new result }
 {
     if report && is_open(&reader.reading.place) && is_report(words) {
-        return Ok(Taken::Nothing(reader));
+        return Ok(Taken::Nothing);
     }
     match after_line(alloc, reader, words) {
-        Ok(reader) => Ok(Taken::Line(reader)),
+        Ok(()) => Ok(Taken::Line),
         Err(fault) => Err(fault),
     }
 }

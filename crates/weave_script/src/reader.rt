@@ -54,25 +54,25 @@ pub(crate) fn start(alloc: Global) -> Reader
 /// After a line of these words.
 pub(crate) fn after_line(
     alloc: Global,
-    reader: Reader,
+    reader: &mut Reader,
     words: &[&[u8]],
-) -> Result<Reader, LineFault>
-    requires { IsReady reader }
-    ensures { Gives IsReady result (after_line reader.reading (map (λ word. word.now) words.now)) }
+) -> Result<(), LineFault>
+    requires { IsReady reader.old }
+    ensures { Gives IsReady result reader.new (after_line reader.old.reading (map (λ word. word.now) words.now)) }
 {
     match after_line_at(alloc, reader, words) {
-        Ok(reader) => within_limits(reader),
+        Ok(()) => within_limits(reader),
         Err(fault) => Err(fault),
     }
 }
 
-fn within_limits(reader: Reader) -> Result<Reader, LineFault>
-    requires { IsIndexed reader }
-    ensures { Gives IsReady result (within_limits reader.reading) }
+fn within_limits(reader: &Reader) -> Result<(), LineFault>
+    requires { IsIndexed reader.now }
+    ensures { Gives IsReady result reader.now (within_limits reader.now.reading) }
 {
-    match over_limit(counts_so_far(&reader)) {
+    match over_limit(counts_so_far(reader)) {
         Some(cause) => Err(LineFault::Refused(cause)),
-        None => Ok(reader),
+        None => Ok(()),
     }
 }
 
@@ -95,9 +95,9 @@ fn counts_so_far(reader: &Reader) -> Counts
     }
 }
 
-fn after_line_at(alloc: Global, mut reader: Reader, words: &[&[u8]]) -> Result<Reader, LineFault>
-    requires { IsReady reader }
-    ensures { Gives IsIndexed result (after_line_at reader.reading.place reader.reading
+fn after_line_at(alloc: Global, reader: &mut Reader, words: &[&[u8]]) -> Result<(), LineFault>
+    requires { IsReady reader.old }
+    ensures { Gives IsIndexed result reader.new (after_line_at reader.old.reading.place reader.old.reading
         (map (λ word. word.now) words.now)) }
 {
     let place = replace(&mut reader.reading.place, Place::Between);
@@ -109,25 +109,25 @@ fn after_line_at(alloc: Global, mut reader: Reader, words: &[&[u8]]) -> Result<R
     }
 }
 
-fn after_header(mut reader: Reader, words: &[&[u8]]) -> Result<Reader, LineFault>
-    requires { IsIndexOf reader.index reader.reading.requests }
-    ensures { Gives IsIndexed result (after_header reader.reading (map (λ word. word.now) words.now)) }
+fn after_header(reader: &mut Reader, words: &[&[u8]]) -> Result<(), LineFault>
+    requires { IsIndexOf reader.old.index reader.old.reading.requests }
+    ensures { Gives IsIndexed result reader.new (after_header reader.old.reading (map (λ word. word.now) words.now)) }
 {
     match header_of(words) {
         Ok((gates, shards)) => {
             reader.reading.gates = gates;
             reader.reading.shards = shards;
             reader.reading.place = Place::Between;
-            Ok(reader)
+            Ok(())
         }
         Err(cause) => Err(LineFault::Refused(cause)),
     }
 }
 
-fn after_item(alloc: Global, reader: Reader, words: &[&[u8]]) -> Result<Reader, LineFault>
-    requires place { reader.reading.place ≡ Place.Between }
-    requires ready { IsReady reader }
-    ensures { Gives IsIndexed result (after_item reader.reading (map (λ word. word.now) words.now)) }
+fn after_item(alloc: Global, reader: &mut Reader, words: &[&[u8]]) -> Result<(), LineFault>
+    requires place { reader.old.reading.place ≡ Place.Between }
+    requires ready { IsReady reader.old }
+    ensures { Gives IsIndexed result reader.new (after_item reader.old.reading (map (λ word. word.now) words.now)) }
 {
     let Some((word, rest)) = words.split_first() else {
         return Err(LineFault::Refused(Cause::Line));
@@ -145,10 +145,10 @@ fn after_item(alloc: Global, reader: Reader, words: &[&[u8]]) -> Result<Reader, 
     }
 }
 
-fn after_tx(alloc: Global, mut reader: Reader, words: &[&[u8]]) -> Result<Reader, LineFault>
-    requires place { reader.reading.place ≡ Place.Between }
-    requires ready { IsReady reader }
-    ensures { Gives IsIndexed result (after_tx reader.reading (map (λ word. word.now) words.now)) }
+fn after_tx(alloc: Global, reader: &mut Reader, words: &[&[u8]]) -> Result<(), LineFault>
+    requires place { reader.old.reading.place ≡ Place.Between }
+    requires ready { IsReady reader.old }
+    ensures { Gives IsIndexed result reader.new (after_tx reader.old.reading (map (λ word. word.now) words.now)) }
 {
     let opening = match tx_of(reader.reading.gates, words) {
         Ok(opening) => opening,
@@ -163,13 +163,13 @@ fn after_tx(alloc: Global, mut reader: Reader, words: &[&[u8]]) -> Result<Reader
         opening,
         ops: Items::new(alloc),
     };
-    Ok(reader)
+    Ok(())
 }
 
-fn after_prog(mut reader: Reader, words: &[&[u8]]) -> Result<Reader, LineFault>
-    requires place { reader.reading.place ≡ Place.Between }
-    requires ready { IsReady reader }
-    ensures { Gives IsIndexed result (after_prog reader.reading (map (λ word. word.now) words.now)) }
+fn after_prog(reader: &mut Reader, words: &[&[u8]]) -> Result<(), LineFault>
+    requires place { reader.old.reading.place ≡ Place.Between }
+    requires ready { IsReady reader.old }
+    ensures { Gives IsIndexed result reader.new (after_prog reader.old.reading (map (λ word. word.now) words.now)) }
 {
     let (opening, program) = match prog_of(reader.reading.gates, words) {
         Ok(prog) => prog,
@@ -186,26 +186,26 @@ fn after_prog(mut reader: Reader, words: &[&[u8]]) -> Result<Reader, LineFault>
         gate: opening.gate,
         work: Work::Look(program),
     })?;
-    Ok(reader)
+    Ok(())
 }
 
-fn after_phase(mut reader: Reader, words: &[&[u8]]) -> Result<Reader, LineFault>
-    requires place { reader.reading.place ≡ Place.Between }
-    requires ready { IsReady reader }
-    ensures { Gives IsIndexed result (after_phase reader.reading (map (λ word. word.now) words.now)) }
+fn after_phase(reader: &mut Reader, words: &[&[u8]]) -> Result<(), LineFault>
+    requires place { reader.old.reading.place ≡ Place.Between }
+    requires ready { IsReady reader.old }
+    ensures { Gives IsIndexed result reader.new (after_phase reader.old.reading (map (λ word. word.now) words.now)) }
 {
     if !words.is_empty() {
         return Err(LineFault::Refused(Cause::Line));
     }
     let before = reader.reading.requests.as_slice().len() as u32;
     reader.reading.phases.push(before)?;
-    Ok(reader)
+    Ok(())
 }
 
-fn after_steps(alloc: Global, mut reader: Reader, words: &[&[u8]]) -> Result<Reader, LineFault>
-    requires place { reader.reading.place ≡ Place.Between }
-    requires ready { IsReady reader }
-    ensures { Gives IsIndexed result (after_steps reader.reading (map (λ word. word.now) words.now)) }
+fn after_steps(alloc: Global, reader: &mut Reader, words: &[&[u8]]) -> Result<(), LineFault>
+    requires place { reader.old.reading.place ≡ Place.Between }
+    requires ready { IsReady reader.old }
+    ensures { Gives IsIndexed result reader.new (after_steps reader.old.reading (map (λ word. word.now) words.now)) }
 {
     if !words.is_empty() {
         return Err(LineFault::Refused(Cause::Line));
@@ -213,18 +213,20 @@ fn after_steps(alloc: Global, mut reader: Reader, words: &[&[u8]]) -> Result<Rea
     reader.reading.place = Place::Behind {
         steps: Items::new(alloc),
     };
-    Ok(reader)
+    Ok(())
 }
 
 fn after_line_inside(
-    mut reader: Reader,
+    reader: &mut Reader,
     opening: Opening,
     mut ops: Items<Op>,
     words: &[&[u8]],
-) -> Result<Reader, LineFault>
-    requires indexed { IsIndexOf reader.index (reader.reading.requests ++ request_of opening (Change ops) ∷ []) }
-    requires room { reader.index.gets < 2 ^ 32 }
-    ensures { Gives IsIndexed result (after_line_inside reader.reading opening ops (map (λ word. word.now) words.now)) }
+) -> Result<(), LineFault>
+    requires indexed { IsIndexOf reader.old.index
+        (reader.old.reading.requests ++ request_of opening (Change ops) ∷ []) }
+    requires room { reader.old.index.gets < 2 ^ 32 }
+    ensures { Gives IsIndexed result reader.new
+        (after_line_inside reader.old.reading opening ops (map (λ word. word.now) words.now)) }
 {
     if is_end(words) {
         reader.reading.requests.push(Request {
@@ -234,7 +236,7 @@ fn after_line_inside(
             work: Work::Change(ops),
         })?;
         reader.reading.place = Place::Between;
-        return Ok(reader);
+        return Ok(());
     }
     let op = match op_of(words) {
         Ok(op) => op,
@@ -243,16 +245,13 @@ fn after_line_inside(
     reader.index.add_op(&op)?;
     ops.push(op)?;
     reader.reading.place = Place::Inside { opening, ops };
-    Ok(reader)
+    Ok(())
 }
 
-fn after_step(
-    mut reader: Reader,
-    mut steps: Items<Step>,
-    words: &[&[u8]],
-) -> Result<Reader, LineFault>
-    requires { IsIndexOf reader.index reader.reading.requests }
-    ensures { Gives IsIndexed result (after_step reader.reading steps (map (λ word. word.now) words.now)) }
+fn after_step(reader: &mut Reader, mut steps: Items<Step>, words: &[&[u8]]) -> Result<(), LineFault>
+    requires { IsIndexOf reader.old.index reader.old.reading.requests }
+    ensures { Gives IsIndexed result reader.new
+        (after_step reader.old.reading steps (map (λ word. word.now) words.now)) }
 {
     let sizes = Sizes {
         gates: reader.reading.gates,
@@ -262,7 +261,7 @@ fn after_step(
         Ok(step) => {
             steps.push(step)?;
             reader.reading.place = Place::Behind { steps };
-            Ok(reader)
+            Ok(())
         }
         Err(cause) => Err(LineFault::Refused(cause)),
     }

@@ -1,4 +1,4 @@
-use Rattle.std.proofs.Common.{map, take, subst, ◌∙◌, ap}
+use Rattle.std.proofs.Common.{map, subst, ◌∙◌, ap}
 use Rattle.weave_text.specs.Cutting.{words_of}
 use Rattle.weave_script.specs.Parts.{Takes}
 use Rattle.weave_script.proofs.FewWords.{Takes-few}
@@ -6,6 +6,6 @@ use Rattle.weave_script.proofs.part.take.Goals as goal
 
 pub returns : goal.returns
 returns c =
-    let reading = c.args.reader.reading in
-    let words = ap (map (λ word. word.now)) c.deref.ensures.value ∙ c.in_ok-words.ensures in
-    Takes-few c.args.report reading (words_of c.args.line.now) c.take_words.result (subst (λ words. Takes c.args.report reading words c.take_words.result) words c.take_words.ensures)
+    let reading = c.args.reader.now.reading in
+    let words = ap (map (λ word. word.now)) c.deref.ensures.value ∙ c.in_ok-cut.ensures in
+    Takes-few c.args.report reading (words_of c.args.line.now) c.take_words.new.reader c.take_words.result (subst (λ words. Takes c.args.report reading words c.take_words.new.reader c.take_words.result) words c.take_words.ensures)

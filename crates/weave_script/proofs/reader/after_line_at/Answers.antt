@@ -6,6 +6,6 @@ use Rattle.weave_script.proofs.reader.after_line_at.Goals as goal
 pub returns-in-Between : goal.returns-in-Between
 returns-in-Between c =
     let words = map (λ word. word.now) c.args.words.now in
-    let reading = c.args.reader.reading in
-    let taken = subst (λ p. Gives IsIndexed c.after_item.result (after_item (record reading { place = p }) words)) c.in-Between.ensures.after c.after_item.ensures in
-    subst (λ p. Gives IsIndexed c.after_item.result (after_line_at p (record reading { place = p }) words)) c.in-Between.ensures.value taken
+    let reading = c.args.reader.now.reading in
+    let taken = subst (λ p. Gives IsIndexed c.after_item.result c.after_item.new.reader (after_item (record reading { place = p }) words)) c.in-Between.ensures.after c.after_item.ensures in
+    subst (λ p. Gives IsIndexed c.after_item.result c.after_item.new.reader (after_line_at p (record reading { place = p }) words)) c.in-Between.ensures.value taken

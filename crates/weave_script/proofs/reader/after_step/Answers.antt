@@ -7,7 +7,7 @@ use Rattle.weave_script.proofs.reader.after_step.Goals as goal
 
 pub returns-in-Err : goal.returns-in-Err
 returns-in-Err c =
-    let reading = c.args.reader.reading in
+    let reading = c.args.reader.now.reading in
     let line = map (λ word. word.now) c.args.words.now in
     ap (λ (places : Name → Option ℕ). step_of reading.gates reading.shards places line >>= λ step. Ok (record reading { place = Behind (c.args.steps ++ step ∷ []) })) (λ i name. sym (c.requires.places name) i)
     ∙ ap (λ read. read >>= λ step. Ok (record reading { place = Behind (c.args.steps ++ step ∷ []) })) (sym c.step_of.ensures ∙ c.in-Err.is)

@@ -11,10 +11,10 @@ use Rattle.weave_script.proofs.reader.after_tx.Goals as goal
 
 pub returns : goal.returns
 returns c =
-    let reading = c.args.reader.reading in
+    let reading = c.args.reader.now.reading in
     let opening = c.in-Ok.opening in
-    let index : IsIndexOf c.args.reader.index reading.requests = subst (λ p. IsIndexOf c.args.reader.index (requests_so_far p reading.requests)) c.requires.place c.requires.ready.indexed in
-    let free : place_of opening.name reading.requests ≡ None = is_free opening.name reading.requests c.args.reader.index.places.entries index.places (cc (c.contains_key.ensures, c.if-contains_key.false)) in (
+    let index : IsIndexOf c.args.reader.now.index reading.requests = subst (λ p. IsIndexOf c.args.reader.now.index (requests_so_far p reading.requests)) c.requires.place c.requires.ready.indexed in
+    let free : place_of opening.name reading.requests ≡ None = is_free opening.name reading.requests c.args.reader.now.index.places.entries index.places (cc (c.contains_key.ensures, c.if-contains_key.false)) in (
       ap (λ read. read >>= λ opening. unless_taken opening.name reading.requests (record reading { place = Inside opening [] })) (sym c.tx_of.ensures ∙ c.in-Ok.is)
           ∙ unless_taken-free opening.name reading.requests (record reading { place = Inside opening [] }) free
           ∙ ap (λ ops. Ok (record reading { place = Inside opening ops })) (sym c.new.ensures),

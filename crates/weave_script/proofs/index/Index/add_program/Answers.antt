@@ -1,4 +1,4 @@
-use Rattle.std.proofs.Common.{[], ◌∷◌, ◌++◌, sym, ap, ◌∙◌, subst, arith, ◌+◌}
+use Rattle.std.proofs.Common.{sym, ap, ◌∙◌, subst, arith, ◌+◌}
 use Rattle.program_defs.specs.declared.script.Work.TheVariants.{Look}
 use Rattle.weave_script.specs.Indexed.{IsSetOf}
 use Rattle.weave_script.specs.RequestLines.{request_of}

@@ -1,8 +1,5 @@
 use Rattle.std.proofs.Common.{sym, ◌∙◌, subst}
 use Rattle.weave_script.specs.Indexed.{IsSetOf}
-use Rattle.program_defs.specs.declared.script.Work.TheVariants.{Change}
-use Rattle.std.proofs.Common.{[], ◌∷◌, ◌++◌}
-use Rattle.weave_script.specs.RequestLines.{request_of}
 use Rattle.weave_script.proofs.Indexing.{places_put, transaction_vertices, transaction_counts}
 use Rattle.weave_script.proofs.index.Index.add_transaction.Goals as goal
 
