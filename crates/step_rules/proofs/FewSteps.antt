@@ -62,7 +62,8 @@ pub record IsFew (n : ℕ) (account : Account) : Type 0 where
   pub few : (home : ℕ) → length (gate_log account home) ≤ n
   pub little : (home : ℕ) (entry : GateEntry) → Contains (gate_log account home) entry → RaisesLittle entry.deed
 
-none-at : {A : Type 0} (n i : ℕ) → get_or {A = List A} (replicate n []) i [] ≡ []
+-- each of the empty logs is empty
+pub none-at : {A : Type 0} (n i : ℕ) → get_or {A = List A} (replicate n []) i [] ≡ []
 none-at zero i = refl
 none-at (suc n) zero = refl
 none-at (suc n) (suc i) = none-at n i

@@ -1,5 +1,5 @@
 mod Basis
-mod SetLists
+pub mod SetLists
 mod Ended
 mod FindLists
 mod Frames
@@ -21,7 +21,7 @@ mod QuietSteps
 mod ProgramBegun
 mod Replying
 mod StepGoesOn
-mod VisitLogs
+pub mod VisitLogs
 mod Preceded
 mod VisitStep
 mod Visiting
@@ -34,3 +34,6 @@ mod MoreRows
 mod FurtherRows
 mod RowsKept
 mod FewSteps
+mod DoneReplies
+mod ReportedReplies
+mod FinishedRows

@@ -93,6 +93,18 @@ module _ (laws : LowerLaws) (number : ℕ) (requests : List ℕ) (log : List Ses
   place-reply : (r : ℕ) → Contains (take (replied_count session) requests) r → IsTrue (has_reply_in r log)
   place-reply r h = (laws.logs.session_replied r log).1 (subst (λ rs. Contains rs r) (sym (laws.logs.sessions_replied number requests log right)) h)
 
+  -- a request that has its reply has begun
+  pub replied-begun : (r : ℕ) → IsTrue (has_reply_in r log) → IsTrue (has_begun_in r log)
+  replied-begun r h =
+      let at = take-get (replied_count session) requests r (reply-place r h) in
+      let below = at.1 in
+      let most = at-most session.waits in
+      place-begun r (get-take session.begun requests at.0 r (omega (arith, below, most)) at.2)
+    where
+      at-most : (b : Bool) → cond b (session.begun - 1) session.begun ≤ session.begun
+      at-most true = omega arith
+      at-most false = omega arith
+
   -- a request that has begun and has no reply is the last one, which waits for it
   pub open-is-last : (r : ℕ) → has_begun_in r log ≡ true → has_reply_in r log ≡ false → RepliesToLast session r
   open-is-last r begun unreplied = by session.waits refl

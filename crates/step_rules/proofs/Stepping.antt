@@ -26,7 +26,8 @@ use Rattle.step_rules.proofs.Starting.{start-is-core}
 use Rattle.step_rules.proofs.StepGoesOn.{goes-same, notices-on, same-log, step-goes-on}
 use Rattle.step_rules.proofs.Visiting.{visit-keeps}
 
-ok-is : (answer : StepAnswer) → is_ok answer ≡ true → answer ≡ Ok
+-- an answer that is tested as `Ok` is `Ok`
+pub ok-is : (answer : StepAnswer) → is_ok answer ≡ true → answer ≡ Ok
 ok-is Ok e = refl
 ok-is Twice e = cc
 ok-is Early e = cc

@@ -4,6 +4,7 @@ pub mod Answers
 pub mod Entries
 pub mod Trace
 pub mod IsCore
+pub mod Finishing
 pub mod AccountLaws
 pub mod LogLaws
 pub mod StampLaws
