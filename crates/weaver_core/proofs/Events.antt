@@ -1,6 +1,7 @@
 -- A table of requests, by the ids of their events.
 use Rattle.std.proofs.Common.{◌≡◌, ℕ, suc, ◌<◌, cond, List, ◌∷◌, length, drop, get_or, Option, None, Some, sym, ap, ◌∙◌, drop-cons}
 use Rattle.std.specs.Map.{lookup}
+use Rattle.weave_data.specs.declared.name.Name.{Name}
 use Rattle.vector_stamp.specs.declared.clock.Stamp.{Stamp}
 use Rattle.vector_stamp.specs.Order.{id_of}
 use Rattle.weave_entries.specs.declared.oracle_log.OracleEntry.{OracleEntry}
@@ -17,6 +18,6 @@ table-more stamps n stamp written es fs within at is has writes id =
     ∙ sym (ap (request_from n id) (drop-cons stamps n None within))
 
 -- the pairs by such a table of all requests are those by the stamps
-pub all-found : (entries : List ((ℕ × ℕ × ℕ) × ℕ)) (stamps : List (Option Stamp)) → HasRequests 0 stamps entries → (store : List StoreEntry) (oracle : List OracleEntry)
-    → all_pairs_found (found_in entries) store oracle ≡ all_pairs_found (request_with stamps) store oracle
-all-found entries stamps has store oracle = λ i. all_pairs_found (λ (event : Stamp). has (id_of event) i) store oracle
+pub all-found : (entries : List ((ℕ × ℕ × ℕ) × ℕ)) (stamps : List (Option Stamp)) → HasRequests 0 stamps entries → (store : List StoreEntry) (marks : List (Option Name)) (oracle : List OracleEntry)
+    → all_pairs_found (found_in entries) store marks oracle ≡ all_pairs_found (request_with stamps) store marks oracle
+all-found entries stamps has store marks oracle = λ i. all_pairs_found (λ (event : Stamp). has (id_of event) i) store marks oracle

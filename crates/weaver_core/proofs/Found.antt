@@ -157,7 +157,7 @@ module _ (script : Script) (account : Account) (is : IsAccount script account) w
 
     module _ (stamps : List (Option Stamp)) (stamps-are : AreStampsOf account stamps) (many : length stamps ≡ length script.requests) where
       -- the stamps by request find the request of a begun stamp
-      found-at : (b : Begun) → Contains (all_begun account) b → request_with stamps b.stamp ≡ Some b.request
+      pub found-at : (b : Begun) → Contains (all_begun account) b → request_with stamps b.stamp ≡ Some b.request
       found-at b h =
           let within = begun-of-script b h in
           first-with (id_of b.stamp) stamps 0 b.request b.stamp (omega (arith, within, many)) (stamps-are b.request (omega (arith, within, many)) ∙ stamp-of-begun b h) refl others ∙ ap Some (omega arith)

@@ -1,29 +1,25 @@
 -- `nop`, `deliver` and `apply`, by what gatekeepers and shards did.
-use Rattle.std.proofs.Common.{◌≡◌, ℕ, ◌+◌, ◌-◌, ◌<◌, ◌^◌, ◌==◌, Bool, true, false, cond, List, [], ◌∷◌, length, map, Contains, Option, None, Some, inl, inr, refl, sym, ap, subst, ◌∙◌, arith}
-use Rattle.std.specs.Prelude.{is_some, slice_get, IsSome, if◌then◌else◌}
+use Rattle.std.proofs.Common.{◌≡◌, ℕ, ◌+◌, ◌-◌, ◌<◌, ◌^◌, ◌==◌, Bool, true, cond, List, length, Contains, Option, None, Some, inl, inr, refl, sym, ap, subst, ◌∙◌, arith}
+use Rattle.std.specs.Prelude.{is_some, slice_get, if◌then◌else◌}
 use Rattle.std.specs.Option.{ForSome}
 use Rattle.std.proofs.lemmas.Bool.{cases_Bool}
 use Rattle.std.proofs.lemmas.Option.{get_or_from_slice_get, none-some, slice_get_within}
 use Rattle.proof_base.proofs.Members.{map_has}
 use Rattle.vector_stamp.specs.declared.clock.Clock.{Clock}
-use Rattle.weave_data.specs.declared.name.Name.{Name}
 use Rattle.shard_queue.specs.Sent.{sent_as}
-use Rattle.shard_queue.specs.declared.inbox.Arrival.TheVariants.{Kept, Repeat}
 use Rattle.program_defs.specs.Limits.{IsWithinLimits}
 use Rattle.program_defs.specs.declared.script.Script.{Script}
 use Rattle.program_defs.specs.declared.script.Step.TheVariants as step
 use Rattle.report_rules.specs.declared.report.StepAnswer.{StepAnswer}
 use Rattle.report_rules.specs.declared.report.StepAnswer.TheVariants as answer
-use Rattle.weave_entries.specs.declared.gate_log.GateEntry.{GateEntry}
 use Rattle.weave_entries.specs.declared.message.Addressed.{Addressed}
 use Rattle.weave_entries.specs.declared.message.Message.{Message}
 use Rattle.weave_entries.specs.declared.oracle_log.OracleEntry.{OracleEntry}
 use Rattle.weave_entries.specs.declared.shard_log.ShardDeed.TheVariants as deed
-use Rattle.weave_entries.specs.declared.shard_log.ShardEntry.{ShardEntry}
 use Rattle.weave_entries.specs.declared.store_log.StoreEntry.{StoreEntry}
-use Rattle.weave_entries.specs.GateReplay.{addressed_to, channel_of, flight_of}
-use Rattle.weave_entries.specs.ShardReplay.{arrived_at, head_of, processed_count, waits_at}
-use Rattle.weave_entries.specs.ShardRules.{IsTakable, PassesAt}
+use Rattle.weave_entries.specs.GateReplay.{addressed_to, channel_of}
+use Rattle.weave_entries.specs.ShardReplay.{arrived_at, processed_count}
+use Rattle.weave_entries.specs.ShardRules.{IsTakable}
 use Rattle.weave_account.specs.declared.account.Account.{Account}
 use Rattle.weave_account.specs.Account.{commits_in, gate_log, shard_log}
 use Rattle.weave_account.specs.IsAccount.{IsAccount}

@@ -55,3 +55,7 @@ if_ok_three (Err e) P R S Q go p r s = tt
 pub on_ok_two : {A E : Type 0} (result : Result A E) (P R Q : Type 0) → (P → R → Q) → OnOk result P → OnOk result R → OnOk result Q
 on_ok_two (Ok a) P R Q go p r = go p r
 on_ok_two (Err e) P R Q go p r = tt
+
+pub either_both : {A E : Type 0} (result : Result A E) (P : A → Type 0) (R S X : Type 0) → ((a : A) → P a → X) → (R → S → X) → IfOk result P → OnErr result R → OnErr result S → X
+either_both (Ok a) P R S X done refused p r s = done a p
+either_both (Err e) P R S X done refused p r s = refused r s

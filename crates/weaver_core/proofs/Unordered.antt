@@ -1,19 +1,22 @@
 -- What the report of machines owes, but for its order: over the stamps that were noted.
-use Rattle.std.proofs.Common.{◌≡◌, ◌≢◌, ℕ, zero, suc, ◌<◌, List, [], ◌∷◌, length, map, replicate, Contains, IsTrue, Option, None, Some, refl, sym, ap, subst, ◌∙◌, arith}
+use Rattle.std.proofs.Common.{◌≡◌, ◌≢◌, ℕ, ◌+◌, ◌<◌, List, ◌∷◌, length, map, replicate, Contains, IsTrue, Option, None, Some, sym, ap, subst, ◌∙◌, arith}
 use Rattle.std.specs.Prelude.{◌↔◌, slice_index_or, IsSomeAnd}
 use Rattle.std.specs.List.{range_with_len}
 use Rattle.std.proofs.lemmas.List.{length-replicate}
 use Rattle.std.proofs.lemmas.Option.{get_or_from_slice_get, slice_get_within}
 use Rattle.proof_base.proofs.Members.{has_map}
+use Rattle.weave_data.specs.declared.name.Name.{Name}
 use Rattle.vector_stamp.specs.declared.clock.Clock.{Clock}
 use Rattle.vector_stamp.specs.declared.clock.Stamp.{Stamp}
 use Rattle.vector_stamp.specs.Coherence.{AreCoherent}
 use Rattle.vector_stamp.specs.Order.{id_of, same_stamp}
+use Rattle.vector_stamp.specs.Settling.{SettledEntry}
 use Rattle.program_defs.specs.Limits.{IsWithinLimits}
 use Rattle.program_defs.specs.declared.script.Request.{Request}
 use Rattle.program_defs.specs.declared.script.Script.{Script}
 use Rattle.program_defs.specs.declared.script.Work.TheVariants.{Change}
 use Rattle.report_rules.specs.Lookups.{request_at}
+use Rattle.report_rules.specs.declared.report.Pair.{Pair}
 use Rattle.report_rules.specs.declared.report.Report.{Report}
 use Rattle.weave_entries.specs.declared.oracle_log.OracleEntry.{OracleEntry}
 use Rattle.weaver_core.specs.ShardTable.{ShardTable}
@@ -22,24 +25,27 @@ use Rattle.weave_entries.specs.GateReplay.{Begun}
 use Rattle.weave_entries.specs.OracleReplay.{settled_entry}
 use Rattle.weave_entries.specs.StoreReplay.{Judgement, judgements_of}
 use Rattle.weave_account.specs.declared.account.Account.{Account}
-use Rattle.weave_account.specs.Account.{IsBegunStamp, all_begun, begun_stamps, pairs_in}
+use Rattle.weave_account.specs.Account.{IsBegunStamp, all_begun, begun_stamps, pairs_in, stamp_of}
 use Rattle.weave_account.specs.IsAccount.{IsAccount}
+use Rattle.weave_account.specs.Oracle.{IsAskedByCommit}
 use Rattle.weave_account.specs.Pairs.{ArePairsOf}
-use Rattle.weave_account.specs.PairsByPlace.{placed_pairs}
+use Rattle.weave_account.specs.PairsByPlace.{placed_by, placed_pairs}
 use Rattle.weave_account.specs.Report.{MatchesAccount}
 use Rattle.weaver_core.specs.Clients.{ClientTable}
 use Rattle.weaver_core.specs.Cores.{AreOf, machines_of}
 use Rattle.weaver_core.specs.GateTable.{GateTable}
 use Rattle.weaver_core.specs.Noting.{all_noted}
-use Rattle.weaver_core.specs.Reporting.{AreOfHomes, AreStampsOf, all_pairs_found, reply_stamped, request_with}
-use Rattle.weaver_core.proofs.Found.{begun-with, judged-with, request-found}
+use Rattle.weaver_core.specs.Reporting.{AreOfHomes, AreStampsOf, all_pairs_found, pairs_found, reply_kept, request_with}
+use Rattle.weaver_core.specs.Walks.{AreProgramsOf, IsMarkedAs}
+use Rattle.weaver_core.specs.declared.walks.Walk.{Walk}
+use Rattle.weaver_core.proofs.Found.{begun-with, found-at, judged-with, request-found}
+use Rattle.weaver_core.proofs.Marked.{all-are, unvisited-by}
 use Rattle.weaver_core.proofs.Noting.{count-noted, stamps-noted}
-use Rattle.weaver_core.proofs.Placed.{all-placed}
+use Rattle.weaver_core.proofs.Placed.{entry-placed}
 use Rattle.weaver_core.proofs.Reported.{parts-match}
 use Rattle.weaver_core.proofs.Resting.{some-one}
 use Rattle.weaver_core.proofs.Stamped.{stamp-is}
 use Rattle.weaver_core.proofs.Turns.{SessionLaws, place-of}
-use Rattle.weaver_core.proofs.Unfinished.{none-visited, not-ended, not-judged}
 
 -- the laws of weave_account that are cited
 pub record ReportLaws : Type 0 where
@@ -87,22 +93,31 @@ module _ (laws : ReportLaws) (sessions : SessionLaws) (script : Script) (gates :
   pub settled-homes : (entry : OracleEntry) → Contains oracle entry → AreOfHomes (settled_entry entry)
   settled-homes entry has event h = (laws.coherent script account are.limits are.core.account).homes event (laws.settled script account are.limits are.core.account entry has event h)
 
-  -- the pairs that are found are the account's
-  pairs-placed : all_pairs_found (request_with stamps) store oracle ≡ placed_pairs account
-  pairs-placed =
-      let is = are.core.account in
-      let differ = laws.differ script account are.limits is in
-      all-placed account (request_with stamps)
-      (request-found script account is laws.same_stamps differ stamps stamps-are many)
-      (judged-with script account is laws.same_stamps differ (laws.begun script account are.limits is))
-      (λ earlier later. none-visited earlier later shards.logs are.no_visits)
-      oracle (laws.settled script account are.limits is)
+  module _ (walks : List (Option Walk)) (marks : List (Option Name)) (kept : AreProgramsOf script account walks marks) where
+    found : (q : ℕ) (event : Stamp) → stamp_of account q ≡ Some event → request_with stamps event ≡ Some q
+    found q event at =
+        let is = are.core.account in
+        let b = begun-with script account is q event at in
+        let one = found-at script account is laws.same_stamps (laws.differ script account are.limits is) stamps stamps-are many b.0 b.1.0 in
+        ap (request_with stamps) (sym b.1.1.1) ∙ one ∙ ap Some b.1.1.0
 
-  -- and the report of these parts is the account's but for its order
-  pub unordered-matches : (report : Report) → report.replies ≡ map (reply_stamped stamps store) (range_with_len 0 (length script.requests)) → report.pairs ≡ all_pairs_found (request_with stamps) store oracle → MatchesAccount script account report
-  unordered-matches report replies pairs =
-      let is = are.core.account in
-      let work = laws.work script account are.limits is in
-      parts-match script account stamps stamps-are many
-      (λ r request program at looks. (not-judged script account are.limits is are.no_visits work r request program at looks, not-ended script account are.limits is are.no_visits work r request program at looks))
-      (some-one script) report replies (pairs ∙ pairs-placed) (laws.placed script account are.limits is)
+    -- the pairs of an entry that a commit asked for
+    placed-one : (settled : SettledEntry) → IsAskedByCommit account settled → ((event : Stamp) → Contains (settled.later ∷ settled.earlier) event → IsBegunStamp account event) → pairs_found (request_with stamps) account.store None settled ≡ placed_by account settled
+    placed-one settled asked begun =
+        let is = are.core.account in
+        let differ = laws.differ script account are.limits is in
+        entry-placed account (request_with stamps)
+        (request-found script account is laws.same_stamps differ stamps stamps-are many)
+        (judged-with script account is laws.same_stamps differ (laws.begun script account are.limits is))
+        settled (unvisited-by script account are.limits is laws.same_stamps differ (laws.work script account are.limits is) (laws.begun script account are.limits is) settled asked) begun
+
+    -- the pairs that are found are the account's
+    pairs-are : ArePairsOf account (all_pairs_found (request_with stamps) store marks oracle) (pairs_in account)
+    pairs-are =
+        let is = are.core.account in
+        all-are account (request_with stamps) found placed-one marks oracle 0 (laws.settled script account are.limits is) (λ m entry at. let same : m ≡ 0 + m = omega arith in subst (λ k. IsMarkedAs account (settled_entry entry) (slice_index_or marks k None)) same (kept.marks_are.each m entry at)) (laws.placed script account are.limits is)
+
+    -- and the report of these parts is the account's but for its order
+    pub unordered-matches : (report : Report) → report.replies ≡ map (reply_kept stamps walks store) (range_with_len 0 (length script.requests)) → report.pairs ≡ all_pairs_found (request_with stamps) store marks oracle → MatchesAccount script account report
+    unordered-matches report replies pairs =
+        parts-match script account stamps walks stamps-are many kept.walks_are (some-one script) report replies (subst (λ (ps : List Pair). ArePairsOf account ps (pairs_in account)) (sym pairs) pairs-are)

@@ -1,10 +1,10 @@
 -- A core as contracts see it.
-use Rattle.std.specs.Prelude.{◌≡◌, ℕ, List, [], length, map, IsTrue, ⊤}
-use Rattle.std.specs.List.{flat_map, range_with_len}
+use Rattle.std.specs.Prelude.{◌≡◌, ℕ, List, length, map, IsTrue, ⊤}
+use Rattle.std.specs.List.{range_with_len}
 use Rattle.program_defs.specs.declared.script.Script.{Script}
 use Rattle.program_defs.specs.Limits.{IsWithinLimits}
 use Rattle.program_defs.specs.declared.script.Step.{Step}
-use Rattle.program_defs.specs.declared.script.Step.TheVariants.{Begin, Judge, Send, Say, Hear, Nop, Deliver, Apply, Reply, Epoch}
+use Rattle.program_defs.specs.declared.script.Step.TheVariants.{Begin, Judge, Send, Say, Hear, Nop, Deliver, Apply, Reply, Collect, Epoch}
 use Rattle.report_rules.specs.Meetings.{is_transaction}
 use Rattle.report_rules.specs.declared.report.StepAnswer.{StepAnswer}
 use Rattle.weave_account.specs.Sessions.{requests_of_session}
@@ -14,7 +14,6 @@ use Rattle.step_rules.specs.IsCore.{IsCore, IsStepOf, IsSmallIfDone}
 use Rattle.step_rules.specs.Trace.{state_after}
 use Rattle.vector_stamp.specs.declared.clock.Clock.{Clock}
 use Rattle.weave_entries.specs.declared.oracle_log.OracleEntry.{OracleEntry}
-use Rattle.weave_entries.specs.ShardReplay.{visits_of}
 use Rattle.weave_entries.specs.declared.store_log.StoreEntry.{StoreEntry}
 use Rattle.weaver_core.specs.Clients.{ClientTable}
 use Rattle.weaver_core.specs.GateTable.{GateTable}
@@ -33,19 +32,10 @@ pub record Does (step : Step) (old new : CoreView) (answer : StepAnswer) : Type 
 
 -- Steps that are built
 
--- the step is one that the core takes today: of a program it takes the begin alone
+-- the step is one that the core takes today: all but collections
 abbrev pub IsBuilt : Script → Step → Type 0
-IsBuilt script (Begin r) = ⊤
-IsBuilt script (Judge gate) = ⊤
-IsBuilt script (Send gate) = ⊤
-IsBuilt script (Say gate) = ⊤
-IsBuilt script (Hear gate notice) = ⊤
-IsBuilt script (Nop gate shard) = ⊤
-IsBuilt script (Deliver gate shard number) = ⊤
-IsBuilt script (Apply shard gate) = ⊤
-IsBuilt script (Reply r) = IsTrue (is_transaction script r)
-IsBuilt script (Epoch gate epoch) = ⊤
-IsBuilt script _ = ⊥
+IsBuilt script (Collect shard) = ⊥
+IsBuilt script _ = ⊤
 
 -- The machines of a core. No public contract cites what follows.
 
@@ -69,18 +59,31 @@ pub record IsFrameOf (script : Script) (frame : Frame) : Type 0 where
   pub senders : frame.senders ≡ script.gates
   pub requests : frame.requests ≡ map (requests_of_session script) (range_with_len 0 64)
 
--- machines that are a core of the script, in whose shards no program has visited a vertex: `visit` is not built
+-- machines that are a core of the script
 pub record AreOf (script : Script) (machines : MachinesView) : Type 0 where
   pub limits : IsWithinLimits script
   pub frame : IsFrameOf script machines.frame
   pub core : IsCore script machines.state
-  pub no_visits : flat_map visits_of machines.state.account.shards ≡ []
+
+-- the step is one of the machines alone: of a program it is the begin
+abbrev pub IsOfMachines : Script → Step → Type 0
+IsOfMachines script (Begin r) = ⊤
+IsOfMachines script (Judge gate) = ⊤
+IsOfMachines script (Send gate) = ⊤
+IsOfMachines script (Say gate) = ⊤
+IsOfMachines script (Hear gate notice) = ⊤
+IsOfMachines script (Nop gate shard) = ⊤
+IsOfMachines script (Deliver gate shard number) = ⊤
+IsOfMachines script (Apply shard gate) = ⊤
+IsOfMachines script (Reply r) = IsTrue (is_transaction script r)
+IsOfMachines script (Epoch gate epoch) = ⊤
+IsOfMachines script _ = ⊥
 
 -- machines of the script that can be given this step
 pub record MayDo (script : Script) (machines : MachinesView) (step : Step) : Type 0 where
   pub are : AreOf script machines
   pub there : IsStepOf script step
-  pub built : IsBuilt script step
+  pub built : IsOfMachines script step
 
 -- the machines did this step
 pub record MachinesDo (script : Script) (step : Step) (old new : MachinesView) (answer : StepAnswer) : Type 0 where

@@ -10,3 +10,7 @@ pub mod Clocking
 pub mod Replying
 pub mod Cores
 pub mod Reporting
+pub mod Walks
+pub mod Visiting
+pub mod Finishing
+pub mod Staying

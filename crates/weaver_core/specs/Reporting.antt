@@ -1,6 +1,6 @@
 -- How a core finds its report. No public contract cites this.
-use Rattle.std.specs.Prelude.{◌≡◌, ◌<◌, ◌==◌, ◌&&◌, ℕ, suc, Bool, length, List, [], ◌∷◌, Contains, Option, None, Some, slice_get, slice_index_or, if◌then◌else◌}
-use Rattle.std.specs.List.{filter_map, flat_map}
+use Rattle.std.specs.Prelude.{◌≡◌, ◌<◌, ◌==◌, ◌&&◌, ℕ, suc, Bool, length, List, [], ◌∷◌, ◌++◌, ◌+◌, Contains, Option, None, Some, slice_get, slice_index_or, if◌then◌else◌}
+use Rattle.std.specs.List.{filter_map}
 use Rattle.std.specs.Map.{lookup}
 use Rattle.std.specs.Option.{option_and_then, option_map}
 use Rattle.weave_data.specs.declared.name.Name.{Name}
@@ -11,7 +11,7 @@ use Rattle.vector_stamp.specs.Settling.{SettledEntry}
 use Rattle.report_rules.specs.declared.report.Pair.{Pair}
 use Rattle.report_rules.specs.declared.report.Reply.{Reply}
 use Rattle.report_rules.specs.declared.report.ReplyState.{ReplyState}
-use Rattle.report_rules.specs.declared.report.ReplyState.TheVariants.{Unbegun}
+use Rattle.report_rules.specs.declared.report.ReplyState.TheVariants.{Unbegun, Begun, Finished}
 use Rattle.weave_account.specs.Report.{state_of_tx}
 use Rattle.weave_account.specs.declared.account.Account.{Account}
 use Rattle.weave_account.specs.Account.{stamp_of}
@@ -19,6 +19,8 @@ use Rattle.weave_entries.specs.declared.store_log.StoreEntry.{StoreEntry}
 use Rattle.weave_entries.specs.declared.oracle_log.OracleEntry.{OracleEntry}
 use Rattle.weave_entries.specs.OracleReplay.{settled_entry}
 use Rattle.weave_entries.specs.StoreReplay.{Judgement, judgement_of}
+use Rattle.weaver_core.specs.declared.walks.Walk.{Walk}
+use Rattle.weaver_core.specs.declared.walks.Walk.TheVariants as kept
 
 -- The replies
 
@@ -31,12 +33,22 @@ abbrev pub state_stamped : List StoreEntry → ℕ → Option Stamp → ReplySta
 state_stamped store r None = Unbegun
 state_stamped store r (Some stamp) = state_of_tx (judgement_of r store)
 
--- the reply of a request by the stamps and the store's log
-abbrev pub reply_stamped : List (Option Stamp) → List StoreEntry → ℕ → Reply
-reply_stamped stamps store r = record {
+-- the state of a program that has begun, by what is kept of it
+abbrev pub state_walked : Walk → ReplyState
+state_walked (kept.Running running) = Begun
+state_walked (kept.Finished answer) = Finished answer
+
+-- the state of a request by what is kept of it, which is nothing unless it is a program that has begun
+abbrev pub state_kept : List StoreEntry → ℕ → Option Stamp → Option Walk → ReplyState
+state_kept store r stamp None = state_stamped store r stamp
+state_kept store r stamp (Some walk) = state_walked walk
+
+-- the reply of a request by the stamps, by what is kept of it, and by the store's log
+abbrev pub reply_kept : List (Option Stamp) → List (Option Walk) → List StoreEntry → ℕ → Reply
+reply_kept stamps walks store r = record {
   request = r;
   stamp = slice_index_or stamps r None;
-  state = state_stamped store r (slice_index_or stamps r None);
+  state = state_kept store r (slice_index_or stamps r None) (slice_index_or walks r None);
 }
 
 -- The requests of events
@@ -89,17 +101,27 @@ pair_found request_of earlier asked later place =
     option_and_then (λ (event : Stamp). option_and_then (λ (r : ℕ). option_map (λ (v : Name). record { vertex = v; earlier = r; later = later })
     (slice_get asked place)) (request_of event)) (slice_get earlier place)
 
--- the pairs of an entry, if its later event's request is this one
-abbrev pub pairs_before : (Stamp → Option ℕ) → List StoreEntry → SettledEntry → Option ℕ → List Pair
-pairs_before request_of store entry None = []
-pairs_before request_of store entry (Some later) =
-    filter_map (pair_found request_of entry.earlier (asked_by store later) later) entry.places
+-- the vertices at the places: that of the visit that is marked, or those of which the store asked
+abbrev pub asked_with : List StoreEntry → ℕ → Option Name → List Name
+asked_with store later None = asked_by store later
+asked_with store later (Some v) = v ∷ []
 
--- the pairs of an entry
-abbrev pub pairs_found : (Stamp → Option ℕ) → List StoreEntry → SettledEntry → List Pair
-pairs_found request_of store entry = pairs_before request_of store entry (request_of entry.later)
+-- the pairs of an entry with this mark, if its later event's request is this one
+abbrev pub pairs_before : (Stamp → Option ℕ) → List StoreEntry → Option Name → SettledEntry → Option ℕ → List Pair
+pairs_before request_of store mark entry None = []
+pairs_before request_of store mark entry (Some later) =
+    filter_map (pair_found request_of entry.earlier (asked_with store later mark) later) entry.places
 
--- the pairs of the oracle's log, in order
-abbrev pub all_pairs_found : (Stamp → Option ℕ) → List StoreEntry → List OracleEntry → List Pair
-all_pairs_found request_of store oracle =
-    flat_map (λ (entry : OracleEntry). pairs_found request_of store (settled_entry entry)) oracle
+-- and whichever its request is
+abbrev pub pairs_found : (Stamp → Option ℕ) → List StoreEntry → Option Name → SettledEntry → List Pair
+pairs_found request_of store mark entry = pairs_before request_of store mark entry (request_of entry.later)
+
+-- the pairs of entries of the oracle's log, in order; the first of them has this place there
+abbrev pub pairs_found_from : (Stamp → Option ℕ) → List StoreEntry → List (Option Name) → ℕ → List OracleEntry → List Pair
+pairs_found_from request_of store marks place [] = []
+pairs_found_from request_of store marks place (entry ∷ oracle) =
+    pairs_found request_of store (slice_index_or marks place None) (settled_entry entry) ++ pairs_found_from request_of store marks (place + 1) oracle
+
+-- the pairs of the oracle's log
+abbrev pub all_pairs_found : (Stamp → Option ℕ) → List StoreEntry → List (Option Name) → List OracleEntry → List Pair
+all_pairs_found request_of store marks oracle = pairs_found_from request_of store marks 0 oracle

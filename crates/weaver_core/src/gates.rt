@@ -1,12 +1,13 @@
 //! The gatekeepers of a core, by their numbers.
 ghost use Rattle.std.specs.Prelude.{◌≡◌, ◌<◌, ◌≤◌, ◌&&◌, [], length, replicate, not, nat_lt, is_some, option_copied, IsTrue, IsSome, Some, IfOk, OnOk, OnErr};
+ghost use Rattle.std.specs.List.{list_any};
 ghost use Rattle.std.specs.Option.{ForSome, option_map};
 ghost use Rattle.vector_stamp.specs.Clocks.{counts_no_more};
 ghost use Rattle.vector_stamp.specs.Order.{has_64_bits, stamp_before};
 ghost use Rattle.program_defs.specs.Works.{is_change};
 ghost use Rattle.weave_entries.specs.declared.gate_log.GateDeed.TheVariants as deed;
 ghost use Rattle.shard_queue.specs.Sent.{sent_as};
-ghost use Rattle.weave_entries.specs.GateReplay.{Begun, begun_stamp, channel_of, clock_of, flight_of};
+ghost use Rattle.weave_entries.specs.GateReplay.{Begun, begun_stamp, channel_of, clock_of, flight_of, is_begun, running_of};
 ghost use Rattle.weave_entries.specs.Sending.{IsCountsOf, messages_of};
 ghost use Rattle.gatekeeper.specs.Answers.{IsRefusedWhere};
 ghost use Rattle.gatekeeper.specs.Gates.{Adds, SendsFlight};
@@ -141,6 +142,23 @@ impl Gates {
         self.gates[gate as usize].fetch(shard, number)
     }
 
+    /// Finishes a program that is running, in the name of the author of its begin.
+    pub(crate) fn finish(
+        &mut self,
+        alloc: Global,
+        gate: u32,
+        author: u32,
+        request: u32,
+    ) -> Result<(), AllocError>
+        requires there { gate < length self.old.logs }
+        requires runs { IsTrue (list_any (is_begun author request) (running_of (log_at self.old gate))) }
+        ensures entry { OnOk result (AddsAt self.old self.new gate author (deed.Finished request)) }
+        ensures refused { OnErr result (self.new ≡ self.old) }
+    {
+        let gate = &mut self.gates[gate as usize];
+        finish_at(gate, alloc, author, request)
+    }
+
     /// Hears a clock.
     pub(crate) fn hear(&mut self, alloc: Global, gate: u32, clock: &Clock) -> Result<(), AllocError>
         requires { gate < length self.old.logs }
@@ -199,6 +217,18 @@ fn stamp_at(
     match work {
         Work::Change(_) => gate.begin_tx(alloc, 0, request, last),
         Work::Look(_) => Ok(gate.begin_program(alloc, 0, request, last)?),
+    }
+}
+
+// The gatekeeper finishes a program that is running.
+fn finish_at(gate: &mut Gate, alloc: Global, author: u32, request: u32) -> Result<(), AllocError>
+    requires { IsTrue (list_any (is_begun author request) (running_of gate.old.log)) }
+    ensures entry { OnOk result (Adds gate.old gate.new author (deed.Finished request)) }
+    ensures refused { OnErr result (gate.new ≡ gate.old) }
+{
+    match gate.finish(alloc, author, request) {
+        Ok(()) => Ok(()),
+        Err(_) => Err(AllocError),
     }
 }
 

@@ -7,6 +7,7 @@ mod beginning;
 mod client;
 mod clients;
 mod clocks;
+mod finishing;
 mod gates;
 mod judging;
 mod machines;
@@ -16,8 +17,14 @@ mod replies;
 mod replying;
 mod sending;
 mod shards;
+mod staying;
 mod stepper;
+mod stepping;
 #[cfg(test)]
 mod tests;
+mod visiting;
+mod walks;
 
+pub use path_program::AnyProgram;
 pub use stepper::Core;
+pub use walks::Running;

@@ -9,11 +9,14 @@ ghost use Rattle.weave_entries.specs.declared.oracle_log.OracleEntry.{OracleEntr
 ghost use Rattle.weave_account.specs.Report.{MatchesAccount};
 ghost use Rattle.step_rules.specs.CoreState.{start_state};
 ghost use Rattle.weaver_core.specs.Cores.{AreOf, MayDo, MachinesDo};
-ghost use Rattle.weaver_core.specs.Reporting.{AreOfHomes, all_pairs_found, reply_stamped, request_with};
+ghost use Rattle.step_rules.specs.Requests.{last_begun};
+ghost use Rattle.weaver_core.specs.Reporting.{AreOfHomes, all_pairs_found, reply_kept, request_with};
+ghost use Rattle.weaver_core.specs.Walks.{AreMarksOf, AreProgramsOf, IsKeptIn, IsLook, IsRunningIn};
 
 use crate::beginning::begin_in;
 use crate::clients::Clients;
 use crate::clocks::{hear_in, raise_in};
+use crate::finishing::finish_in;
 use crate::gates::Gates;
 use crate::judging::judge_in;
 use crate::messages::{apply_in, deliver_in, nop_in};
@@ -22,9 +25,13 @@ use crate::replies::replies_of;
 use crate::replying::reply_in;
 use crate::sending::send_in;
 use crate::shards::Shards;
+use crate::staying::what_stays;
+use crate::visiting::visit_next;
+use crate::walks::{Walk, Walking};
 use backing_store::Store;
 use backing_store::laws::what_is_asked_is_kept;
 use order_graph::laws::ends_are_of_pairs;
+use program_defs::laws::order_of_reads_is_free;
 use program_defs::{Request, Script, Step};
 use report_rules::{Report, StepAnswer};
 use std::alloc::{AllocError, Global};
@@ -34,13 +41,14 @@ use timeline_oracle::Oracle;
 use vector_stamp::laws::{equality_is_decided, parts_and_unions_are_coherent};
 use vector_stamp::{Clock, Stamp};
 use weave_account::laws::{
-    begun_stamps_are_coherent, clocks_are_known, heads_pass, judgements_are_of_requests,
-    messages_can_be_taken, placed_pairs_are_the_pairs, requests_end_or_go_on,
-    requests_of_a_session_rise, stamps_are_begun,
+    begun_stamps_are_coherent, clocks_are_known, collections_leave_what_programs_see, heads_pass,
+    judgements_are_of_requests, messages_can_be_taken, placed_pairs_are_the_pairs,
+    requests_end_or_go_on, requests_of_a_session_rise, stamps_are_begun, updates_are_commits,
 };
-use weave_data::Items;
+use weave_data::{Items, Name};
 use weave_entries::laws::{
-    begun_and_replied_are_decided, sessions_go_in_turn, what_has_not_ended_goes_on,
+    begun_and_replied_are_decided, sessions_go_in_turn, the_shard_replay_goes_on, updates_go_on,
+    what_has_not_ended_goes_on,
 };
 
 /// The machines of a script. Contracts see what they are made for, and their logs and notices.
@@ -117,8 +125,8 @@ impl Machines {
         }
     }
 
-    // `begin R`: the request is stamped at its gatekeeper, if it is its session's next one.
-    fn begin(
+    /// `begin R`: the request is stamped at its gatekeeper, if it is its session's next one.
+    pub(crate) fn begin(
         &mut self,
         alloc: Global,
         script: &Script,
@@ -204,8 +212,8 @@ impl Machines {
         )
     }
 
-    // `reply R` of a transaction: the session has the reply, if it was sent.
-    fn reply(&mut self, script: &Script, request: u32) -> Result<StepAnswer, AllocError>
+    /// `reply R` of a transaction: the session has the reply, if it was sent.
+    pub(crate) fn reply(&mut self, script: &Script, request: u32) -> Result<StepAnswer, AllocError>
         requires { MayDo script.now self.old (step.Reply request) }
         ensures done { IfOk result (λ answer. MachinesDo script.now (step.Reply request) self.old self.new answer) }
         ensures refused { OnErr result (self.new ≡ self.old) }
@@ -263,6 +271,7 @@ impl Machines {
     {
         messages_can_be_taken();
         let _ = script;
+        // No count of a message is above the number of commits, and that has 63 bits.
         let _commits = self.store.commits();
         deliver_in(alloc, &self.gates, &mut self.shards, gate, shard, number)
     }
@@ -284,9 +293,97 @@ impl Machines {
         apply_in(alloc, &mut self.shards, shard, gate)
     }
 
+    /// `visit R` of a running program: it reads its next vertex, if its shard is ready.
+    pub(crate) fn visit(
+        &mut self,
+        alloc: Global,
+        script: &Script,
+        request: u32,
+        running: &mut Walking,
+        marks: &mut Vec<Option<Name>>,
+    ) -> Result<StepAnswer, AllocError>
+        requires are { AreOf script.now self.old }
+        requires runs { IsRunningIn script.now self.old.state.account request running.old }
+        requires marks { AreMarksOf self.old.state.account marks.old.items }
+        ensures done { IfOk result (λ answer. MachinesDo script.now (step.Visit request) self.old self.new answer) }
+        ensures refused { OnErr result (self.new ≡ self.old) }
+        ensures runs { IsRunningIn script.now self.new.state.account request running.new }
+        ensures marks { AreMarksOf self.new.state.account marks.new.items }
+    {
+        begun_stamps_are_coherent();
+        collections_leave_what_programs_see();
+        ends_are_of_pairs();
+        judgements_are_of_requests();
+        order_of_reads_is_free();
+        parts_and_unions_are_coherent();
+        requests_end_or_go_on();
+        stamps_are_begun();
+        the_shard_replay_goes_on();
+        updates_are_commits();
+        updates_go_on();
+        what_has_not_ended_goes_on();
+        what_stays();
+        let _ = request;
+        visit_next(
+            alloc,
+            &mut self.shards,
+            &mut self.oracle,
+            script.shards,
+            &mut running.program,
+            marks,
+        )
+    }
+
+    /// `reply R` of a program: it is finished at its gatekeeper, and the session has the reply.
+    pub(crate) fn finish(
+        &mut self,
+        alloc: Global,
+        script: &Script,
+        request: u32,
+        walk: &mut Option<Walk>,
+    ) -> Result<StepAnswer, AllocError>
+        requires are { AreOf script.now self.old }
+        requires look { IsLook script.now request }
+        requires kept { IsKeptIn script.now self.old.state.account request walk.old }
+        ensures done { IfOk result (λ answer. MachinesDo script.now (step.Reply request) self.old self.new answer) }
+        ensures refused { OnErr result (self.new ≡ self.old) }
+        ensures kept { IsKeptIn script.now self.new.state.account request walk.new }
+    {
+        begun_and_replied_are_decided();
+        order_of_reads_is_free();
+        requests_end_or_go_on();
+        requests_of_a_session_rise();
+        what_has_not_ended_goes_on();
+        what_stays();
+        let asked = &script.requests.as_slice()[request as usize];
+        finish_in(
+            alloc,
+            &mut self.gates,
+            &mut self.clients,
+            request,
+            asked,
+            walk,
+        )
+    }
+
+    /// The stamp that was begun last in a session.
+    pub(crate) fn last(&self, session: u32) -> Option<Stamp>
+        requires { session < length self.now.state.account.sessions }
+        ensures { result ≡ last_begun self.now.state.account session }
+    {
+        self.clients.last(session)
+    }
+
     /// The report of the account but for its order, and without answers of steps. The one error is out of memory.
-    pub(crate) fn unordered(&self, alloc: Global, script: &Script) -> Result<Report, AllocError>
-        requires { AreOf script.now self.now }
+    pub(crate) fn unordered(
+        &self,
+        alloc: Global,
+        script: &Script,
+        walks: &[Option<Walk>],
+        marks: &[Option<Name>],
+    ) -> Result<Report, AllocError>
+        requires are { AreOf script.now self.now }
+        requires programs { AreProgramsOf script.now self.now.state.account walks.now marks.now }
         ensures matches { IfOk result (MatchesAccount script.now self.now.state.account) }
         ensures answers { IfOk result (λ report. report.answers ≡ []) }
     {
@@ -303,6 +400,8 @@ impl Machines {
             alloc,
             requests,
             stamps.as_slice(),
+            walks,
+            marks,
             &self.store,
             &self.oracle,
         )
@@ -316,26 +415,29 @@ impl Machines {
     }
 }
 
-// Replies and pairs, by the stamps and the logs of store and oracle.
+// Replies and pairs, by the stamps, by what is kept of programs, and by the logs of store and oracle.
 fn report_of(
     alloc: Global,
     requests: &[Request],
     stamps: &[Option<Stamp>],
+    walks: &[Option<Walk>],
+    marks: &[Option<Name>],
     store: &Store,
     oracle: &Oracle,
 ) -> Result<Report, AllocError>
     requires few { length requests.now < 2 ^ 32 }
     requires many { length stamps.now ≡ length requests.now }
+    requires as_many { length walks.now ≡ length requests.now }
     requires begun { (stamp : Stamp) → Contains stamps.now (Some stamp) → stamp.home < 8 }
     requires settled { (entry : OracleEntry) → Contains oracle.now entry → AreOfHomes (settled_entry entry) }
     ensures replies { IfOk result (λ report. report.replies
-        ≡ map (reply_stamped stamps.now store.now) (range_with_len 0 (length requests.now))) }
+        ≡ map (reply_kept stamps.now walks.now store.now) (range_with_len 0 (length requests.now))) }
     ensures pairs { IfOk result (λ report. report.pairs
-        ≡ all_pairs_found (request_with stamps.now) store.now oracle.now) }
+        ≡ all_pairs_found (request_with stamps.now) store.now marks.now oracle.now) }
     ensures answers { IfOk result (λ report. report.answers ≡ []) }
 {
-    let replies = replies_of(alloc, requests, stamps, store)?;
-    let pairs = pairs_of(alloc, stamps, store, oracle)?;
+    let replies = replies_of(alloc, requests, stamps, walks, store)?;
+    let pairs = pairs_of(alloc, stamps, marks, store, oracle)?;
     Ok(Report {
         replies,
         pairs,

@@ -1,5 +1,5 @@
 //! The pairs of a report: those of the oracle, each with its two requests and the vertex for which it was added.
-ghost use Rattle.std.specs.Prelude.{◌≡◌, ◌<◌, ◌^◌, ◌++◌, length, slice_get, Contains, Some, IfOk, OnOk};
+ghost use Rattle.std.specs.Prelude.{◌≡◌, ◌<◌, ◌^◌, ◌++◌, None, length, slice_get, slice_index_or, Contains, Some, IfOk, OnOk};
 ghost use Rattle.std.specs.List.{filter_map};
 ghost use Rattle.std.specs.Option.{option_and_then};
 ghost use Rattle.vector_stamp.specs.declared.clock.Stamp.{Stamp};
@@ -21,10 +21,11 @@ use weave_entries::{OracleDeed, OracleEntry, StoreDeed, StoreEntry};
 // The request of each event, by the event's home, epoch and count.
 type Requests = HashMap<(u32, u64, u64), u32>;
 
-/// The pairs of the oracle, all added by commits, in the order in which they were added. The one error is out of memory.
+/// The pairs of the oracle, in the order in which they were added. The marks say which were added by visits, and for which vertices. The one error is out of memory.
 pub(crate) fn pairs_of(
     alloc: Global,
     stamps: &[Option<Stamp>],
+    marks: &[Option<Name>],
     store: &Store,
     oracle: &Oracle,
 ) -> Result<Items<Pair>, AllocError>
@@ -32,14 +33,27 @@ pub(crate) fn pairs_of(
     requires begun { (stamp : Stamp) → Contains stamps.now (Some stamp) → stamp.home < 8 }
     requires settled { (entry : OracleEntry) → Contains oracle.now entry → AreOfHomes (settled_entry entry) }
     ensures { IfOk result (λ pairs. pairs
-        ≡ all_pairs_found (request_with stamps.now) store.now oracle.now) }
+        ≡ all_pairs_found (request_with stamps.now) store.now marks.now oracle.now) }
 {
     let requests = requests_by_event(alloc, stamps)?;
     let mut pairs = Items::new(alloc);
-    for entry in oracle.log() {
-        add_pairs(&mut pairs, &requests, store, entry)?;
+    let log = oracle.log();
+    for place in 0..log.len() {
+        let vertex = mark_at(marks, place);
+        add_pairs(&mut pairs, &requests, store, vertex, &log[place])?;
     }
     Ok(pairs)
+}
+
+// The vertex that is marked at a place of the oracle's log.
+fn mark_at(marks: &[Option<Name>], place: usize) -> Option<Name>
+    ensures { result ≡ slice_index_or marks.now place None }
+{
+    if place < marks.len() {
+        marks[place]
+    } else {
+        None
+    }
 }
 
 // The request of each event that was begun: the first one, should there be more.
@@ -59,28 +73,39 @@ fn requests_by_event(alloc: Global, stamps: &[Option<Stamp>]) -> Result<Requests
     Ok(requests)
 }
 
-// Adds the pairs of an entry of the oracle.
+// Adds the pairs of an entry of the oracle, with the vertex that is marked for it.
 fn add_pairs(
     pairs: &mut Items<Pair>,
     requests: &Requests,
     store: &Store,
+    vertex: Option<Name>,
     entry: &OracleEntry,
 ) -> Result<(), AllocError>
     requires { AreOfHomes (settled_entry entry.now) }
     ensures { OnOk result (pairs.new
-        ≡ pairs.old ++ pairs_found (found_in requests.now.entries) store.now (settled_entry entry.now)) }
+        ≡ pairs.old ++ pairs_found (found_in requests.now.entries) store.now vertex (settled_entry entry.now)) }
 {
     let Some(later) = request_of(requests, later_in(entry)) else {
         return Ok(());
     };
-    add_pairs_before(
-        pairs,
-        requests,
-        earlier_in(entry),
-        asked_for(store, later),
-        later,
-        places_in(entry),
-    )
+    match vertex {
+        None => add_pairs_before(
+            pairs,
+            requests,
+            earlier_in(entry),
+            asked_for(store, later),
+            later,
+            places_in(entry),
+        ),
+        Some(vertex) => add_pairs_before(
+            pairs,
+            requests,
+            earlier_in(entry),
+            &[vertex],
+            later,
+            places_in(entry),
+        ),
+    }
 }
 
 fn earlier_in(entry: &OracleEntry) -> &[Stamp]

@@ -3,8 +3,9 @@ ghost use Rattle.std.specs.Prelude.{◌≡◌, ◌<◌, ◌^◌, length, map, If
 ghost use Rattle.std.specs.List.{range_with_len};
 ghost use Rattle.weave_account.specs.Report.{state_by_verdict, state_of_tx};
 ghost use Rattle.weave_entries.specs.StoreReplay.{judged_by, judgement_of};
-ghost use Rattle.weaver_core.specs.Reporting.{state_stamped, reply_stamped};
+ghost use Rattle.weaver_core.specs.Reporting.{reply_kept, state_kept, state_stamped, state_walked};
 
+use crate::walks::Walk;
 use backing_store::Store;
 use program_defs::Request;
 use report_rules::{Reply, ReplyState};
@@ -13,22 +14,25 @@ use vector_stamp::Stamp;
 use weave_data::{Copied, Items};
 use weave_entries::{StoreDeed, StoreEntry, Verdict};
 
-/// One reply for each request, in order, if no program is finished. The one error is out of memory.
+/// One reply for each request, in order. The one error is out of memory.
 pub(crate) fn replies_of(
     alloc: Global,
     requests: &[Request],
     stamps: &[Option<Stamp>],
+    walks: &[Option<Walk>],
     store: &Store,
 ) -> Result<Items<Reply>, AllocError>
     requires few { length requests.now < 2 ^ 32 }
     requires stamps { length stamps.now ≡ length requests.now }
+    requires walks { length walks.now ≡ length requests.now }
     ensures { IfOk result (λ replies. replies
-        ≡ map (reply_stamped stamps.now store.now) (range_with_len 0 (length requests.now))) }
+        ≡ map (reply_kept stamps.now walks.now store.now) (range_with_len 0 (length requests.now))) }
 {
     let mut replies = Items::new(alloc);
     for request in 0..requests.len() as u32 {
         let stamp = stamps[request as usize];
-        let state = state_of(alloc, request, stamp, store)?;
+        let walk = &walks[request as usize];
+        let state = state_kept(alloc, request, stamp, walk, store)?;
         replies.push(Reply {
             request,
             stamp,
@@ -36,6 +40,32 @@ pub(crate) fn replies_of(
         })?;
     }
     Ok(replies)
+}
+
+// The state of a request of which this is kept.
+fn state_kept(
+    alloc: Global,
+    request: u32,
+    stamp: Option<Stamp>,
+    walk: &Option<Walk>,
+    store: &Store,
+) -> Result<ReplyState, AllocError>
+    ensures { IfOk result (λ state. state ≡ state_kept store.now request stamp walk.now) }
+{
+    match walk {
+        None => state_of(alloc, request, stamp, store),
+        Some(walk) => state_of_walk(alloc, walk),
+    }
+}
+
+// The state of a program that has begun.
+fn state_of_walk(alloc: Global, walk: &Walk) -> Result<ReplyState, AllocError>
+    ensures { IfOk result (λ state. state ≡ state_walked walk.now) }
+{
+    match walk {
+        Walk::Running(_) => Ok(ReplyState::Begun),
+        Walk::Finished(answer) => Ok(ReplyState::Finished(answer.copy(alloc)?)),
+    }
 }
 
 // The state of a request that has this stamp.
@@ -53,7 +83,7 @@ fn state_of(
     }
 }
 
-// The state of a request that has begun. A program is running.
+// The state of a transaction that has begun.
 fn state_of_begun(alloc: Global, request: u32, store: &Store) -> Result<ReplyState, AllocError>
     ensures { IfOk result (λ state. state ≡ state_of_tx (judgement_of request store.now)) }
 {

@@ -6,12 +6,19 @@ ghost use Rattle.weave_entries.specs.ShardRules.{IsTakable, PassesAt};
 ghost use Rattle.shard_node.specs.Shards.{IsRightlyUnapplied};
 ghost use Rattle.weaver_core.specs.Messages.{AppliesHead, Arrives};
 ghost use Rattle.weaver_core.specs.ShardTable.{AreFirst, log_at};
+ghost use Rattle.weaver_core.specs.Visiting.{CanBeVisited, Reads};
+ghost use Rattle.shard_node.specs.Shards.{IsRightlyUnread};
 
-use shard_node::{ApplyFault, Shard};
+use graph_ops::Record;
+use shard_node::{ApplyFault, Shard, VisitFault};
 use shard_queue::Arrival;
 use std::alloc::{AllocError, Global};
 use std::marker::Model;
+use timeline_oracle::Oracle;
+use vector_stamp::Stamp;
+use weave_data::Name;
 use weave_entries::Message;
+use weave_entries::laws::{kept_updates_are_read_like_all, oracle_entries_are_a_judges};
 
 /// The shards, in the order of their numbers. Contracts see the number of gatekeepers and the logs.
 #[derive(Drop)]
@@ -80,6 +87,29 @@ impl Shards {
     {
         let shard = &mut self.shards[shard as usize];
         shard.apply(alloc, 0, gate)
+    }
+
+    /// A shard reads a vertex for a program: the state that the program sees. The oracle is asked in the same call.
+    pub(crate) fn visit(
+        &mut self,
+        alloc: Global,
+        shard: u32,
+        request: u32,
+        stamp: Stamp,
+        vertex: Name,
+        oracle: &mut Oracle,
+    ) -> Result<Option<Record>, VisitFault>
+        requires there { shard < length self.old.logs }
+        requires ready { CanBeVisited oracle.old (log_at self.old shard) stamp vertex }
+        ensures reads { IfOk result (Reads self.old self.new oracle.old oracle.new shard request stamp vertex) }
+        ensures unread { IfErr result (λ fault. IsRightlyUnread self.old.gates stamp (log_at self.old shard) fault) }
+        ensures refused { OnErr result (self.new ≡ self.old) }
+        ensures not_asked { OnErr result (oracle.new ≡ oracle.old) }
+    {
+        kept_updates_are_read_like_all();
+        oracle_entries_are_a_judges();
+        let shard = &mut self.shards[shard as usize];
+        shard.visit(alloc, 0, request, stamp, vertex, oracle)
     }
 }
 

@@ -1,5 +1,5 @@
 //! A core: a script with its machines.
-ghost use Rattle.std.specs.Prelude.{◌≡◌, [], length, OnErr, IfOk};
+ghost use Rattle.std.specs.Prelude.{◌≡◌, [], None, length, replicate, OnErr, IfOk};
 ghost use Rattle.proof_base.specs.Facts.{AllHold};
 ghost use Rattle.program_defs.specs.Limits.{IsWithinLimits};
 ghost use Rattle.report_rules.specs.PrintedOrder.{IsPrintedOrder};
@@ -11,6 +11,8 @@ ghost use Rattle.step_rules.specs.IsCore.{IsCore, IsStepOf};
 ghost use Rattle.weaver_core.specs.Cores.{Does, IsBuilt};
 
 use crate::machines::Machines;
+use crate::stepping::step_in;
+use crate::walks::Walk;
 use order_witness::order_of;
 use program_defs::{Script, Step};
 use report_rules::laws::orders_are_of_replies_and_pairs;
@@ -19,7 +21,7 @@ use std::alloc::{AllocError, Global};
 use std::marker::Model;
 use step_rules::laws::steps_keep_the_core;
 use weave_account::laws::account_may_be_ordered;
-use weave_data::Items;
+use weave_data::{Items, Name};
 
 /// The machines of a script, run step by step (Weaver, PVLDB 9(11) 2016).
 ///
@@ -28,16 +30,22 @@ use weave_data::Items;
 pub struct Core {
     script: Script,
     machines: Machines,
+    // What is kept of each request that is a program: its walk, and then its answer.
+    walks: Vec<Option<Walk>>,
+    // For each entry of the oracle the vertex of the visit that asked for it, if one did. It may end before the oracle's log.
+    marks: Vec<Option<Name>>,
 }
 
 impl Model for Core {
     ghost use Rattle.weaver_core.specs.Cores.{CoreView, AreOf};
+    ghost use Rattle.weaver_core.specs.Walks.{AreProgramsOf};
 
     ghost Value = { CoreView };
 
     ghost view = { λ c. record { script = c.script; state = c.machines.state } };
 
-    ghost invariant = { λ c. AreOf c.script c.machines };
+    ghost invariant = { λ c. AreOf c.script c.machines
+        × AreProgramsOf c.script c.machines.state.account c.walks.items c.marks.items };
 }
 
 impl Core {
@@ -48,7 +56,13 @@ impl Core {
         ensures state { IfOk result (λ core. core.state ≡ start_state script) }
     {
         let machines = Machines::new(alloc, &script)?;
-        Ok(Core { script, machines })
+        let walks = no_walks(alloc, script.requests.as_slice().len())?;
+        Ok(Core {
+            script,
+            machines,
+            walks,
+            marks: Vec::new(alloc),
+        })
     }
 
     /// Does a step: its answer, and the logs and notices that it leaves, are those of the definition of steps.
@@ -61,7 +75,14 @@ impl Core {
         ensures refused { OnErr result (self.new ≡ self.old) }
     {
         steps_keep_the_core();
-        self.machines.step(alloc, &self.script, step)
+        step_in(
+            alloc,
+            &self.script,
+            &mut self.machines,
+            &mut self.walks,
+            &mut self.marks,
+            step,
+        )
     }
 
     /// The script that it was started with.
@@ -87,9 +108,25 @@ impl Core {
     {
         account_may_be_ordered();
         orders_are_of_replies_and_pairs();
-        let unordered = self.machines.unordered(alloc, &self.script)?;
+        let unordered = self.machines.unordered(
+            alloc,
+            &self.script,
+            self.walks.as_slice(),
+            self.marks.as_slice(),
+        )?;
         with_order(alloc, &self.script, unordered)
     }
+}
+
+// Of no request anything is kept.
+fn no_walks(alloc: Global, requests: usize) -> Result<Vec<Option<Walk>>, AllocError>
+    ensures { IfOk result (λ walks. walks.items ≡ replicate requests None) }
+{
+    let mut walks = Vec::new(alloc);
+    for _request in 0..requests {
+        walks.push(None)?;
+    }
+    Ok(walks)
 }
 
 // The report with its printed order.

@@ -1,12 +1,12 @@
-//! Each step of a core with its answer, and the report. Worked lists of steps are run as texts by the top call.
+//! Each public call of a core, once, and what it answers. Worked lists of steps are run as texts by the top call.
 ghost use Rattle.std.specs.Prelude.{IsTrue};
 ghost use Rattle.step_rules.specs.IsCore.{IsStepOf};
 ghost use Rattle.weaver_core.specs.Cores.{IsBuilt};
 
 use crate::Core;
 use graph_ops::Op;
-use program_defs::{Program, Request, Script, Step, Work};
-use report_rules::{ReplyState, Report, StepAnswer};
+use program_defs::{Answer, Program, Request, Script, Step, Work};
+use report_rules::{Pair, ReplyState, Report, StepAnswer};
 use std::alloc::Global;
 use std::process::Abort;
 use weave_data::{Items, Name};
@@ -16,41 +16,45 @@ fn name(rt: &impl Abort, text: &str) -> Name {
 }
 
 // A transaction of one operation.
-fn transaction(
-    rt: &impl Abort,
-    alloc: Global,
-    text: &str,
-    session: u32,
-    gate: u32,
-    op: Op,
-) -> Request {
+fn change(rt: &impl Abort, alloc: Global, op: Op) -> Work {
     let mut ops = Items::new(alloc);
     ops.push(op).expect(rt, "no memory");
-    Request {
-        name: name(rt, text),
-        session,
-        gate,
-        work: Work::Change(ops),
+    Work::Change(ops)
+}
+
+// The operation that creates v.
+fn create(rt: &impl Abort) -> Op {
+    Op::Create { v: name(rt, "v") }
+}
+
+// The operation that sets a property of v.
+fn set(rt: &impl Abort) -> Op {
+    Op::Set {
+        v: name(rt, "v"),
+        key: name(rt, "k"),
+        value: name(rt, "x"),
     }
 }
 
-// Two gatekeepers and a shard; session 0 creates a vertex at gatekeeper 0, session 1 sets a property of it at gatekeeper 1.
-fn two_writers(rt: &impl Abort, alloc: Global) -> Script {
-    let (v, k, x) = (name(rt, "v"), name(rt, "k"), name(rt, "x"));
-    let set = Op::Set {
-        v,
-        key: k,
-        value: x,
-    };
+// A shard and two requests of two sessions: the first one creates v at gatekeeper 0.
+fn script_of(rt: &impl Abort, alloc: Global, gates: u32, gate: u32, work: Work) -> Script {
     let mut requests = Items::new(alloc);
-    requests
-        .push(transaction(rt, alloc, "t1", 0, 0, Op::Create { v }))
-        .expect(rt, "no memory");
-    requests
-        .push(transaction(rt, alloc, "t2", 1, 1, set))
-        .expect(rt, "no memory");
+    let first = Request {
+        name: name(rt, "t"),
+        session: 0,
+        gate: 0,
+        work: change(rt, alloc, create(rt)),
+    };
+    requests.push(first).expect(rt, "no memory");
+    let second = Request {
+        name: name(rt, "u"),
+        session: 1,
+        gate,
+        work,
+    };
+    requests.push(second).expect(rt, "no memory");
     Script {
-        gates: 2,
+        gates,
         shards: 1,
         requests,
         phases: Items::new(alloc),
@@ -64,11 +68,9 @@ fn is_step_of(script: &Script, step: &Step) -> bool
 {
     let requests = script.requests.as_slice();
     match *step {
-        Step::Begin { request } => (request as usize) < requests.len(),
-        Step::Reply { request } => match requests.get(request as usize) {
-            Some(asked) => matches!(asked.work, Work::Change(_)),
-            None => false,
-        },
+        Step::Begin { request } | Step::Visit { request } | Step::Reply { request } => {
+            (request as usize) < requests.len()
+        }
         Step::Judge { gate } | Step::Send { gate } | Step::Say { gate } => gate < script.gates,
         Step::Hear { gate, notice } => gate < script.gates && 1 <= notice,
         Step::Nop { gate, shard } => gate < script.gates && shard < script.shards,
@@ -83,15 +85,7 @@ fn is_step_of(script: &Script, step: &Step) -> bool
     }
 }
 
-fn deliver(gate: u32, number: u64) -> Step {
-    Step::Deliver {
-        gate,
-        shard: 0,
-        number,
-    }
-}
-
-// The words of an answer, without its fields.
+// The words of an answer, with the places that these tests expect.
 fn word(answer: &StepAnswer) -> &'static str {
     match answer {
         StepAnswer::Ok => "ok",
@@ -104,6 +98,7 @@ fn word(answer: &StepAnswer) -> &'static str {
         StepAnswer::Repeat => "repeat",
         StepAnswer::Empty => "empty",
         StepAnswer::Waits { .. } => "waits",
+        StepAnswer::Again { shard: 0, gate: 0 } => "again 0 0",
         StepAnswer::Again { .. } => "again",
     }
 }
@@ -126,177 +121,149 @@ fn started(rt: &impl Abort, alloc: Global, script: Script) -> Core {
     Core::start(alloc, script).expect(rt, "no memory")
 }
 
-// The number of a request's commit.
-fn commit_of(report: &Report, r: usize) -> Option<u64> {
-    let Some(reply) = report.replies.as_slice().get(r) else {
-        return None;
-    };
-    match &reply.state {
-        ReplyState::Committed { number, .. } => Some(*number),
-        _ => None,
-    }
+// The report, of two requests that ended in this order. It has no answers.
+fn report_in_order(rt: &impl Abort, alloc: Global, core: &Core) -> Report {
+    let report = core.report(alloc).expect(rt, "no memory");
+    assert!(rt; report.order.as_slice() == [0u32, 1u32].as_slice());
+    assert!(rt; report.answers.as_slice().is_empty());
+    report
 }
 
-fn is_unbegun(report: &Report, r: usize) -> bool {
-    match report.replies.as_slice().get(r) {
-        Some(reply) => matches!(reply.state, ReplyState::Unbegun),
+// Whether the second request is the second commit.
+fn is_second_commit(report: &Report) -> bool {
+    match report.replies.as_slice().get(1) {
+        Some(reply) => matches!(reply.state, ReplyState::Committed { number: 2, .. }),
         None => false,
     }
 }
 
-// One transaction after another: the second is put after the first, for the vertex that both name.
-#[test]
-fn an_unordered_writer_comes_after(rt: HostRuntime) {
-    let alloc = rt.alloc();
-    let mut core = started(&rt, alloc, two_writers(&rt, alloc));
-    let steps = [
-        (Step::Begin { request: 0 }, "ok"),
-        (Step::Judge { gate: 0 }, "ok"),
-        (Step::Send { gate: 0 }, "ok"),
-        (Step::Begin { request: 1 }, "ok"),
-        (Step::Judge { gate: 1 }, "ok"),
-        (Step::Send { gate: 1 }, "ok"),
-        (Step::Reply { request: 1 }, "ok"),
-    ];
-    run(&rt, alloc, &mut core, &steps);
-    let report = core.report(alloc).expect(&rt, "no memory");
-    assert_eq!(rt; report.pairs.as_slice().len(), 1);
-    assert!(rt; report.order.as_slice() == [0u32, 1u32].as_slice());
-    assert_eq!(rt; commit_of(&report, 1), Some(2u64));
-    assert_eq!(rt; report.answers.as_slice().len(), 0);
-}
-
-// Answers that aren't ok, and nothing in the report from the steps that give them.
-#[test]
-fn what_can_not_be_done(rt: HostRuntime) {
-    let alloc = rt.alloc();
-    let mut core = started(&rt, alloc, two_writers(&rt, alloc));
-    let steps = [
-        (Step::Judge { gate: 0 }, "idle"),
-        (Step::Send { gate: 0 }, "idle"),
-        (Step::Reply { request: 0 }, "idle"),
-        (Step::Hear { gate: 0, notice: 1 }, "unknown"),
-        (Step::Say { gate: 1 }, "ok"),
-        (Step::Hear { gate: 0, notice: 1 }, "ok"),
-        (Step::Begin { request: 0 }, "ok"),
-        (Step::Begin { request: 0 }, "twice"),
-        (Step::Send { gate: 0 }, "idle"),
-        (Step::Reply { request: 0 }, "idle"),
-        (Step::Judge { gate: 0 }, "ok"),
-        (Step::Judge { gate: 0 }, "idle"),
-        (Step::Reply { request: 0 }, "idle"),
-        (Step::Send { gate: 0 }, "ok"),
-        (Step::Reply { request: 0 }, "ok"),
-        (Step::Reply { request: 0 }, "idle"),
-        (Step::Epoch { gate: 0, epoch: 2 }, "ok"),
-        (Step::Epoch { gate: 0, epoch: 2 }, "old"),
-    ];
-    run(&rt, alloc, &mut core, &steps);
-    assert_eq!(rt; core.notices(), 1);
-    let report = core.report(alloc).expect(&rt, "no memory");
-    assert!(rt; report.order.as_slice() == [0u32].as_slice());
-    assert!(rt; is_unbegun(&report, 1));
-}
-
-// Messages are numbered from 1, and are processed in the order of their numbers.
-#[test]
-fn messages_are_processed_in_their_order(rt: HostRuntime) {
-    let alloc = rt.alloc();
-    let mut core = started(&rt, alloc, two_writers(&rt, alloc));
-    let nop = Step::Nop { gate: 0, shard: 0 };
-    let apply = Step::Apply { shard: 0, gate: 0 };
-    let steps = [
-        (nop, "ok"),
-        (nop, "ok"),
-        (deliver(0, 2), "ok"),
-        (apply, "empty"),
-        (deliver(0, 2), "repeat"),
-        (deliver(0, 3), "unknown"),
-        (deliver(1, 1), "unknown"),
-        (deliver(0, 1), "ok"),
-        (apply, "ok"),
-        (apply, "ok"),
-        (apply, "empty"),
-        (deliver(0, 1), "repeat"),
-    ];
-    run(&rt, alloc, &mut core, &steps);
-}
-
-// The second transaction's message waits for that of the first, at the vertex that both name.
-#[test]
-fn a_head_waits_for_earlier_updates(rt: HostRuntime) {
-    let alloc = rt.alloc();
-    let mut core = started(&rt, alloc, two_writers(&rt, alloc));
-    let steps = [
-        (Step::Begin { request: 0 }, "ok"),
-        (Step::Nop { gate: 0, shard: 0 }, "busy"),
-        (Step::Judge { gate: 0 }, "ok"),
-        (Step::Send { gate: 0 }, "ok"),
-        (Step::Begin { request: 1 }, "ok"),
-        (Step::Judge { gate: 1 }, "ok"),
-        (Step::Send { gate: 1 }, "ok"),
-        (deliver(1, 1), "ok"),
-        (Step::Apply { shard: 0, gate: 1 }, "waits"),
-        (deliver(0, 1), "ok"),
-        (Step::Apply { shard: 0, gate: 0 }, "ok"),
-        (Step::Apply { shard: 0, gate: 1 }, "ok"),
-    ];
-    run(&rt, alloc, &mut core, &steps);
-    let report = core.report(alloc).expect(&rt, "no memory");
-    assert!(rt; report.order.as_slice() == [0u32, 1u32].as_slice());
-}
-
-// A program first in session 0, a transaction after it, and one of session 1, all at one gatekeeper.
-fn program_first(rt: &impl Abort, alloc: Global) -> Script {
-    let v = name(rt, "v");
-    let mut requests = Items::new(alloc);
-    requests
-        .push(Request {
-            name: name(rt, "p"),
-            session: 0,
-            gate: 0,
-            work: Work::Look(Program::Show { v }),
-        })
-        .expect(rt, "no memory");
-    requests
-        .push(transaction(rt, alloc, "t1", 0, 0, Op::Create { v }))
-        .expect(rt, "no memory");
-    requests
-        .push(transaction(rt, alloc, "t2", 1, 0, Op::Get { v }))
-        .expect(rt, "no memory");
-    Script {
-        gates: 1,
-        shards: 2,
-        requests,
-        phases: Items::new(alloc),
-        steps: None,
+// Whether the second request, a program, is running.
+fn is_running(report: &Report) -> bool {
+    match report.replies.as_slice().get(1) {
+        Some(reply) => matches!(reply.state, ReplyState::Begun),
+        None => false,
     }
 }
 
-// How the first request of a core's script is in its report.
-fn first_is_begun(rt: &impl Abort, alloc: Global, core: &Core) -> bool {
-    let report = core.report(alloc).expect(rt, "no memory");
-    let Some(reply) = report.replies.as_slice().first() else {
-        return false;
-    };
-    assert!(rt;
-        matches!(reply.state, ReplyState::Begun) || matches!(reply.state, ReplyState::Unbegun)
-    );
-    reply.stamp.is_some() && matches!(reply.state, ReplyState::Begun)
+// Whether the second request, a program, has read a record.
+fn has_read_a_record(report: &Report) -> bool {
+    match report.replies.as_slice().get(1) {
+        Some(reply) => matches!(reply.state, ReplyState::Finished(Answer::Shown(Some(_)))),
+        None => false,
+    }
 }
 
-// A program begins during a flight, and what comes after it in its session waits.
+// Whether the first pair puts the first request before the second one, for v.
+fn is_pair_for(pairs: &[Pair], v: Name) -> bool {
+    match pairs.get(0) {
+        Some(pair) => pair.vertex == v && pair.earlier == 0 && pair.later == 1,
+        None => false,
+    }
+}
+
+// Two writers with unordered stamps.
+const WRITERS: [(Step, &str); 17] = [
+    (Step::Begin { request: 0 }, "ok"),
+    (Step::Nop { gate: 0, shard: 0 }, "busy"),
+    (Step::Judge { gate: 0 }, "ok"),
+    (Step::Send { gate: 0 }, "ok"),
+    (Step::Reply { request: 0 }, "ok"),
+    (Step::Begin { request: 1 }, "ok"),
+    (Step::Say { gate: 1 }, "ok"),
+    (Step::Hear { gate: 0, notice: 1 }, "ok"),
+    (Step::Hear { gate: 0, notice: 2 }, "unknown"),
+    (Step::Judge { gate: 1 }, "ok"),
+    (Step::Send { gate: 1 }, "ok"),
+    (
+        Step::Deliver {
+            gate: 1,
+            shard: 0,
+            number: 1,
+        },
+        "ok",
+    ),
+    (Step::Apply { shard: 0, gate: 1 }, "waits"),
+    (
+        Step::Deliver {
+            gate: 0,
+            shard: 0,
+            number: 1,
+        },
+        "ok",
+    ),
+    (Step::Apply { shard: 0, gate: 0 }, "ok"),
+    (Step::Apply { shard: 0, gate: 1 }, "ok"),
+    (Step::Epoch { gate: 0, epoch: 1 }, "ok"),
+];
+
+// The second one is put after the first, and the first update is applied first.
 #[test]
-fn a_program_begins(rt: HostRuntime) {
+fn two_transactions(rt: HostRuntime) {
     let alloc = rt.alloc();
-    let mut core = started(&rt, alloc, program_first(&rt, alloc));
-    assert!(rt; !first_is_begun(&rt, alloc, &core));
-    let steps = [
-        (Step::Begin { request: 2 }, "ok"),
-        (Step::Begin { request: 0 }, "ok"),
-        (Step::Begin { request: 0 }, "twice"),
-        (Step::Begin { request: 1 }, "early"),
-    ];
-    run(&rt, alloc, &mut core, &steps);
-    assert!(rt; first_is_begun(&rt, alloc, &core));
+    let script = script_of(&rt, alloc, 2, 1, change(&rt, alloc, set(&rt)));
+    let mut core = started(&rt, alloc, script);
+    run(&rt, alloc, &mut core, &WRITERS);
+    assert_eq!(rt; core.script().gates, 2);
+    assert_eq!(rt; core.notices(), 1);
+    let report = report_in_order(&rt, alloc, &core);
+    assert!(rt; is_second_commit(&report));
+    assert!(rt; is_pair_for(report.pairs.as_slice(), name(&rt, "v")));
+}
+
+// A program is begun while a transaction is in flight at its gatekeeper.
+const RUNNING: [(Step, &str); 8] = [
+    (Step::Visit { request: 1 }, "idle"),
+    (Step::Reply { request: 1 }, "idle"),
+    (Step::Begin { request: 0 }, "ok"),
+    (Step::Begin { request: 1 }, "ok"),
+    (Step::Begin { request: 1 }, "twice"),
+    (Step::Visit { request: 0 }, "idle"),
+    (Step::Judge { gate: 0 }, "ok"),
+    (Step::Send { gate: 0 }, "ok"),
+];
+
+// It visits its vertex once its shard is ready, and is finished.
+const FINISHED: [(Step, &str); 11] = [
+    (Step::Reply { request: 1 }, "idle"),
+    (
+        Step::Deliver {
+            gate: 0,
+            shard: 0,
+            number: 1,
+        },
+        "ok",
+    ),
+    (Step::Apply { shard: 0, gate: 0 }, "ok"),
+    (Step::Visit { request: 1 }, "again 0 0"),
+    (Step::Nop { gate: 0, shard: 0 }, "ok"),
+    (
+        Step::Deliver {
+            gate: 0,
+            shard: 0,
+            number: 2,
+        },
+        "ok",
+    ),
+    (Step::Visit { request: 1 }, "ok"),
+    (Step::Visit { request: 1 }, "idle"),
+    (Step::Reply { request: 1 }, "ok"),
+    (Step::Reply { request: 1 }, "idle"),
+    (Step::Visit { request: 1 }, "idle"),
+];
+
+// It reads what the transaction wrote, and no pair is needed.
+#[test]
+fn a_program(rt: HostRuntime) {
+    let alloc = rt.alloc();
+    let program = Program::Show { v: name(&rt, "v") };
+    let script = script_of(&rt, alloc, 1, 0, Work::Look(program));
+    let mut core = started(&rt, alloc, script);
+    run(&rt, alloc, &mut core, &RUNNING);
+    let begun = core.report(alloc).expect(&rt, "no memory");
+    assert!(rt; is_running(&begun));
+    run(&rt, alloc, &mut core, &FINISHED);
+    assert_eq!(rt; core.notices(), 0);
+    let report = report_in_order(&rt, alloc, &core);
+    assert!(rt; has_read_a_record(&report));
+    assert!(rt; report.pairs.as_slice().is_empty());
 }

@@ -1,7 +1,6 @@
-use Rattle.std.proofs.Common.{Ok, Some, refl, sym, ap, subst, ◌∙◌}
+use Rattle.std.proofs.Common.{Some, refl, sym, ap, subst, ◌∙◌}
 use Rattle.std.specs.Prelude.{option_copied}
 use Rattle.shard_queue.specs.declared.inbox.Arrival.{Arrival}
-use Rattle.weave_entries.specs.declared.message.Message.{Message}
 use Rattle.weave_entries.specs.ShardRules.{IsTakable}
 use Rattle.weaver_core.specs.Messages.{Arrives}
 use Rattle.weaver_core.proofs.messages.deliver_in.Goals as goal

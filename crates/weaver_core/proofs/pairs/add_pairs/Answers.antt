@@ -13,3 +13,8 @@ pub add_pairs_before-requires : goal.add_pairs_before-requires
 add_pairs_before-requires c = λ (event : Stamp) h.
     let entry = settled_entry c.args.entry.now in
     c.requires event (has_tail entry.later entry.earlier event (subst (λ (events : List Stamp). Contains events event) c.earlier_in.ensures h))
+
+pub add_pairs_before-requires-in-Some-vertex : goal.add_pairs_before-requires-in-Some-vertex
+add_pairs_before-requires-in-Some-vertex c = λ (event : Stamp) h.
+    let entry = settled_entry c.args.entry.now in
+    c.requires event (has_tail entry.later entry.earlier event (subst (λ (events : List Stamp). Contains events event) c.earlier_in-in-Some-vertex.ensures h))

@@ -1,7 +1,7 @@
 use Rattle.std.proofs.Common.{inl, inr, subst, sym}
 use Rattle.program_defs.specs.declared.script.Step.{Step}
 use Rattle.report_rules.specs.declared.report.StepAnswer.{StepAnswer}
-use Rattle.weaver_core.specs.Cores.{IsBuilt, MachinesDo, MayDo}
+use Rattle.weaver_core.specs.Cores.{IsOfMachines, MachinesDo, MayDo}
 use Rattle.weaver_core.proofs.Results.{if_ok_map}
 use Rattle.weaver_core.proofs.machines.Machines.step.Goals as goal
 
@@ -80,6 +80,6 @@ returns-in-Apply-clause-done c =
 -- the other steps are not built
 pub unreachable-requires : goal.unreachable-requires
 unreachable-requires c = elim c.in-Visit.is [
-  | inl visit ↦ subst (IsBuilt c.args.script.now) visit.1 c.requires.built
-  | inr collect ↦ subst (IsBuilt c.args.script.now) collect.1 c.requires.built
+  | inl visit ↦ subst (IsOfMachines c.args.script.now) visit.1 c.requires.built
+  | inr collect ↦ subst (IsOfMachines c.args.script.now) collect.1 c.requires.built
 ]

@@ -4,7 +4,8 @@ use Rattle.program_defs.specs.declared.script.Request.{Request}
 use Rattle.report_rules.specs.declared.report.Report.{Report}
 use Rattle.weave_account.specs.Report.{MatchesAccount}
 use Rattle.weaver_core.specs.Cores.{AreOf, MachinesView}
-use Rattle.weaver_core.specs.Reporting.{reply_stamped}
+use Rattle.weaver_core.specs.Reporting.{reply_kept}
+use Rattle.weaver_core.specs.Walks.{AreProgramsOf}
 use Rattle.weaver_core.proofs.Results.{if_ok_two}
 use Rattle.weaver_core.proofs.Turns.{SessionLaws}
 use Rattle.weaver_core.proofs.Unordered.{ReportLaws, homes, many, settled-homes, unordered-matches}
@@ -26,13 +27,15 @@ report_of-requires c =
       placed = c.placed_pairs_are_the_pairs.ensures;
     } in
     let sessions : SessionLaws = record { begun_first = c.sessions_go_in_turn.ensures.begun; replied_first = c.sessions_go_in_turn.ensures.replied; begun_tested = c.begun_and_replied_are_decided.ensures.begun; replied_tested = c.begun_and_replied_are_decided.ensures.replied } in
-    let are = subst (λ (v : MachinesView). AreOf script v) (sym c.self.view_is) c.requires in
+    let are = subst (λ (v : MachinesView). AreOf script v) (sym c.self.view_is) c.requires.are in
     let requests = ap length c.as_slice-requests.ensures in
     let stamps = c.as_slice.result.now in
     let noted = c.as_slice.ensures.value ∙ c.in_ok-stamps.ensures in
     let most = are.limits.few_requests in
+    let kept = subst (λ (v : MachinesView). AreProgramsOf script v.state.account c.args.walks.now c.args.marks.now) (sym c.self.view_is) c.requires.programs in
     record {
       few = omega (arith, most, requests);
+      as_many = kept.walks_are.many ∙ sym requests;
       many = many laws sessions script m.gates m.store m.oracle m.shards m.clients m.notices.items are (length c.as_slice-requests.result.now) requests stamps noted ∙ sym requests;
       begun = homes laws sessions script m.gates m.store m.oracle m.shards m.clients m.notices.items are (length c.as_slice-requests.result.now) requests stamps noted;
       settled = settled-homes laws sessions script m.gates m.store m.oracle m.shards m.clients m.notices.items are (length c.as_slice-requests.result.now) requests stamps noted;
@@ -52,12 +55,13 @@ returns-clause-matches c =
       placed = c.placed_pairs_are_the_pairs.ensures;
     } in
     let sessions : SessionLaws = record { begun_first = c.sessions_go_in_turn.ensures.begun; replied_first = c.sessions_go_in_turn.ensures.replied; begun_tested = c.begun_and_replied_are_decided.ensures.begun; replied_tested = c.begun_and_replied_are_decided.ensures.replied } in
-    let are = subst (λ (v : MachinesView). AreOf script v) (sym c.self.view_is) c.requires in
+    let are = subst (λ (v : MachinesView). AreOf script v) (sym c.self.view_is) c.requires.are in
     let requests = ap length c.as_slice-requests.ensures in
     let stamps = c.as_slice.result.now in
     let noted = c.as_slice.ensures.value ∙ c.in_ok-stamps.ensures in
+    let kept = subst (λ (v : MachinesView). AreProgramsOf script v.state.account c.args.walks.now c.args.marks.now) (sym c.self.view_is) c.requires.programs in
     if_ok_two c.report_of.result _ _ _
     (λ (report : Report) replies pairs. subst (λ (v : MachinesView). MatchesAccount script v.state.account report) c.self.view_is
-    (unordered-matches laws sessions script m.gates m.store m.oracle m.shards m.clients m.notices.items are (length c.as_slice-requests.result.now) requests stamps noted report
-    (replies ∙ ap (λ (all : List Request). map (reply_stamped stamps m.store) (range_with_len 0 (length all))) c.as_slice-requests.ensures) pairs))
+    (unordered-matches laws sessions script m.gates m.store m.oracle m.shards m.clients m.notices.items are (length c.as_slice-requests.result.now) requests stamps noted c.args.walks.now c.args.marks.now kept report
+    (replies ∙ ap (λ (all : List Request). map (reply_kept stamps c.args.walks.now m.store) (range_with_len 0 (length all))) c.as_slice-requests.ensures) pairs))
     c.report_of.ensures.replies c.report_of.ensures.pairs

@@ -1,7 +1,7 @@
 use Rattle.std.proofs.Common.{◌≡◌, ◌<◌, ◌+◌, List, None, length, sym, ap, subst, ◌∙◌}
 use Rattle.std.specs.Prelude.{IfErr, slice_set}
 use Rattle.std.specs.Option.{ForSome}
-use Rattle.shard_node.specs.Shards.{AddsEntry, IsNext, IsRightlyUnapplied, ShardView}
+use Rattle.shard_node.specs.Shards.{AddsEntry, IsNext, IsRightlyUnapplied}
 use Rattle.shard_node.specs.declared.fault.ApplyFault.{ApplyFault}
 use Rattle.weave_entries.specs.declared.message.Message.{Message}
 use Rattle.weave_entries.specs.declared.shard_log.ShardDeed.TheVariants.{Applied}

@@ -1,7 +1,6 @@
 use Rattle.std.proofs.Common.{◌≡◌, ◌<◌, length, sym, ap, subst, ◌∙◌}
 use Rattle.std.specs.Prelude.{slice_set}
 use Rattle.shard_queue.specs.declared.inbox.Arrival.{Arrival}
-use Rattle.shard_node.specs.Shards.{ShardView}
 use Rattle.weave_entries.specs.declared.shard_log.ShardDeed.TheVariants.{Arrived}
 use Rattle.weaver_core.specs.Messages.{Arrives}
 use Rattle.weaver_core.specs.ShardTable.{ShardTable, log_of}

@@ -1,15 +1,24 @@
-use Rattle.std.proofs.Common.{◌≡◌, sym, subst, ◌∙◌}
+use Rattle.std.proofs.Common.{◌≡◌, List, Option, sym, subst, ◌∙◌}
+use Rattle.weave_data.specs.declared.name.Name.{Name}
 use Rattle.report_rules.specs.PrintedOrder.{IsPrintedOrder}
 use Rattle.report_rules.specs.declared.report.Report.{Report}
 use Rattle.weave_account.specs.Report.{IsReportOfAccount}
 use Rattle.weaver_core.specs.Cores.{CoreView}
+use Rattle.weaver_core.specs.Walks.{AreProgramsOf}
+use Rattle.weaver_core.specs.declared.walks.Walk.{Walk}
 use Rattle.weaver_core.proofs.Results.{if_ok_map, if_ok_three}
 use Rattle.weaver_core.proofs.SameReport.{report-same}
 use Rattle.weaver_core.proofs.stepper.Core.report.Goals as goal
 
 -- the machines are those of the script, by the invariant
 pub unordered-requires : goal.unordered-requires
-unordered-requires c = c.self.invariant
+unordered-requires c =
+    let m = c.self.inside in
+    record {
+      are = c.self.invariant.0;
+      programs = subst (λ (walks : List (Option Walk)). AreProgramsOf m.script m.machines.state.account walks c.as_slice-2.result.now) (sym c.as_slice.ensures.value)
+          (subst (λ (marks : List (Option Name)). AreProgramsOf m.script m.machines.state.account m.walks.items marks) (sym c.as_slice-2.ensures.value) c.self.invariant.1);
+    }
 
 -- the printed order may be asked for
 pub with_order-requires : goal.with_order-requires
@@ -18,8 +27,8 @@ with_order-requires c =
     let account = c.self.inside.machines.state.account in
     let report = c.in_ok-unordered.unordered in
     record {
-      replies = c.account_may_be_ordered.ensures.replies script account report c.self.invariant.limits c.self.invariant.core.account c.in_ok-unordered.ensures.matches;
-      acyclic = c.account_may_be_ordered.ensures.acyclic script account report c.self.invariant.limits c.self.invariant.core.account c.in_ok-unordered.ensures.matches;
+      replies = c.account_may_be_ordered.ensures.replies script account report c.self.invariant.0.limits c.self.invariant.0.core.account c.in_ok-unordered.ensures.matches;
+      acyclic = c.account_may_be_ordered.ensures.acyclic script account report c.self.invariant.0.limits c.self.invariant.0.core.account c.in_ok-unordered.ensures.matches;
     }
 
 pub returns-clause-report : goal.returns-clause-report

@@ -5,7 +5,7 @@ use Rattle.weaver_core.specs.Cores.{CoreView}
 use Rattle.weaver_core.proofs.stepper.Core.script.Goals as goal
 
 pub returns-clause-limits : goal.returns-clause-limits
-returns-clause-limits c = subst (λ (v : CoreView). IsWithinLimits v.script) c.self.view_is c.self.invariant.limits
+returns-clause-limits c = subst (λ (v : CoreView). IsWithinLimits v.script) c.self.view_is c.self.invariant.0.limits
 
 pub returns-clause-core : goal.returns-clause-core
-returns-clause-core c = subst (λ (v : CoreView). IsCore v.script v.state) c.self.view_is c.self.invariant.core
+returns-clause-core c = subst (λ (v : CoreView). IsCore v.script v.state) c.self.view_is c.self.invariant.0.core

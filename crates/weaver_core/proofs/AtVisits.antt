@@ -1,0 +1,137 @@
+-- A visit at one of the shards of a core, and in the oracle's log.
+use Rattle.std.proofs.Common.{◌≡◌, ◌⊎◌, ℕ, zero, suc, ◌+◌, ◌-◌, ◌<◌, ◌≤◌, Bool, true, false, not, List, [], ◌∷◌, ◌++◌, length, map, take, replicate, append_assoc, length-append, arith, Option, None, Some, Result, Ok, Err, IfOk, OnOk, inl, inr, refl, sym, ap, subst, ◌∙◌}
+use Rattle.std.specs.Prelude.{◌||◌, slice_get, slice_set, if◌then◌else◌}
+use Rattle.std.specs.List.{list_any}
+use Rattle.std.proofs.lemmas.List.{map-append, replicate-append-replicate}
+use Rattle.weave_data.specs.declared.name.Name.{Name}
+use Rattle.vector_stamp.specs.declared.clock.Stamp.{Stamp}
+use Rattle.vector_stamp.specs.Precedence.{Given, precedes}
+use Rattle.vector_stamp.specs.Seeing.{last_seen, seen_of}
+use Rattle.vector_stamp.specs.Settling.{SettledEntry, entries_of_call, places_of}
+use Rattle.graph_ops.specs.Operations.{State}
+use Rattle.weave_entries.specs.declared.oracle_log.OracleEntry.{OracleEntry}
+use Rattle.weave_entries.specs.declared.shard_log.ShardEntry.{ShardEntry}
+use Rattle.weave_entries.specs.declared.shard_log.ShardDeed.{ShardDeed}
+use Rattle.weave_entries.specs.declared.shard_log.ShardDeed.TheVariants.{Visited}
+use Rattle.weave_entries.specs.OracleReplay.{oracle_entry, pairs_of_log, settled_entry}
+use Rattle.weave_entries.specs.ShardReplay.{first_unready, state_of_updates, updates_of}
+use Rattle.weave_entries.specs.ShardRules.{IsKeptFor, entries_of_visit, is_settled_by, last_read, update_stamps, updates_read}
+use Rattle.weave_entries.specs.StoreRule.{entries_of_settling}
+use Rattle.shard_node.specs.Shards.{AddsEntry, ShardView}
+use Rattle.step_rules.specs.Entries.{made_entry}
+use Rattle.weaver_core.specs.ShardTable.{AddsAt}
+use Rattle.weaver_core.specs.Visiting.{IsVisited, Reads, entries_asked, marked_at, marked_if, state_seen, updates_seen}
+use Rattle.weaver_core.proofs.AtShards.{adds-at, log-is, table_of}
+
+pub if_ok_on_three : {A E : Type 0} (result : Result A E) (P Q R : Type 0) (S T : A → Type 0) → ((a : A) → P → Q → R → S a → T a) → OnOk result P → OnOk result Q → OnOk result R → IfOk result S → IfOk result T
+if_ok_on_three (Ok a) P Q R S T go p q r s = go a p q r s
+if_ok_on_three (Err e) P Q R S T go p q r s = tt
+
+-- The oracle's log, by what a judge's log has more
+
+module _ (back : (entry : OracleEntry) → oracle_entry (settled_entry entry) ≡ entry) where
+  each-back : (log : List OracleEntry) → map oracle_entry (map settled_entry log) ≡ log
+  each-back [] = refl
+  each-back (entry ∷ log) = λ i. back entry i ∷ each-back log i
+
+  pub oracle-more : (old new : List OracleEntry) (more : List SettledEntry) → map settled_entry new ≡ map settled_entry old ++ more → new ≡ old ++ map oracle_entry more
+  oracle-more old new more is =
+      sym (each-back new) ∙ ap (map oracle_entry) is ∙ map-append oracle_entry (map settled_entry old) more ∙ ap (λ log. log ++ map oracle_entry more) (each-back old)
+
+  pub oracle-same : (old new : List OracleEntry) → map settled_entry new ≡ map settled_entry old → new ≡ old
+  oracle-same old new is = sym (each-back new) ∙ ap (map oracle_entry) is ∙ each-back old
+
+-- A visit is marked exactly if the oracle made an entry
+
+-- what was seen last is one update, or none
+last-cases : (n : ℕ) (updates : List Stamp) → (last_seen n updates ≡ []) ⊎ ((update : Stamp) × (last_seen n updates ≡ update ∷ []))
+last-cases zero updates = inl refl
+last-cases (suc n) [] = inl refl
+last-cases (suc zero) (update ∷ updates) = inr (update, refl)
+last-cases (suc (suc n)) (update ∷ updates) = last-cases (suc n) updates
+
+one-made : (pairs : List Given) (stamp update : Stamp) → list_any (λ (u : Stamp). not (precedes pairs u stamp)) (update ∷ []) ≡ made_entry (entries_of_settling 0 pairs (update ∷ []) stamp)
+one-made pairs stamp update = by (precedes pairs update stamp)
+  where
+    by : (b : Bool) → (not b || false) ≡ made_entry (map oracle_entry (entries_of_call 0 (update ∷ []) stamp (places_of (if b then [] else (0, update) ∷ []))))
+    by true = refl
+    by false = refl
+
+pub settled-made : (pairs : List Given) (stamp : Stamp) (n : ℕ) (updates : List Stamp)
+    → list_any (λ (u : Stamp). not (precedes pairs u stamp)) (last_seen n updates) ≡ made_entry (entries_of_settling 0 pairs (last_seen n updates) stamp)
+settled-made pairs stamp n updates = elim (last-cases n updates) [
+  | inl none ↦ subst (λ (xs : List Stamp). list_any (λ (u : Stamp). not (precedes pairs u stamp)) xs ≡ made_entry (entries_of_settling 0 pairs xs stamp)) (sym none) refl
+  | inr one ↦ subst (λ (xs : List Stamp). list_any (λ (u : Stamp). not (precedes pairs u stamp)) xs ≡ made_entry (entries_of_settling 0 pairs xs stamp)) (sym one.1) (one-made pairs stamp one.0)
+]
+
+-- The laws of weave_entries that are cited
+pub record VisitLaws : Type 0 where
+  -- oracle_entries_are_a_judges
+  pub back : (entry : OracleEntry) → oracle_entry (settled_entry entry) ≡ entry
+  -- kept_updates_are_read_like_all
+  pub updates : (pairs : List Given) (program : Stamp) (v : Name) (log : List ShardEntry) → IsKeptFor program v log → updates_read pairs program v log ≡ seen_of pairs program (update_stamps v log)
+  pub last : (pairs : List Given) (program : Stamp) (v : Name) (log : List ShardEntry) → IsKeptFor program v log → last_read pairs program v log ≡ last_seen (seen_of pairs program (update_stamps v log)) (update_stamps v log)
+
+module _ (laws : VisitLaws) (gates : ℕ) (shards : List ShardView) (s : ℕ) (before after : ShardView) (within : s < length shards) (at : slice_get shards s ≡ Some before)
+    (made : before.gates ≡ gates) (oracle then_oracle : List OracleEntry) (r : ℕ) (stamp : Stamp) (v : Name) (base : IsKeptFor stamp v before.log) where
+  abbrev pairs : List Given
+  pairs = pairs_of_log oracle
+
+  -- what was visited, over this log
+  abbrev Over : List ShardEntry → Type 0
+  Over log = (first_unready gates stamp log ≡ None)
+      × AddsAt (table_of gates shards) (table_of gates (slice_set shards s after)) s (Visited r stamp v (updates_seen oracle log stamp v) (made_entry (entries_asked oracle log stamp v)))
+      × (then_oracle ≡ oracle ++ entries_asked oracle log stamp v)
+
+  updates-are : updates_read pairs stamp v before.log ≡ updates_seen oracle before.log stamp v
+  updates-are = laws.updates pairs stamp v before.log base
+
+  last-is : last_read pairs stamp v before.log ≡ last_seen (updates_seen oracle before.log stamp v) (update_stamps v before.log)
+  last-is = laws.last pairs stamp v before.log base
+
+  settled-is : is_settled_by pairs stamp v before.log ≡ made_entry (entries_asked oracle before.log stamp v)
+  settled-is = ap (list_any (λ (u : Stamp). not (precedes pairs u stamp))) last-is ∙ settled-made pairs stamp (updates_seen oracle before.log stamp v) (update_stamps v before.log)
+
+  deed-is : Visited r stamp v (updates_read pairs stamp v before.log) (is_settled_by pairs stamp v before.log) ≡ Visited r stamp v (updates_seen oracle before.log stamp v) (made_entry (entries_asked oracle before.log stamp v))
+  deed-is = λ i. Visited r stamp v (updates-are i) (settled-is i)
+
+  pub visited-at : first_unready before.gates stamp before.log ≡ None → AddsEntry before after 0 (Visited r stamp v (updates_read pairs stamp v before.log) (is_settled_by pairs stamp v before.log))
+      → map settled_entry then_oracle ≡ map settled_entry oracle ++ entries_of_visit pairs 0 stamp v before.log
+      → IsVisited (table_of gates shards) (table_of gates (slice_set shards s after)) oracle then_oracle s r stamp v
+  visited-at ready entry logged =
+      let here : Over before.log = (
+        ap (λ n. first_unready n stamp before.log) (sym made) ∙ ready,
+        adds-at gates shards s before after within at _ (subst (λ (deed : ShardDeed). AddsEntry before after 0 deed) deed-is entry),
+        oracle-more laws.back oracle then_oracle (entries_of_visit pairs 0 stamp v before.log) logged ∙ ap (λ (xs : List Stamp). oracle ++ entries_of_settling 0 pairs xs stamp) last-is,
+      ) in
+      let all = subst Over (log-is gates shards s before after within at) here in
+      record { ready = all.0; adds = all.1; oracle_is = all.2 }
+
+  pub reads-at : (state : State) → first_unready before.gates stamp before.log ≡ None → AddsEntry before after 0 (Visited r stamp v (updates_read pairs stamp v before.log) (is_settled_by pairs stamp v before.log))
+      → map settled_entry then_oracle ≡ map settled_entry oracle ++ entries_of_visit pairs 0 stamp v before.log
+      → state ≡ state_of_updates (take (updates_read pairs stamp v before.log) (updates_of v before.log))
+      → Reads (table_of gates shards) (table_of gates (slice_set shards s after)) oracle then_oracle s r stamp v state
+  reads-at state ready entry logged is = record {
+    visited = visited-at ready entry logged;
+    state_is = is ∙ ap (λ n. state_of_updates (take n (updates_of v before.log))) updates-are ∙ ap (λ log. state_seen oracle log stamp v) (log-is gates shards s before after within at);
+  }
+
+-- The marks
+
+-- one more without a vertex
+pub none-more : (marks : List (Option Name)) (n : ℕ) → length marks ≤ n → marks ++ replicate (n - length marks) None ++ None ∷ [] ≡ marks ++ replicate (n + 1 - length marks) None
+none-more marks n within =
+    append_assoc marks (replicate (n - length marks) None) (None ∷ [])
+    ∙ ap (λ more. marks ++ more) (replicate-append-replicate (n - length marks) 1 None ∙ ap (λ m. replicate m None) (let e : n - length marks + 1 ≡ n + 1 - length marks = omega (arith, within) in e))
+
+-- the oracle's log is longer exactly if it made an entry
+pub marked-none : (entries : List OracleEntry) (oracle then_oracle : List OracleEntry) (v : Name) (marks : List (Option Name)) → then_oracle ≡ oracle ++ entries → length then_oracle ≤ length oracle → marks ≡ marked_if entries (length oracle) v marks
+marked-none [] oracle then_oracle v marks is same = refl
+marked-none (entry ∷ entries) oracle then_oracle v marks is same =
+    let more : length then_oracle ≡ length oracle + length (entry ∷ entries) = ap length is ∙ length-append oracle (entry ∷ entries) in absurd (omega (arith, more, same))
+
+pub marked-one : (entries : List OracleEntry) (oracle then_oracle : List OracleEntry) (v : Name) (marks then_marks : List (Option Name)) → then_oracle ≡ oracle ++ entries → length oracle < length then_oracle
+    → then_marks ≡ marked_at (length oracle) v marks → then_marks ≡ marked_if entries (length oracle) v marks
+marked-one [] oracle then_oracle v marks then_marks is more marked =
+    let same : length then_oracle ≡ length oracle + 0 = ap length is ∙ length-append oracle [] in absurd (omega (arith, more, same))
+marked-one (entry ∷ entries) oracle then_oracle v marks then_marks is more marked = marked

@@ -1,0 +1,179 @@
+-- A running program can visit any vertex, and can be finished.
+use Rattle.std.proofs.Common.{◌≡◌, ◌≢◌, ◌⊎◌, ℕ, zero, suc, ◌<◌, false, List, [], ◌∷◌, ◌++◌, length, map, take, drop, Contains, IsTrue, Option, None, Some, inl, inr, refl, sym, ap, subst, ◌∙◌, arith}
+use Rattle.std.specs.Prelude.{◌↔◌, ◌==◌, IsSomeAnd}
+use Rattle.std.specs.List.{flat_map, list_any}
+use Rattle.std.proofs.lemmas.Bool.{and_from, both_ways, eq-eqb, eqb-true}
+use Rattle.std.proofs.lemmas.List.Elements.{All-from_recursion, Contains-append_cases, Contains-append_right, Contains-get_or}
+use Rattle.proof_base.proofs.Members.{any_from, filter_has, find_has, flat_has, has_flat, has_map, has_none, has_read, has_head, has_tail, map_has}
+use Rattle.proof_base.proofs.Places.{all-from}
+use Rattle.weave_data.specs.Names.{shard_of}
+use Rattle.weave_data.specs.declared.name.Name.{Name}
+use Rattle.vector_stamp.specs.declared.clock.Stamp.{Stamp}
+use Rattle.vector_stamp.specs.Coherence.{AreCoherent}
+use Rattle.vector_stamp.specs.Order.{id_of}
+use Rattle.vector_stamp.specs.Precedence.{Given, JoinsEvents}
+use Rattle.order_graph.specs.Building.{ends_of}
+use Rattle.program_defs.specs.Limits.{IsWithinLimits}
+use Rattle.program_defs.specs.declared.program.Program.{Program}
+use Rattle.program_defs.specs.declared.script.Request.{Request}
+use Rattle.program_defs.specs.declared.script.Script.{Script}
+use Rattle.program_defs.specs.declared.script.Work.TheVariants.{Change, Look}
+use Rattle.report_rules.specs.Lookups.{is_in, request_at}
+use Rattle.weave_entries.specs.declared.gate_log.GateEntry.{GateEntry}
+use Rattle.weave_entries.specs.declared.shard_log.ShardEntry.{ShardEntry}
+use Rattle.weave_entries.specs.declared.store_log.StoreEntry.{StoreEntry}
+use Rattle.weave_entries.specs.declared.store_log.StoreDeed.{StoreDeed}
+use Rattle.weave_entries.specs.declared.store_log.StoreDeed.TheVariants.{Judged}
+use Rattle.weave_entries.specs.declared.verdict.Verdict.TheVariants.{Committed, Conflict, Refused}
+use Rattle.weave_entries.specs.GateReplay.{Begun, begun_by, begun_in, ended_in, is_begun, program_begun, program_by, programs_of, running_of, tx_by}
+use Rattle.weave_entries.specs.GateRules.{BeginsEachOnce, IsGateLog}
+use Rattle.weave_entries.specs.ShardReplay.{Update, updates_of}
+use Rattle.weave_entries.specs.ShardRules.{IsKeptFor, dropped_of, kept_stamps, update_stamps}
+use Rattle.weave_entries.specs.StoreReplay.{Commit, Judgement, commit_by, commits_naming, commits_of, judged_by, judgements_of, names_vertex}
+use Rattle.weave_account.specs.declared.account.Account.{Account}
+use Rattle.weave_account.specs.Account.{IsBegunStamp, all_begun, begun_stamps, commits_in, gate_log, is_ended, pairs_in, shard_log}
+use Rattle.weave_account.specs.IsAccount.{IsAccount}
+use Rattle.weave_account.specs.Shards.{update_of}
+use Rattle.weaver_core.specs.Visiting.{CanBeVisited}
+
+-- the laws that are cited of what is running
+pub record RunLaws : Type 0 where
+  -- requests_end_or_go_on
+  pub once : (script : Script) (account : Account) → IsWithinLimits script → IsAccount script account → (home : ℕ) → BeginsEachOnce (gate_log account home)
+  -- what_has_not_ended_goes_on
+  pub running : (home shards : ℕ) (log : List GateEntry) → IsGateLog home shards log → BeginsEachOnce log → (program : Begun) → Contains (running_of log) program ↔ (Contains (programs_of log) program × ¬ Contains (ended_in log) program.request)
+
+-- the laws that are cited of visits
+pub record CanVisitLaws : Type 0 where
+  -- begun_stamps_are_coherent
+  pub coherent : (script : Script) (account : Account) → IsWithinLimits script → IsAccount script account → AreCoherent (begun_stamps account)
+  pub differ : (script : Script) (account : Account) → IsWithinLimits script → IsAccount script account → (a b : Begun) → Contains (all_begun account) a → Contains (all_begun account) b → a.request ≢ b.request → id_of a.stamp ≢ id_of b.stamp
+  -- judgements_are_of_requests
+  pub work : (script : Script) (account : Account) → IsWithinLimits script → IsAccount script account → (judged : Judgement) → Contains (judgements_of account.store) judged
+      → IsSomeAnd (request_at script judged.request) (λ (request : Request). request.work ≡ Change judged.ops)
+  pub begun : (script : Script) (account : Account) → IsWithinLimits script → IsAccount script account → (judged : Judgement) → Contains (judgements_of account.store) judged
+      → Contains (all_begun account) (record { author = judged.author; request = judged.request; stamp = judged.stamp })
+  -- stamps_are_begun
+  pub updates : (script : Script) (account : Account) → IsWithinLimits script → IsAccount script account → (v : Name) (shard : ℕ) (update : Update) → Contains (updates_of v (shard_log account shard)) update → IsBegunStamp account update.stamp
+  pub paired : (script : Script) (account : Account) → IsWithinLimits script → IsAccount script account → JoinsEvents (begun_stamps account) (pairs_in account)
+  -- parts_and_unions_are_coherent
+  pub part : (stamps others : List Stamp) → AreCoherent others → ((stamp : Stamp) → Contains stamps stamp → Contains others stamp) → AreCoherent stamps
+  -- ends_are_of_pairs
+  pub no_others : (pairs : List Given) (stamp : Stamp) → Contains (ends_of pairs) stamp → (pair : Given) × Contains pairs pair × ((pair.0 ≡ stamp) ⊎ (pair.1 ≡ stamp))
+  -- updates_are_commits
+  pub whole : (script : Script) (account : Account) → IsWithinLimits script → IsAccount script account → (v : Name) → let updates = updates_of v (shard_log account (shard_of v script.shards)) in updates ≡ map (update_of v) (take (length updates) (commits_naming v (commits_in account)))
+  -- collections_leave_what_programs_see
+  pub kept : (script : Script) (account : Account) → IsWithinLimits script → IsAccount script account → (home : ℕ) (program : Begun) → Contains (running_of (gate_log account home)) program
+      → (v : Name) → IsKeptFor program.stamp v (shard_log account (shard_of v script.shards))
+
+-- Members
+
+pub in-take : {A : Type 0} (n : ℕ) (xs : List A) (x : A) → Contains (take n xs) x → Contains xs x
+in-take zero xs x h = absurd (has_none x h)
+in-take (suc n) [] x h = absurd (has_none x h)
+in-take (suc n) (y ∷ xs) x h = elim (has_read y (take n xs) x h) [
+  | inl same ↦ subst (λ z. Contains (y ∷ xs) z) same (has_head y xs)
+  | inr more ↦ has_tail y xs x (in-take n xs x more)
+]
+
+in-drop : {A : Type 0} (n : ℕ) (xs : List A) (x : A) → Contains (drop n xs) x → Contains xs x
+in-drop zero xs x h = h
+in-drop (suc n) [] x h = absurd (has_none x h)
+in-drop (suc n) (y ∷ xs) x h = has_tail y xs x (in-drop n xs x h)
+
+-- a commit was judged
+commit-deed : (author : ℕ) (deed : StoreDeed) (c : Commit) → Contains (commit_by deed) c → ((judged_by author deed).request ≡ c.request) × ((judged_by author deed).stamp ≡ c.stamp)
+commit-deed author (Judged r stamp ops asked (Committed number answers counts)) c h = elim (has_read _ [] c h) [
+  | inl same ↦ (ap (λ (one : Commit). one.request) same, ap (λ (one : Commit). one.stamp) same)
+  | inr none ↦ absurd (has_none c none)
+]
+commit-deed author (Judged r stamp ops asked (Conflict v newer)) c h = absurd (has_none c h)
+commit-deed author (Judged r stamp ops asked (Refused op reason at)) c h = absurd (has_none c h)
+
+pub commit-judged : (store : List StoreEntry) (c : Commit) → Contains (commits_of store) c → (judged : Judgement) × (Contains (judgements_of store) judged × ((judged.request ≡ c.request) × (judged.stamp ≡ c.stamp)))
+commit-judged store c h =
+    let from = flat_has (λ (entry : StoreEntry). commit_by entry.deed) store c h in
+    (judged_by from.0.author from.0.deed, (has_map (λ (entry : StoreEntry). judged_by entry.author entry.deed) store from.0 from.1, commit-deed from.0.author from.0.deed c from.2))
+
+-- a program that was begun is one of what was begun
+pub program-in : (log : List GateEntry) (b : Begun) → Contains (programs_of log) b → Contains (begun_in log) b
+program-in log b h =
+    let from = flat_has (λ (e : GateEntry). program_by e.author e.deed) log b h in
+    has_flat (λ (e : GateEntry). begun_by e.author e.deed) log from.0 b from.1 (Contains-append_right (tx_by from.0.author from.0.deed) (program_by from.0.author from.0.deed) b from.2)
+
+module _ (run : RunLaws) (script : Script) (account : Account) (limits : IsWithinLimits script) (is : IsAccount script account) (r : ℕ) (request : Request) (request-is : request_at script r ≡ Some request)
+    (program : Program) (looks : request.work ≡ Look program) (begun : Begun) (begun-is : program_begun r (gate_log account request.gate) ≡ Some begun) (runs : is_ended account r ≡ false) where
+  abbrev log : List GateEntry
+  log = gate_log account request.gate
+
+  found : Contains (programs_of log) begun × IsTrue (begun.request == r)
+  found = find_has (λ (one : Begun). one.request == r) (programs_of log) begun begun-is
+
+  its-request : begun.request ≡ r
+  its-request = eqb-true begun.request r found.1
+
+  gate-there : request.gate < length account.gates
+  gate-there = let home = limits.homes r request request-is in let many = is.gatekeepers.as_many in omega (arith, home, many)
+
+  log-there : Contains account.gates log
+  log-there = Contains-get_or account.gates request.gate [] gate-there
+
+  pub among-begun : Contains (all_begun account) begun
+  among-begun = has_flat begun_in account.gates log begun log-there (program-in log begun found.0)
+
+  -- it is running at its gatekeeper
+  pub not-ended : ¬ Contains (ended_in log) begun.request
+  not-ended h =
+      let ended : IsTrue (is_in r (flat_map ended_in account.gates)) = any_from (λ (n : ℕ). r == n) (flat_map ended_in account.gates) begun.request (has_flat ended_in account.gates log begun.request log-there h) (eq-eqb r begun.request (sym its-request)) in
+      both_ways (is_ended account r) runs ended
+
+  pub is-running : Contains (running_of log) begun
+  is-running = (run.running request.gate script.shards log (is.gatekeepers.logs request.gate) (run.once script account limits is request.gate) begun).1 (found.0, not-ended)
+
+  pub runs-there : IsTrue (list_any (is_begun begun.author r) (running_of log))
+  runs-there = any_from (is_begun begun.author r) (running_of log) begun is-running (and_from (begun.author == begun.author) (begun.request == r) (eq-eqb begun.author begun.author refl) found.1)
+
+  -- no update's stamp has its id
+  no-change : (o : Option Request) (judged : Judgement) → o ≡ Some request → IsSomeAnd o (λ (one : Request). one.work ≡ Change judged.ops) → ⊥
+  no-change None judged e h = absurd h
+  no-change (Some one) judged e h = let same : one ≡ request = cc in let both : Change judged.ops ≡ Look program = sym h ∙ ap (λ (q : Request). q.work) same ∙ looks in cc
+
+  module _ (laws : CanVisitLaws) (v : Name) where
+    abbrev here : List ShardEntry
+    here = shard_log account (shard_of v script.shards)
+
+    update-differs : (stamp : Stamp) → Contains (update_stamps v here) stamp → id_of stamp ≢ id_of begun.stamp
+    update-differs stamp h =
+        let updates = updates_of v here in
+        let from = map_has (λ (update : Update). update.stamp) updates stamp h in
+        let commit = map_has (update_of v) (take (length updates) (commits_naming v (commits_in account))) from.0 (subst (λ (us : List Update). Contains us from.0) (laws.whole script account limits is v) from.1) in
+        let in-all = (filter_has (names_vertex v) (commits_in account) commit.0 (in-take (length updates) (commits_naming v (commits_in account)) commit.0 commit.1)).0 in
+        let judged = commit-judged account.store commit.0 in-all in
+        let other : judged.0.request ≢ begun.request = λ (e : judged.0.request ≡ begun.request).
+        no-change (request_at script judged.0.request) judged.0 (ap (request_at script) (e ∙ its-request) ∙ request-is) (laws.work script account limits is judged.0 judged.1.0) in
+        let apart = laws.differ script account limits is (record { author = judged.0.author; request = judged.0.request; stamp = judged.0.stamp }) begun (laws.begun script account limits is judged.0 judged.1.0) among-begun other in
+        subst (λ (s : Stamp). id_of s ≢ id_of begun.stamp) (judged.1.1.1 ∙ ap (λ (u : Update). u.stamp) commit.2 ∙ from.2) apart
+
+    known : (stamp : Stamp) → Contains (begun.stamp ∷ kept_stamps v here ++ ends_of (pairs_in account)) stamp → Contains (begun_stamps account) stamp
+    known stamp h = elim (has_read begun.stamp (kept_stamps v here ++ ends_of (pairs_in account)) stamp h) [
+      | inl same ↦ subst (λ (s : Stamp). Contains (begun_stamps account) s) same (has_map (λ (b : Begun). b.stamp) (all_begun account) begun among-begun)
+      | inr rest ↦ elim (Contains-append_cases (kept_stamps v here) (ends_of (pairs_in account)) stamp rest) [
+        | inl kept ↦
+            let from = map_has (λ (update : Update). update.stamp) (updates_of v here) stamp (in-drop (dropped_of v here) (update_stamps v here) stamp kept) in
+            subst (λ (s : Stamp). Contains (begun_stamps account) s) from.2 (laws.updates script account limits is v (shard_of v script.shards) from.0 from.1)
+        | inr end ↦
+            let from = laws.no_others (pairs_in account) stamp end in
+            let both = laws.paired script account limits is from.0.0 from.0.1 from.1 in
+            elim from.2 [
+              | inl first ↦ subst (λ (s : Stamp). Contains (begun_stamps account) s) first both.0
+              | inr second ↦ subst (λ (s : Stamp). Contains (begun_stamps account) s) second both.1
+            ]
+      ]
+    ]
+
+    pub can-be-visited : CanBeVisited account.oracle here begun.stamp v
+    can-be-visited = record {
+      other_ids = All-from_recursion (λ (stamp : Stamp). id_of stamp ≢ id_of begun.stamp) (kept_stamps v here) (all-from (λ (stamp : Stamp). id_of stamp ≢ id_of begun.stamp) (kept_stamps v here) (λ stamp h. update-differs stamp (in-drop (dropped_of v here) (update_stamps v here) stamp h)));
+      coherent = laws.part (begun.stamp ∷ kept_stamps v here ++ ends_of (pairs_in account)) (begun_stamps account) (laws.coherent script account limits is) known;
+      base = laws.kept script account limits is request.gate begun is-running v;
+    }

@@ -1,0 +1,17 @@
+//! The laws by which what is kept of the programs stays as the logs say, in one.
+ghost use Rattle.weaver_core.specs.Staying.{CoreLaws, StayLaws};
+
+use step_rules::laws::steps_keep_the_core;
+use weave_account::laws::{facts_stay_true, finished_exactly_if_replied};
+use weave_entries::laws::oracle_entries_are_a_judges;
+
+/// What is said of a program's begin, its reads and its end stays true while other logs go on, and each step leaves a core.
+pub(crate) fn what_stays()
+    ensures stay { StayLaws }
+    ensures core { CoreLaws }
+{
+    facts_stay_true();
+    finished_exactly_if_replied();
+    oracle_entries_are_a_judges();
+    steps_keep_the_core();
+}
