@@ -1,15 +1,9 @@
 -- The steps of a valid script that `trace` takes, and what is told of their report.
 use Rattle.std.proofs.Common.{◌≡◌, ℕ, zero, suc, ◌<◌, ◌≤◌, true, false, not, List, [], ◌∷◌, length, refl, subst, arith}
-use Rattle.std.specs.Prelude.{slice_get}
 use Rattle.std.specs.List.{AllByRecursion, list_any}
-use Rattle.program_defs.specs.declared.script.Request.{Request}
 use Rattle.program_defs.specs.declared.script.Script.{Script}
 use Rattle.program_defs.specs.declared.script.Step.{Step}
 use Rattle.program_defs.specs.declared.script.Step.TheVariants.{Begin, Judge, Send, Say, Hear, Nop, Deliver, Apply, Visit, Reply, Collect, Epoch}
-use Rattle.program_defs.specs.declared.script.Work.{Work}
-use Rattle.program_defs.specs.declared.script.Work.TheVariants.{Change, Look}
-use Rattle.program_defs.specs.Works.{is_change, is_look}
-use Rattle.report_rules.specs.Lookups.{is_some_and}
 use Rattle.report_rules.specs.Meetings.{MeetingsAreOrdered}
 use Rattle.report_rules.specs.PrintedOrder.{IsPrintedOrder}
 use Rattle.report_rules.specs.ReportOf.{IsReportOf}
@@ -17,6 +11,7 @@ use Rattle.report_rules.specs.RightReport.{IsRightReport}
 use Rattle.report_rules.specs.declared.report.Report.{Report}
 use Rattle.report_rules.specs.declared.report.StepAnswer.{StepAnswer}
 use Rattle.step_rules.specs.CoreState.{CoreState}
+use Rattle.step_rules.specs.Finishing.{RepliesFinishPrograms}
 use Rattle.step_rules.specs.IsCore.{IsCore, IsStepOf}
 use Rattle.step_rules.specs.Trace.{trace_of}
 use Rattle.weave_account.specs.declared.account.Account.{Account}
@@ -28,7 +23,7 @@ use Rattle.weave_script.specs.Scripts.{IsScript, IsStep, steps_of}
 use Rattle.weaver_core.specs.Cores.{IsBuilt}
 use Rattle.weaver_top.specs.Acceptance.{IsAcceptedByCheck}
 use Rattle.weaver_top.specs.Answers.{TellsTraceAccepted}
-use Rattle.weaver_top.specs.Built.{has_program, has_untaken_step, is_taken_step, is_unbuilt_for_trace}
+use Rattle.weaver_top.specs.Built.{is_taken_step, is_unbuilt_for_trace}
 use Rattle.weaver_top.proofs.Plain.{built_parts}
 
 -- a step in a script is one of the script
@@ -54,42 +49,30 @@ all_there script (step ∷ steps) each = (there script step each.0, all_there sc
 pub steps_there : (script : Script) → IsScript script → AllByRecursion (IsStepOf script) (steps_of script.steps)
 steps_there script is = all_there script (steps_of script.steps) is.steps
 
--- where no request is a program, each is a transaction
-changes : (work : Work) → is_look work ≡ false → is_change work ≡ true
-changes (Change ops) none = refl
-changes (Look program) none = cc
+-- each step that `trace` takes is built
+one_built : (script : Script) (step : Step) → not (is_taken_step step) ≡ false → IsBuilt script step
+one_built script (Begin r) taken = tt
+one_built script (Judge gate) taken = tt
+one_built script (Send gate) taken = tt
+one_built script (Say gate) taken = tt
+one_built script (Hear gate notice) taken = tt
+one_built script (Nop gate shard) taken = tt
+one_built script (Deliver gate shard number) taken = tt
+one_built script (Apply shard gate) taken = tt
+one_built script (Visit r) taken = tt
+one_built script (Reply r) taken = tt
+one_built script (Collect shard) taken = absurd (cc)
+one_built script (Epoch gate epoch) taken = tt
 
-all_change : (requests : List Request) → list_any (λ request. is_look request.work) requests ≡ false → (r : ℕ) → r < length requests → is_some_and (λ (request : Request). is_change request.work) (slice_get requests r) ≡ true
-all_change [] none r below = absurd (omega (arith, below))
-all_change (request ∷ requests) none zero below = changes request.work (built_parts _ _ none).0
-all_change (request ∷ requests) none (suc r) below = all_change requests (built_parts _ _ none).1 r (omega (arith, below))
-
--- so each step that `trace` takes is built
-one_built : (script : Script) → has_program script ≡ false → (step : Step) → IsStep script.gates script.shards (length script.requests) step → not (is_taken_step step) ≡ false → IsBuilt script step
-one_built script none (Begin r) is taken = tt
-one_built script none (Judge gate) is taken = tt
-one_built script none (Send gate) is taken = tt
-one_built script none (Say gate) is taken = tt
-one_built script none (Hear gate notice) is taken = tt
-one_built script none (Reply r) is taken = all_change script.requests none r is
-one_built script none (Epoch gate epoch) is taken = tt
-one_built script none (Nop gate shard) is taken = tt
-one_built script none (Deliver gate shard number) is taken = tt
-one_built script none (Apply shard gate) is taken = tt
-one_built script none (Visit r) is taken = absurd (cc)
-one_built script none (Collect shard) is taken = absurd (cc)
-
-all_built : (script : Script) → has_program script ≡ false → (steps : List Step) → AllByRecursion (IsStep script.gates script.shards (length script.requests)) steps → list_any (λ (step : Step). not (is_taken_step step)) steps ≡ false → AllByRecursion (IsBuilt script) steps
-all_built script none [] each taken = tt
-all_built script none (step ∷ steps) each taken =
+all_built : (script : Script) (steps : List Step) → list_any (λ (step : Step). not (is_taken_step step)) steps ≡ false → AllByRecursion (IsBuilt script) steps
+all_built script [] taken = tt
+all_built script (step ∷ steps) taken =
     let parts = built_parts _ _ taken in
-    (one_built script none step each.0 parts.0, all_built script none steps each.1 parts.1)
+    (one_built script step parts.0, all_built script steps parts.1)
 
--- and each step of a script that `trace` takes
-pub steps_built : (script : Script) → IsScript script → is_unbuilt_for_trace script ≡ false → AllByRecursion (IsBuilt script) (steps_of script.steps)
-steps_built script is taken =
-    let parts = built_parts (has_program script) (has_untaken_step script) taken in
-    all_built script parts.0 (steps_of script.steps) is.steps parts.1
+-- and so is each step of a script that `trace` takes
+pub steps_built : (script : Script) → is_unbuilt_for_trace script ≡ false → AllByRecursion (IsBuilt script) (steps_of script.steps)
+steps_built script taken = all_built script (steps_of script.steps) taken
 
 -- an order of replies and pairs
 abbrev pub AreOfRepliesAndPairs : Type 0
@@ -121,6 +104,7 @@ module _ (script seen : Script) (state : CoreState) (same : seen ≡ script) (le
 pub record IsWellTraced (script : Script) (report : Report) : Type 0 where
   pub by_steps : IsReportOfAccount script (trace_of script (steps_of script.steps)).state.account report
   pub answers : report.answers ≡ (trace_of script (steps_of script.steps)).answers
+  pub finished : RepliesFinishPrograms script (steps_of script.steps) report
   pub of_script : IsReportOf script report
   pub right : IsRightReport script report
   pub in_order : IsPrintedOrder report report.order
@@ -138,6 +122,7 @@ trace_told input script report text short is_text built printed trace accept =
         report = report;
         by_steps = trace.by_steps;
         answers_of_steps = trace.answers;
+        replies_finish_programs = trace.finished;
         report_is_of_script = trace.of_script;
         report_is_right = trace.right;
         order_is_printed_order = trace.in_order;

@@ -19,7 +19,7 @@ has_more_gatekeepers script = nat_lt 1 script.gates
 abbrev pub is_unbuilt : Script → Bool
 is_unbuilt script = has_program script || has_more_gatekeepers script
 
--- `trace` takes the step: it is on transactions, clocks, epochs or messages
+-- `trace` takes the step: it is no collection
 abbrev pub is_taken_step : Step → Bool
 is_taken_step (Begin r) = true
 is_taken_step (Judge gate) = true
@@ -31,13 +31,13 @@ is_taken_step (Epoch gate epoch) = true
 is_taken_step (Nop gate shard) = true
 is_taken_step (Deliver gate shard number) = true
 is_taken_step (Apply shard gate) = true
-is_taken_step (Visit r) = false
+is_taken_step (Visit r) = true
 is_taken_step (Collect shard) = false
 
 -- the script has a step that `trace` doesn't take
 abbrev pub has_untaken_step : Script → Bool
 has_untaken_step script = list_any (λ (step : Step). not (is_taken_step step)) (steps_of script.steps)
 
--- `trace` doesn't take a script with a program, or with `visit` or `collect`
+-- `trace` doesn't take a script with `collect`
 abbrev pub is_unbuilt_for_trace : Script → Bool
-is_unbuilt_for_trace script = has_program script || has_untaken_step script
+is_unbuilt_for_trace script = has_untaken_step script

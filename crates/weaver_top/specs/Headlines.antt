@@ -7,6 +7,7 @@ use Rattle.report_rules.specs.Meetings.{MeetingsAreOrdered, PhasesAreKept}
 use Rattle.report_rules.specs.PrintedOrder.{IsPrintedOrder}
 use Rattle.report_rules.specs.ReportOf.{IsReportOf}
 use Rattle.report_rules.specs.RightReport.{IsRightReport}
+use Rattle.step_rules.specs.Finishing.{RepliesFinishPrograms}
 use Rattle.step_rules.specs.Trace.{trace_of}
 use Rattle.weave_account.specs.Report.{IsReportOfAccount}
 use Rattle.weave_report.specs.ReportText.{report_text}
@@ -32,7 +33,7 @@ pub record TellsRightReport (input text : List ℕ) : Type 0 where
   pub no_steps : report.answers ≡ []
   pub text_is_printed : text ≡ report_text script report
 
--- `trace`: the input is a valid script that `trace` takes, and the text is the printed report of its steps, one after another from the empty logs. It is the report of the logs that the steps leave, with their answers in order, so stamps, verdicts, pairs and answers are those of the definition of steps. It is a right report for the script, in the printed order; of two requests that meet at a vertex one precedes the other.
+-- `trace`: the input is a valid script that `trace` takes, and the text is the printed report of its steps, one after another from the empty logs. It is the report of the logs that the steps leave, with their answers in order, so stamps, verdicts, pairs and answers are those of the definition of steps. A program is finished in it exactly if a `reply` of it answered `ok`. It is a right report for the script, in the printed order; of two requests that meet at a vertex one precedes the other.
 pub record TellsTrace (input text : List ℕ) : Type 0 where
   pub input_is_short : length input ≤ 4194304
   pub script : Script
@@ -41,6 +42,7 @@ pub record TellsTrace (input text : List ℕ) : Type 0 where
   pub report : Report
   pub by_steps : IsReportOfAccount script (trace_of script (steps_of script.steps)).state.account report
   pub answers_of_steps : report.answers ≡ (trace_of script (steps_of script.steps)).answers
+  pub replies_finish_programs : RepliesFinishPrograms script (steps_of script.steps) report
   pub report_is_of_script : IsReportOf script report
   pub report_is_right : IsRightReport script report
   pub order_is_printed_order : IsPrintedOrder report report.order

@@ -52,8 +52,9 @@ fn is_taken_step(step: &Step) -> bool
         | Step::Nop { .. }
         | Step::Deliver { .. }
         | Step::Apply { .. }
+        | Step::Visit { .. }
         | Step::Reply { .. }
         | Step::Epoch { .. } => true,
-        Step::Visit { .. } | Step::Collect { .. } => false,
+        Step::Collect { .. } => false,
     }
 }

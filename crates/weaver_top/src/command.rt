@@ -10,8 +10,8 @@ pub enum Command {
     /// Reads a script and a report after it, and writes whether the report is right. It judges every script and report
     /// that can be read.
     Check,
-    /// Reads a script, does its steps one after another, and writes their report. It takes no program, and no step
-    /// `visit` or `collect`.
+    /// Reads a script, does its steps one after another, and writes their report. It takes no step
+    /// `collect`.
     Trace,
 }
 

@@ -56,40 +56,52 @@ pub(crate) fn call<R: Threads + Wait + Sync>(
     Ok((status, Vec::from_slice(alloc, sink.bytes())?))
 }
 
-// Runs a script with an honest source and sink.
-fn run<R: Threads + Wait + Sync>(
+// Whether `weave` ends with this status and writes this text.
+pub(crate) fn gives<R: Threads + Wait + Sync>(
     rt: &R,
     alloc: Global,
+    words: &[&str],
     input: &[u8],
-) -> Result<(Status, Vec<u8>), AllocError> {
-    call(rt, alloc, &["run"], input, HONEST)
+    outside: Outside,
+    status: Status,
+    text: &[u8],
+) -> Result<bool, AllocError>
+    requires { 0 < outside.source_piece }
+{
+    let (ended, written) = call(rt, alloc, words, input, outside)?;
+    Ok(ended == status && written.as_slice() == text)
 }
 
-#[test]
-fn an_empty_script(rt: HostRuntime) -> Result<(), Fail> {
-    let (status, written) = run(&rt, rt.alloc(), b"weaver 1 1 1\n")?;
-    assert_eq!(rt; status, Status::Done);
-    assert_eq!(rt; written.as_slice(), b"report 1\norder\nend\n".as_slice());
-    Ok(())
+// Whether `run` writes this report for a script.
+fn runs<R: Threads + Wait + Sync>(
+    rt: &R,
+    alloc: Global,
+    script: &[u8],
+    report: &[u8],
+) -> Result<bool, AllocError> {
+    gives(rt, alloc, &["run"], script, HONEST, Status::Done, report)
 }
 
-#[test]
-fn the_first_path(rt: HostRuntime) -> Result<(), Fail> {
-    let (status, written) = run(&rt, rt.alloc(), FIRST)?;
-    assert_eq!(rt; status, Status::Done);
-    assert_eq!(rt; written.as_slice(), FIRST_REPORT);
-    Ok(())
-}
+// Scripts, and their reports: an empty one, the first path, refused operations, and one with sessions, a phase, comments
+// and steps.
+const RUNS: [(&[u8], &[u8]); 4] = [
+    (b"weaver 1 1 1\n", b"report 1\norder\nend\n"),
+    (FIRST, FIRST_REPORT),
+    (
+        b"weaver 1 1 1\ntx a 0 0\ncreate v\nend\ntx b 0 0\nget v\ncreate v\nend\ntx c 0 0\nset w k x\nend\ntx d 0 0\nset v k x\nend\n",
+        b"report 1\ntx a 0:0:1 committed 1\ntx b 0:0:2 refused 2 exists at 1\ntx c 0:0:3 refused 1 missing at 1\ntx d 0:0:4 committed 2\norder a d\nend\n",
+    ),
+    (
+        b"# two sessions\nweaver 1 1 4\n\ntx a 3 0\ncreate v\nlink v e w\nend\nphase\ntx b 7 0\ntag v e k x\nget v\nend\nsteps\nbegin a",
+        b"report 1\ntx a 0:0:1 committed 1\ntx b 0:0:2 committed 2\ngot 2 record e>w,k=x\norder a b\nend\n",
+    ),
+];
 
 #[test]
-fn refused_operations(rt: HostRuntime) -> Result<(), Fail> {
-    let input =
-        b"weaver 1 1 1\ntx a 0 0\ncreate v\nend\ntx b 0 0\nget v\ncreate v\nend\ntx c 0 0\nset w k x\nend\ntx d 0 0\nset v k x\nend\n";
-    let report =
-        b"report 1\ntx a 0:0:1 committed 1\ntx b 0:0:2 refused 2 exists at 1\ntx c 0:0:3 refused 1 missing at 1\ntx d 0:0:4 committed 2\norder a d\nend\n";
-    let (status, written) = run(&rt, rt.alloc(), input)?;
-    assert_eq!(rt; status, Status::Done);
-    assert_eq!(rt; written.as_slice(), report.as_slice());
+fn scripts_that_are_run(rt: HostRuntime) -> Result<(), Fail> {
+    for (script, report) in RUNS {
+        assert!(rt; runs(&rt, rt.alloc(), script, report)?);
+    }
     Ok(())
 }
 
@@ -104,9 +116,8 @@ fn set_lines(text: &mut Vec<u8>, first: u32, count: u32) -> Result<(), AllocErro
     Ok(())
 }
 
-#[test]
-fn the_65th_property(rt: HostRuntime) -> Result<(), Fail> {
-    let alloc = rt.alloc();
+// Transactions that set properties of one vertex up to the 64th, and beyond.
+fn many_properties(alloc: Global) -> Result<Vec<u8>, AllocError> {
     let mut input = Vec::from_slice(alloc, b"weaver 1 1 1\ntx a 0 0\ncreate v\n")?;
     set_lines(&mut input, 0, 63)?;
     input.extend_from_slice(b"end\ntx b 0 0\n")?;
@@ -114,11 +125,15 @@ fn the_65th_property(rt: HostRuntime) -> Result<(), Fail> {
     input.extend_from_slice(b"end\ntx c 0 0\n")?;
     set_lines(&mut input, 63, 1)?;
     input.extend_from_slice(b"set v k0 y\nend\n")?;
+    Ok(input)
+}
+
+#[test]
+fn the_65th_property(rt: HostRuntime) -> Result<(), Fail> {
+    let input = many_properties(rt.alloc())?;
     let report =
         b"report 1\ntx a 0:0:1 committed 1\ntx b 0:0:2 refused 2 full at 1\ntx c 0:0:3 committed 2\norder a c\nend\n";
-    let (status, written) = run(&rt, alloc, input.as_slice())?;
-    assert_eq!(rt; status, Status::Done);
-    assert_eq!(rt; written.as_slice(), report.as_slice());
+    assert!(rt; runs(&rt, rt.alloc(), input.as_slice(), report)?);
     Ok(())
 }
 
@@ -126,64 +141,97 @@ fn the_65th_property(rt: HostRuntime) -> Result<(), Fail> {
 fn is_refused<R: Threads + Wait + Sync>(
     rt: &R,
     alloc: Global,
+    command: &str,
     input: &[u8],
     line: &[u8],
 ) -> Result<bool, AllocError> {
-    let (status, written) = run(rt, alloc, input)?;
-    Ok(status == Status::Refused && written.as_slice() == line)
+    gives(rt, alloc, &[command], input, HONEST, Status::Refused, line)
 }
+
+// Inputs that `run` refuses, and the line.
+const REFUSED: [(&str, &str); 19] = [
+    ("", "refused 1 header\n"),
+    ("# nothing\n\n", "refused 3 header\n"),
+    ("weaver 1 9 1\n", "refused 1 gatekeepers\n"),
+    ("weaver 1 1 1\ntx t1 64 0\n", "refused 2 session\n"),
+    (
+        "weaver 1 1 1\ntx t1 0 0\ncreate aaaaaaaaaaaaaaaaaaaaaaaaaaaaaaaaa\nend\n",
+        "refused 3 name\n",
+    ),
+    ("weaver 1 1 1\ntx t1 0 0\nset v k\n", "refused 3 line\n"),
+    ("weaver 1 1 1\ntx t1 0 0\ncreate v\n", "refused 4 end\n"),
+    ("weaver 1 1 1\nsteps\nbegin t1\n", "refused 3 request\n"),
+    ("weaver 1 1 17\n", "refused 1 shards\n"),
+    ("weaver 1 1 1\ntx t1 x 0\n", "refused 2 number\n"),
+    ("weaver 1 1 1\ntx t1 00 0\n", "refused 2 number\n"),
+    ("weaver 1 2 1\ntx t1 0 2\n", "refused 2 gatekeeper\n"),
+    ("weaver 1 1 2\nsteps\ncollect 2\n", "refused 3 shard\n"),
+    (
+        "weaver 1 1 1\nprog p 0 0 around a 1001\n",
+        "refused 2 bound\n",
+    ),
+    (
+        "weaver 1 1 1\ntx t 0 0\nend\ntx t 0 0\n",
+        "refused 4 taken\n",
+    ),
+    ("weaver 1 1 1\ntx  t1 0 0\n", "refused 2 line\n"),
+    ("weaver 1 1 1\nreport 1\n", "refused 2 line\n"),
+    ("weaver 1 2 1\n", "refused 0 unbuilt\n"),
+    ("weaver 1 1 1\nprog p 0 0 show v\n", "refused 0 unbuilt\n"),
+];
 
 #[test]
 fn inputs_that_are_refused(rt: HostRuntime) -> Result<(), Fail> {
-    let cases = [
-        ("", "refused 1 header\n"),
-        ("# nothing\n\n", "refused 3 header\n"),
-        ("weaver 1 9 1\n", "refused 1 gatekeepers\n"),
-        ("weaver 1 1 1\ntx t1 64 0\n", "refused 2 session\n"),
-        (
-            "weaver 1 1 1\ntx t1 0 0\ncreate aaaaaaaaaaaaaaaaaaaaaaaaaaaaaaaaa\nend\n",
-            "refused 3 name\n",
-        ),
-        ("weaver 1 1 1\ntx t1 0 0\nset v k\n", "refused 3 line\n"),
-        ("weaver 1 1 1\ntx t1 0 0\ncreate v\n", "refused 4 end\n"),
-        ("weaver 1 1 1\nsteps\nbegin t1\n", "refused 3 request\n"),
-        ("weaver 1 1 17\n", "refused 1 shards\n"),
-        ("weaver 1 1 1\ntx t1 x 0\n", "refused 2 number\n"),
-        ("weaver 1 1 1\ntx t1 00 0\n", "refused 2 number\n"),
-        ("weaver 1 2 1\ntx t1 0 2\n", "refused 2 gatekeeper\n"),
-        ("weaver 1 1 2\nsteps\ncollect 2\n", "refused 3 shard\n"),
-        (
-            "weaver 1 1 1\nprog p 0 0 around a 1001\n",
-            "refused 2 bound\n",
-        ),
-        (
-            "weaver 1 1 1\ntx t 0 0\nend\ntx t 0 0\n",
-            "refused 4 taken\n",
-        ),
-        ("weaver 1 1 1\ntx  t1 0 0\n", "refused 2 line\n"),
-        ("weaver 1 1 1\nreport 1\n", "refused 2 line\n"),
-        ("weaver 1 2 1\n", "refused 0 unbuilt\n"),
-        ("weaver 1 1 1\nprog p 0 0 show v\n", "refused 0 unbuilt\n"),
-    ];
-    for (input, line) in cases.iter() {
+    for (input, line) in REFUSED.iter() {
         assert!(rt;
-            is_refused(&rt, rt.alloc(), input.as_bytes(), line.as_bytes())?,
+            is_refused(&rt, rt.alloc(), "run", input.as_bytes(), line.as_bytes())?,
             "{input}"
         );
     }
     Ok(())
 }
 
-#[test]
-fn the_65th_operation_and_too_many_bytes(rt: HostRuntime) -> Result<(), Fail> {
-    let alloc = rt.alloc();
+// A transaction of 65 operations.
+fn many_operations(alloc: Global) -> Result<Vec<u8>, AllocError> {
     let mut input = Vec::from_slice(alloc, b"weaver 1 1 1\ntx a 0 0\n")?;
     set_lines(&mut input, 0, 65)?;
-    assert!(rt; is_refused(&rt, alloc, input.as_slice(), b"refused 67 operations\n")?);
-    let spaces = vec![in alloc; b' '; 4_194_305]?;
-    assert!(rt; is_refused(&rt, alloc, spaces.as_slice(), b"refused 0 too_long\n")?);
+    Ok(input)
+}
+
+#[test]
+fn the_65th_operation(rt: HostRuntime) -> Result<(), Fail> {
+    let input = many_operations(rt.alloc())?;
+    assert!(rt;
+        is_refused(
+            &rt,
+            rt.alloc(),
+            "run",
+            input.as_slice(),
+            b"refused 67 operations\n"
+        )?
+    );
     Ok(())
 }
+
+#[test]
+fn inputs_that_are_too_long(rt: HostRuntime) -> Result<(), Fail> {
+    let spaces = vec![in rt.alloc(); b' '; 4_194_305]?;
+    for command in COMMANDS {
+        assert!(rt;
+            is_refused(
+                &rt,
+                rt.alloc(),
+                command,
+                spaces.as_slice(),
+                b"refused 0 too_long\n"
+            )?,
+            "{command}"
+        );
+    }
+    Ok(())
+}
+
+const COMMANDS: [&str; 3] = ["run", "trace", "check"];
 
 // A transaction that makes an edge with eight tags and then sets a tag of this number.
 fn tagged(alloc: Global, last: u32) -> Result<Vec<u8>, AllocError> {
@@ -199,117 +247,101 @@ fn tagged(alloc: Global, last: u32) -> Result<Vec<u8>, AllocError> {
 
 #[test]
 fn the_ninth_tag(rt: HostRuntime) -> Result<(), Fail> {
-    let alloc = rt.alloc();
-    let (status, written) = run(&rt, alloc, tagged(alloc, 9)?.as_slice())?;
-    assert_eq!(rt; status, Status::Done);
+    let ninth = tagged(rt.alloc(), 9)?;
     let refused = b"report 1\ntx t 0:0:1 refused 11 full at 0\norder\nend\n";
-    assert_eq!(rt; written.as_slice(), refused.as_slice());
-    let (status, written) = run(&rt, alloc, tagged(alloc, 1)?.as_slice())?;
-    assert_eq!(rt; status, Status::Done);
+    assert!(rt; runs(&rt, rt.alloc(), ninth.as_slice(), refused)?);
+    let first = tagged(rt.alloc(), 1)?;
     let committed = b"report 1\ntx t 0:0:1 committed 1\norder t\nend\n";
-    assert_eq!(rt; written.as_slice(), committed.as_slice());
+    assert!(rt; runs(&rt, rt.alloc(), first.as_slice(), committed)?);
     Ok(())
 }
 
-#[test]
-fn sessions_phases_comments_and_steps(rt: HostRuntime) -> Result<(), Fail> {
-    let input =
-        b"# two sessions\nweaver 1 1 4\n\ntx a 3 0\ncreate v\nlink v e w\nend\nphase\ntx b 7 0\ntag v e k x\nget v\nend\nsteps\nbegin a";
-    let report =
-        b"report 1\ntx a 0:0:1 committed 1\ntx b 0:0:2 committed 2\ngot 2 record e>w,k=x\norder a b\nend\n";
-    let (status, written) = run(&rt, rt.alloc(), input)?;
-    assert_eq!(rt; status, Status::Done);
-    assert_eq!(rt; written.as_slice(), report.as_slice());
-    Ok(())
-}
-
-// Calls `weave` with these words on a script that could be run.
-fn refuses_words<R: Threads + Wait + Sync>(
-    rt: &R,
-    alloc: Global,
-    words: &[&str],
-) -> Result<bool, AllocError> {
-    let (status, written) = call(rt, alloc, words, FIRST, HONEST)?;
-    Ok(status == Status::Words && written.len() == 0)
-}
+// Command lines that are none.
+const NO_COMMANDS: [&[&str]; 8] = [
+    &[],
+    &["run", "now"],
+    &["Run"],
+    &["check", "now"],
+    &["checks"],
+    &["trace", "now"],
+    &["traces"],
+    &["load", "7", "0"],
+];
 
 #[test]
 fn words_that_are_no_command(rt: HostRuntime) -> Result<(), Fail> {
-    assert!(rt; refuses_words(&rt, rt.alloc(), &[])?);
-    assert!(rt; refuses_words(&rt, rt.alloc(), &["run", "now"])?);
-    assert!(rt; refuses_words(&rt, rt.alloc(), &["Run"])?);
-    assert!(rt; refuses_words(&rt, rt.alloc(), &["check", "now"])?);
-    assert!(rt; refuses_words(&rt, rt.alloc(), &["checks"])?);
-    assert!(rt; refuses_words(&rt, rt.alloc(), &["trace", "now"])?);
-    assert!(rt; refuses_words(&rt, rt.alloc(), &["traces"])?);
-    assert!(rt; refuses_words(&rt, rt.alloc(), &["load", "7", "0"])?);
+    for words in NO_COMMANDS {
+        assert!(rt; gives(&rt, rt.alloc(), words, FIRST, HONEST, Status::Words, b"")?);
+    }
     Ok(())
+}
+
+// Whether `run` ends so on the first script, read in pieces of seven bytes, if this call of the source fails.
+fn read_in_sevens<R: Threads + Wait + Sync>(
+    rt: &R,
+    alloc: Global,
+    source_fails: u64,
+    status: Status,
+    text: &[u8],
+) -> Result<bool, AllocError> {
+    let outside = Outside {
+        source_fails,
+        source_piece: 7,
+        ..HONEST
+    };
+    gives(rt, alloc, &["run"], FIRST, outside, status, text)
 }
 
 // Seventy-two bytes in pieces of seven are eleven calls, and one more meets the end.
 #[test]
 fn each_call_of_the_source_fails_in_turn(rt: HostRuntime) -> Result<(), Fail> {
     for source_fails in 1..=12 {
-        let outside = Outside {
-            source_fails,
-            source_piece: 7,
-            ..HONEST
-        };
-        let (status, written) = call(&rt, rt.alloc(), &["run"], FIRST, outside)?;
-        assert_eq!(rt; status, Status::Read, "at call {source_fails}");
-        assert_eq!(rt; written.len(), 0);
+        assert!(rt;
+            read_in_sevens(&rt, rt.alloc(), source_fails, Status::Read, b"")?,
+            "at call {source_fails}"
+        );
     }
+    assert!(rt; read_in_sevens(&rt, rt.alloc(), 13, Status::Done, FIRST_REPORT)?);
+    Ok(())
+}
+
+// Whether `run` ends so on the first script, its report written in pieces of five bytes, if this call of the sink fails.
+fn written_in_fives<R: Threads + Wait + Sync>(
+    rt: &R,
+    alloc: Global,
+    sink_fails: u64,
+    status: Status,
+    text: &[u8],
+) -> Result<bool, AllocError> {
     let outside = Outside {
-        source_fails: 13,
-        source_piece: 7,
+        sink_fails,
+        sink_piece: 5,
         ..HONEST
     };
-    let (status, written) = call(&rt, rt.alloc(), &["run"], FIRST, outside)?;
-    assert_eq!(rt; status, Status::Done);
-    assert_eq!(rt; written.as_slice(), FIRST_REPORT);
-    Ok(())
+    gives(rt, alloc, &["run"], FIRST, outside, status, text)
 }
 
 #[test]
 fn each_call_of_the_sink_fails_in_turn(rt: HostRuntime) -> Result<(), Fail> {
     let mut taken = 0;
     for sink_fails in 1..=21u64 {
-        let outside = Outside {
-            sink_fails,
-            sink_piece: 5,
-            ..HONEST
-        };
-        let (status, written) = call(&rt, rt.alloc(), &["run"], FIRST, outside)?;
         if taken >= FIRST_REPORT.len() {
-            assert_eq!(rt; status, Status::Done);
-            assert_eq!(rt; written.as_slice(), FIRST_REPORT);
+            assert!(rt; written_in_fives(&rt, rt.alloc(), sink_fails, Status::Done, FIRST_REPORT)?);
             return Ok(());
         }
-        assert_eq!(rt; status, Status::Write, "at call {sink_fails}");
-        assert_eq!(rt; written.as_slice(), &FIRST_REPORT[..taken]);
+        assert!(rt;
+            written_in_fives(
+                &rt,
+                rt.alloc(),
+                sink_fails,
+                Status::Write,
+                &FIRST_REPORT[..taken]
+            )?,
+            "at call {sink_fails}"
+        );
         taken += 5;
     }
     Err(Fail::from("the sink never took all"))
-}
-
-#[test]
-fn a_sink_that_fails_or_takes_nothing(rt: HostRuntime) -> Result<(), Fail> {
-    let fails = Outside {
-        sink_fails: 2,
-        sink_piece: 5,
-        ..HONEST
-    };
-    let (status, written) = call(&rt, rt.alloc(), &["run"], b"weaver 1 1 1\n", fails)?;
-    assert_eq!(rt; status, Status::Write);
-    assert_eq!(rt; written.as_slice(), b"repor".as_slice());
-    let stalls = Outside {
-        sink_piece: 0,
-        ..HONEST
-    };
-    let (status, written) = call(&rt, rt.alloc(), &["run"], b"weaver 1 1 1\n", stalls)?;
-    assert_eq!(rt; status, Status::Write);
-    assert_eq!(rt; written.len(), 0);
-    Ok(())
 }
 
 #[test]
@@ -340,10 +372,19 @@ type Row = (
 );
 
 // Each status but out of memory.
-const STATUSES: [Row; 8] = [
+const STATUSES: [Row; 13] = [
     (&["run"], FIRST, HONEST, Status::Done, 0, FIRST_REPORT),
     (&["check"], RIGHT, HONEST, Status::Done, 0, b"yes\n"),
+    (
+        &["trace"],
+        SAYS,
+        HONEST,
+        Status::Done,
+        0,
+        b"report 1\norder\ndid 1 ok\nend\n",
+    ),
     (&["run"], FIRST, UNREADABLE, Status::Read, 1, b""),
+    (&["trace"], SAYS, UNREADABLE, Status::Read, 1, b""),
     (
         &["run"],
         b"weaver 1\n",
@@ -361,11 +402,14 @@ const STATUSES: [Row; 8] = [
         b"refused 9 end\n",
     ),
     (&["run"], FIRST, UNWRITABLE, Status::Write, 3, b""),
+    (&["trace"], SAYS, FAILS_SECOND, Status::Write, 3, b"repor"),
+    (&["run"], EMPTY, FAILS_SECOND, Status::Write, 3, b"repor"),
+    (&["run"], EMPTY, STALLS, Status::Write, 3, b""),
     (&["go"], FIRST, HONEST, Status::Words, 5, b""),
     (&["check"], WRONG, HONEST, Status::NotRight, 6, b"no iv 2\n"),
 ];
 
-const UNREADABLE: Outside = Outside {
+pub(crate) const UNREADABLE: Outside = Outside {
     source_fails: 1,
     ..HONEST
 };
@@ -375,19 +419,43 @@ const UNWRITABLE: Outside = Outside {
     ..HONEST
 };
 
+const FAILS_SECOND: Outside = Outside {
+    sink_fails: 2,
+    sink_piece: 5,
+    ..HONEST
+};
+
+pub(crate) const STALLS: Outside = Outside {
+    sink_piece: 0,
+    ..HONEST
+};
+
+const EMPTY: &[u8] = b"weaver 1 1 1\n";
+
+const SAYS: &[u8] = b"weaver 1 1 1\nsteps\nsay 0\n";
+
 const RIGHT: &[u8] =
     b"weaver 1 1 1\ntx a 0 0\ncreate v\nend\nreport 1\ntx a 0:0:1 committed 1\norder a\nend\n";
 
 const WRONG: &[u8] =
     b"weaver 1 1 1\ntx a 0 0\ncreate v\nend\ntx b 0 0\nget v\nend\nreport 1\ntx a 0:0:1 committed 1\ntx b 0:0:2 committed 2\ngot 1 absent\norder a b\nend\n";
 
+// Whether `weave` ends with this status, which has this exit code, and writes this text. The source gives its bytes in
+// large pieces.
+fn exits<R: Threads + Wait + Sync>(rt: &R, alloc: Global, row: Row) -> Result<bool, AllocError> {
+    let (words, input, outside, status, code, text) = row;
+    let outside = Outside {
+        source_piece: 65_536,
+        ..outside
+    };
+    let (ended, written) = call(rt, alloc, words, input, outside)?;
+    Ok(ended == status && ended.exit_code() == ExitCode::from(code) && written.as_slice() == text)
+}
+
 #[test]
 fn each_status_has_its_text_and_exit_code(rt: HostRuntime) -> Result<(), Fail> {
-    for (words, input, outside, status, code, text) in STATUSES {
-        let (ended, written) = call(&rt, rt.alloc(), words, input, outside)?;
-        assert_eq!(rt; ended, status);
-        assert!(rt; ended.exit_code() == ExitCode::from(code));
-        assert_eq!(rt; written.as_slice(), text);
+    for row in STATUSES {
+        assert!(rt; exits(&rt, rt.alloc(), row)?);
     }
     Ok(())
 }

@@ -11,13 +11,14 @@ ghost use Rattle.weaver_top.specs.Answers.{IsAnswerTo, TellsTraceAccepted};
 ghost use Rattle.weaver_top.specs.Built.{is_unbuilt_for_trace};
 
 use crate::answer::{Answer, refusal};
-use crate::built::{has_program, has_untaken_step};
+use crate::built::has_untaken_step;
 use crate::command::Command;
 use crate::status::Status;
 use program_defs::{Script, Step};
 use report_rules::StepAnswer;
 use report_rules::laws::orders_are_of_replies_and_pairs;
 use std::alloc::{AllocError, Global};
+use step_rules::laws::replies_finish_programs;
 use weave_account::laws::account_is_right;
 use weave_data::Items;
 use weave_report::{print_report, printed_text_is_text};
@@ -48,7 +49,7 @@ fn answer_for(alloc: Global, script: Script) -> Result<Answer, AllocError>
         → length input ≤ 4194304 → IsTextOf input script → IsAnswerTo Command.Trace input answer) }
 {
     texts_are_of_one_script();
-    if has_program(&script) || has_untaken_step(&script) {
+    if has_untaken_step(&script) {
         return refusal(alloc, 0, b"unbuilt");
     }
     Ok(Answer {
@@ -66,6 +67,7 @@ fn report_of(alloc: Global, script: Script) -> Result<Vec<u8>, AllocError>
 {
     account_is_right();
     orders_are_of_replies_and_pairs();
+    replies_finish_programs();
     scripts_are_small();
     script_names_are_distinct();
     printed_text_is_text();

@@ -22,7 +22,7 @@ traced-requires c =
     record {
       start = c.in_ok-core.ensures.state ∙ ap start_state same;
       steps = subst (λ s. AllByRecursion (IsStepOf s) (steps_of s.steps)) same (steps_there c.args.script c.requires.valid);
-      built = subst (λ s. AllByRecursion (IsBuilt s) (steps_of s.steps)) same (steps_built c.args.script c.requires.valid c.requires.built);
+      built = subst (λ s. AllByRecursion (IsBuilt s) (steps_of s.steps)) same (steps_built c.args.script c.requires.built);
     }
 
 pub returns : goal.returns
@@ -37,9 +37,11 @@ returns c input short is_text =
     let report : Report = record c.in_ok-report.report { answers = c.in_ok-answers.answers } in
     let by = report_of_steps script _ _ same left c.orders_are_of_replies_and_pairs.ensures c.in_ok-report.report c.in_ok-answers.answers c.in_ok-report.ensures.report in
     let laws = c.account_is_right.ensures in
+    let answers = c.in_ok-answers.ensures.answers ∙ ap (λ (s : Script). (trace_of s (steps_of s.steps)).answers) started in
     let trace : IsWellTraced script report = record {
       by_steps = by;
-      answers = c.in_ok-answers.ensures.answers ∙ ap (λ (s : Script). (trace_of s (steps_of s.steps)).answers) started;
+      answers = answers;
+      finished = c.replies_finish_programs.ensures.reported script (steps_of script.steps) report limits account by answers;
       of_script = laws.of_the_script script _ report limits account by;
       right = laws.right script _ report limits account by;
       in_order = laws.in_printed_order script _ report by;
