@@ -52,7 +52,15 @@ text=$({ cat "$steps"; printf '%s\n' "$text"; } | "$program" check); status=$?
 is "the report of trace: status" 0 $status
 is "the report of trace: text" yes "$text"
 
-text=$(printf 'weaver 1 1 1\nprog p 0 0 show v\n' | "$program" trace); status=$?
+text=$("$program" trace <"$top/examples/follows.weave"); status=$?
+is "trace with a program: status" 0 $status
+is "trace with a program: text" "$(cat "$top/examples/follows.report")" "$text"
+
+text=$(cat "$top/examples/follows.weave" "$top/examples/follows.report" | "$program" check); status=$?
+is "the report with a program: status" 0 $status
+is "the report with a program: text" yes "$text"
+
+text=$(printf 'weaver 1 1 1\nsteps\ncollect 0\n' | "$program" trace); status=$?
 is "a script that trace doesn't take: status" 2 $status
 is "a script that trace doesn't take: text" "refused 0 unbuilt" "$text"
 
