@@ -1,0 +1,12 @@
+mod Basis
+mod ListFacts
+mod Processed
+mod SentMessages
+mod NamedParts
+mod NamingCommits
+mod SomeHead
+mod Nudged
+mod ReadyFor
+mod Visitable
+mod ReadsLeft
+mod ReadsStay

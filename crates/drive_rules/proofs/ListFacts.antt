@@ -1,0 +1,69 @@
+-- Lists: pairs of images, the first elements of a list, numbers in a row, and what some members give.
+use Rattle.std.proofs.Common.{◌≡◌, ℕ, zero, suc, ◌+◌, ◌<◌, ◌≤◌, List, [], ◌∷◌, ◌++◌, map, take, length, Contains, AllPairs, Option, None, Some, inl, inr, refl, sym, ap, subst, ◌∙◌, arith}
+use Rattle.std.specs.List.{filter_map, cons_option, range_with_len}
+use Rattle.proof_base.proofs.Members.{has_head, has_map, has_none, has_read, has_tail}
+use Rattle.proof_base.proofs.Ordered.{pairs_cons, pairs_head, pairs_none, pairs_tail}
+
+-- what holds of all pairs of images holds of the elements
+pub pairs-of-images : {A B : Type 0} (f : A → B) (R : B → B → Type 0) (xs : List A) → AllPairs R (map f xs) → AllPairs (λ a b. R (f a) (f b)) xs
+pairs-of-images f R [] pairs = pairs_none (λ a b. R (f a) (f b))
+pairs-of-images f R (x ∷ xs) pairs =
+    pairs_cons (λ a b. R (f a) (f b)) x xs (λ y h. pairs_head R (f x) (map f xs) (f y) pairs (has_map f xs y h)) (pairs-of-images f R xs (pairs_tail R (f x) (map f xs) pairs))
+
+-- one of the first elements is an element
+pub in-take : {A : Type 0} (n : ℕ) (xs : List A) (x : A) → Contains (take n xs) x → Contains xs x
+in-take zero xs x h = absurd (has_none x h)
+in-take (suc n) [] x h = absurd (has_none x h)
+in-take (suc n) (y ∷ xs) x h = elim (has_read y (take n xs) x h) [
+  | inl same ↦ subst (λ k. Contains (y ∷ xs) k) same (has_head y xs)
+  | inr more ↦ has_tail y xs x (in-take n xs x more)
+]
+
+-- an element is among the first n, if fewer are before it
+pub take-has : {A : Type 0} (n : ℕ) (front : List A) (x : A) (back : List A) → length front < n → Contains (take n (front ++ x ∷ back)) x
+take-has zero front x back less = absurd (omega (arith, less))
+take-has (suc n) [] x back less = has_head x (take n back)
+take-has (suc n) (y ∷ front) x back less = has_tail y (take n (front ++ x ∷ back)) x (take-has n front x back (omega (arith, less)))
+
+-- the first elements of a list are its front
+pub take-front : {A : Type 0} (n : ℕ) (front back : List A) → length front ≡ n → take n (front ++ back) ≡ front
+take-front zero [] back long = refl
+take-front zero (x ∷ front) back long = absurd (omega (arith, long))
+take-front (suc n) [] back long = absurd (omega (arith, long))
+take-front (suc n) (x ∷ front) back long = ap (λ xs. x ∷ xs) (take-front n front back (omega (arith, long)))
+
+-- what a member gives is there
+pub filter_map-has : {A B : Type 0} (f : A → Option B) (xs : List A) (x : A) (y : B) → Contains xs x → f x ≡ Some y → Contains (filter_map f xs) y
+filter_map-has f [] x y h e = absurd (has_none x h)
+filter_map-has {B = B} f (z ∷ xs) x y h e =
+    elim (has_read z xs x h) [
+      | inl same ↦ subst (λ o. Contains (cons_option o (filter_map f xs)) y) (sym (ap f same ∙ e)) (has_head y (filter_map f xs))
+      | inr more ↦ later (f z) (filter_map-has f xs x y more e)
+    ]
+  where
+    later : (o : Option B) → Contains (filter_map f xs) y → Contains (cons_option o (filter_map f xs)) y
+    later None h = h
+    later (Some w) h = has_tail w (filter_map f xs) y h
+
+-- what is there was given by a member
+pub filter_map-from : {A B : Type 0} (f : A → Option B) (xs : List A) (y : B) → Contains (filter_map f xs) y → (x : A) × Contains xs x × (f x ≡ Some y)
+filter_map-from f [] y h = absurd (has_none y h)
+filter_map-from {A = A} {B = B} f (z ∷ xs) y h = at (f z) refl (filter_map-from f xs y) h
+  where
+    later : (x : A) × Contains xs x × (f x ≡ Some y) → (x : A) × Contains (z ∷ xs) x × (f x ≡ Some y)
+    later r = (r.0, has_tail z xs r.0 r.1, r.2)
+
+    at : (o : Option B) → f z ≡ o → (Contains (filter_map f xs) y → (x : A) × Contains xs x × (f x ≡ Some y)) → Contains (cons_option o (filter_map f xs)) y → (x : A) × Contains (z ∷ xs) x × (f x ≡ Some y)
+    at None e rest h = later (rest h)
+    at (Some w) e rest h = elim (has_read w (filter_map f xs) y h) [
+      | inl same ↦ (z, has_head z xs, e ∙ ap Some same)
+      | inr more ↦ later (rest more)
+    ]
+
+-- a number of a row is at least the first, and below the end
+pub range-within : (a n y : ℕ) → Contains (range_with_len a n) y → (a ≤ y) × (y < a + n)
+range-within a zero y h = absurd (has_none y h)
+range-within a (suc n) y h = elim (has_read a (range_with_len (a + 1) n) y h) [
+  | inl same ↦ (omega (arith, same), omega (arith, same))
+  | inr more ↦ (let r = range-within (a + 1) n y more in let low = r.0 in let high = r.1 in (omega (arith, low), omega (arith, high)))
+]

@@ -1,0 +1,4 @@
+pub mod Heads
+pub mod Readiness
+pub mod Links
+pub mod LowerLaws
