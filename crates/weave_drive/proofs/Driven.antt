@@ -1,0 +1,137 @@
+-- Driving on: lists of driving steps in turn, and what they leave.
+use Rattle.std.proofs.Common.{◌≡◌, ℕ, ◌≤◌, List, [], ◌∷◌, ◌++◌, fold, IsTrue, refl, sym, ap, subst, ◌∙◌, arith, append_assoc}
+use Rattle.std.proofs.lemmas.Bool.{lt-ltb, ltb-true}
+use Rattle.std.proofs.lemmas.List.{append-nil}
+use Rattle.std.proofs.lemmas.List.Sums.{fold-append}
+use Rattle.program_defs.specs.declared.script.Script.{Script}
+use Rattle.program_defs.specs.declared.script.Step.{Step}
+use Rattle.program_defs.specs.declared.script.Step.TheVariants.{Begin, Judge, Send, Say, Hear, Nop, Deliver, Apply, Visit, Reply, Collect, Epoch}
+use Rattle.program_defs.specs.Limits.{IsWithinLimits}
+use Rattle.report_rules.specs.declared.report.StepAnswer.{StepAnswer}
+use Rattle.weave_account.specs.declared.account.Account.{Account}
+use Rattle.weave_account.specs.Account.{gate_log, shard_log, session_log}
+use Rattle.weave_account.specs.GoesOn.{GoesOn, IsBeginningOf}
+use Rattle.step_rules.specs.CoreState.{CoreState}
+use Rattle.step_rules.specs.IsCore.{IsCore, IsStepOf}
+use Rattle.step_rules.specs.Trace.{state_after}
+use Rattle.weaver_core.specs.Cores.{CoreView, Does}
+use Rattle.weave_drive.specs.Driving.{AreDriving, Drives, IsDriven, is_driving}
+use Rattle.weave_drive.specs.LowerLaws.{LowerLaws}
+
+-- Accounts go on
+
+same-log : {E : Type 0} (log : List E) → IsBeginningOf log log
+same-log log = ([], sym (append-nil log))
+
+longer-log : {E : Type 0} (log middle last : List E) → IsBeginningOf log middle → IsBeginningOf middle last → IsBeginningOf log last
+longer-log log middle last (more, is) (further, are) = (more ++ further, are ∙ ap (λ l. l ++ further) is ∙ append_assoc log more further)
+
+goes-same : (account : Account) → GoesOn account account
+goes-same account = record {
+  gates = λ home. same-log (gate_log account home);
+  store = same-log account.store;
+  oracle = same-log account.oracle;
+  shards = λ shard. same-log (shard_log account shard);
+  sessions = λ session. same-log (session_log account session);
+}
+
+goes-further : (account middle last : Account) → GoesOn account middle → GoesOn middle last → GoesOn account last
+goes-further account middle last on further = record {
+  gates = λ home. longer-log (gate_log account home) (gate_log middle home) (gate_log last home) (on.gates home) (further.gates home);
+  store = longer-log account.store middle.store last.store on.store further.store;
+  oracle = longer-log account.oracle middle.oracle last.oracle on.oracle further.oracle;
+  shards = λ shard. longer-log (shard_log account shard) (shard_log middle shard) (shard_log last shard) (on.shards shard) (further.shards shard);
+  sessions = λ session. longer-log (session_log account session) (session_log middle session) (session_log last session) (on.sessions session) (further.sessions session);
+}
+
+-- Lists of steps
+
+module _ (script : Script) (upto : ℕ) where
+  are-both : (xs ys : List Step) (state : CoreState) → AreDriving script upto state xs → AreDriving script upto (fold (state_after script) state xs) ys → AreDriving script upto state (xs ++ ys)
+  are-both [] ys state are more = more
+  are-both (x ∷ xs) ys state are more = (are.0, are.1, are.2, are-both xs ys (state_after script state x) are.3 more)
+
+  driven-none : (state : CoreState) → IsDriven script upto state state
+  driven-none state = record { steps = []; are = tt; is = refl }
+
+  driven-through : (a b c : CoreState) → IsDriven script upto a b → IsDriven script upto b c → IsDriven script upto a c
+  driven-through a b c x y = record {
+    steps = x.steps ++ y.steps;
+    are = are-both x.steps y.steps a x.are (subst (λ s. AreDriving script upto s y.steps) x.is y.are);
+    is = y.is ∙ ap (λ s. fold (state_after script) s y.steps) x.is ∙ sym (fold-append (state_after script) a x.steps y.steps);
+  }
+
+  core-after-steps : (steps : List Step) (state : CoreState) → IsCore script state → AreDriving script upto state steps → IsCore script (fold (state_after script) state steps)
+  core-after-steps [] state core are = core
+  core-after-steps (step ∷ steps) state core are = core-after-steps steps (state_after script state step) are.2 are.3
+
+  -- what a core is driven to is a core
+  pub core-after : (old new : CoreState) → IsCore script old → IsDriven script upto old new → IsCore script new
+  core-after old new core driven = subst (IsCore script) (sym driven.is) (core-after-steps driven.steps old core driven.are)
+
+  -- and its account goes on
+  module _ (laws : LowerLaws) (limits : IsWithinLimits script) where
+    goes-on-steps : (steps : List Step) (state : CoreState) → IsCore script state → AreDriving script upto state steps → GoesOn state.account (fold (state_after script) state steps).account
+    goes-on-steps [] state core are = goes-same state.account
+    goes-on-steps (step ∷ steps) state core are =
+        goes-further state.account (state_after script state step).account (fold (state_after script) (state_after script state step) steps).account (laws.goes_on script state step limits are.1 core) (goes-on-steps steps (state_after script state step) are.2 are.3)
+
+    pub driven-goes-on : (old new : CoreState) → IsCore script old → IsDriven script upto old new → GoesOn old.account new.account
+    driven-goes-on old new core driven = subst (λ (s : CoreState). GoesOn old.account s.account) (sym driven.is) (goes-on-steps driven.steps old core driven.are)
+
+-- what drives below a number drives below a higher one
+more-driving : (m n : ℕ) → m ≤ n → (step : Step) → IsTrue (is_driving m step) → IsTrue (is_driving n step)
+more-driving m n below (Begin r) t = lt-ltb r n (let less = ltb-true r m t in omega (arith, less, below))
+more-driving m n below (Judge g) t = refl
+more-driving m n below (Send g) t = refl
+more-driving m n below (Say g) t = refl
+more-driving m n below (Hear g k) t = refl
+more-driving m n below (Nop g s) t = refl
+more-driving m n below (Deliver g s k) t = refl
+more-driving m n below (Apply s g) t = refl
+more-driving m n below (Visit r) t = refl
+more-driving m n below (Reply r) t = refl
+more-driving m n below (Collect s) t = t
+more-driving m n below (Epoch g e) t = t
+
+more-are : (script : Script) (m n : ℕ) → m ≤ n → (steps : List Step) (state : CoreState) → AreDriving script m state steps → AreDriving script n state steps
+more-are script m n below [] state are = tt
+more-are script m n below (step ∷ steps) state are = (more-driving m n below step are.0, are.1, are.2, more-are script m n below steps (state_after script state step) are.3)
+
+-- Cores
+
+pub drives-none : (upto : ℕ) (old : CoreView) → Drives upto old old
+drives-none upto old = record { script_is = refl; driven = driven-none old.script upto old.state }
+
+-- a step that was refused drives
+pub drives-same : (upto : ℕ) (old new : CoreView) → new ≡ old → Drives upto old new
+drives-same upto old new same = subst (Drives upto old) (sym same) (drives-none upto old)
+
+pub drives-step : (upto : ℕ) (old new : CoreView) (step : Step) (answer : StepAnswer) → Does step old new answer → IsStepOf old.script step → IsCore new.script new.state → IsTrue (is_driving upto step) → Drives upto old new
+drives-step upto old new step answer did there core driving = record {
+  script_is = did.script_is;
+  driven = record {
+    steps = step ∷ [];
+    are = (driving, there, subst (IsCore old.script) did.state_is (subst (λ s. IsCore s new.state) did.script_is core), tt);
+    is = did.state_is;
+  };
+}
+
+pub drives-through : (upto : ℕ) (a b c : CoreView) → Drives upto a b → Drives upto b c → Drives upto a c
+drives-through upto a b c x y = record {
+  script_is = y.script_is ∙ x.script_is;
+  driven = driven-through a.script upto a.state b.state c.state x.driven (subst (λ s. IsDriven s upto b.state c.state) x.script_is y.driven);
+}
+
+pub drives-more : (m n : ℕ) → m ≤ n → (old new : CoreView) → Drives m old new → Drives n old new
+drives-more m n below old new d = record {
+  script_is = d.script_is;
+  driven = record { steps = d.driven.steps; are = more-are old.script m n below d.driven.steps old.state d.driven.are; is = d.driven.is };
+}
+
+-- a driven core is one of the old script
+pub drives-core : (upto : ℕ) (old new : CoreView) → IsCore old.script old.state → Drives upto old new → IsCore old.script new.state
+drives-core upto old new core d = core-after old.script upto old.state new.state core d.driven
+
+pub drives-on : (upto : ℕ) (laws : LowerLaws) (old new : CoreView) → IsWithinLimits old.script → IsCore old.script old.state → Drives upto old new → GoesOn old.state.account new.state.account
+drives-on upto laws old new limits core d = driven-goes-on old.script upto laws limits old.state new.state core d.driven

@@ -1,0 +1,11 @@
+pub mod Driven
+pub mod After
+pub mod Deeds
+pub mod Quiet
+pub mod Deliveries
+pub mod Applications
+pub mod Nudging
+pub mod Reading
+pub mod Replied
+pub mod Stays
+pub mod Going

@@ -1,0 +1,5 @@
+pub mod Driving
+pub mod Staying
+pub mod LowerLaws
+pub mod Progress
+pub mod Loops

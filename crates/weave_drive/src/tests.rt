@@ -1,0 +1,347 @@
+//! Cores left in hard places by lists of steps, then driven.
+ghost use Rattle.std.specs.Prelude.{IsTrue};
+ghost use Rattle.step_rules.specs.IsCore.{IsStepOf};
+ghost use Rattle.weaver_core.specs.Cores.{IsBuilt};
+
+use crate::drive;
+use graph_ops::Op;
+use order_witness::{Judged, has_numbered_operations, judge_report};
+use program_defs::{Program, Request, Script, Step, Work};
+use report_rules::{ReplyState, Report};
+use std::alloc::Global;
+use std::process::Abort;
+use weave_data::{Items, Name};
+use weaver_core::Core;
+
+fn name(rt: &impl Abort, text: &str) -> Name {
+    Name::parse(text.as_bytes()).expect(rt, "no name")
+}
+
+// One more request of a script.
+fn add(
+    rt: &impl Abort,
+    requests: &mut Items<Request>,
+    text: &str,
+    session: u32,
+    gate: u32,
+    work: Work,
+) {
+    let request = Request {
+        name: name(rt, text),
+        session,
+        gate,
+        work,
+    };
+    requests.push(request).expect(rt, "no memory");
+}
+
+fn change(rt: &impl Abort, alloc: Global, ops: &[Op]) -> Work {
+    let mut items = Items::new(alloc);
+    for op in ops {
+        items.push(*op).expect(rt, "no memory");
+    }
+    Work::Change(items)
+}
+
+fn show(rt: &impl Abort, v: &str) -> Work {
+    Work::Look(Program::Show { v: name(rt, v) })
+}
+
+fn reach(rt: &impl Abort, from: &str, to: &str) -> Work {
+    Work::Look(Program::Reach {
+        from: name(rt, from),
+        to: name(rt, to),
+        pass: None,
+    })
+}
+
+fn create(rt: &impl Abort, v: &str) -> Op {
+    Op::Create { v: name(rt, v) }
+}
+
+fn set(rt: &impl Abort, v: &str) -> Op {
+    Op::Set {
+        v: name(rt, v),
+        key: name(rt, "k"),
+        value: name(rt, "x"),
+    }
+}
+
+fn link(rt: &impl Abort, v: &str, edge: &str, target: &str) -> Op {
+    Op::Link {
+        v: name(rt, v),
+        edge: name(rt, edge),
+        target: name(rt, target),
+    }
+}
+
+// Two chains of links are written side by side at three gatekeepers, and read while they grow.
+fn chains(rt: &impl Abort, alloc: Global) -> Script {
+    let mut all = Items::new(alloc);
+    let a_to_b = [create(rt, "a"), create(rt, "b"), link(rt, "a", "e", "b")];
+    let c_to_a = [create(rt, "c"), link(rt, "c", "f", "a")];
+    let both = [set(rt, "a"), set(rt, "b")];
+    add(rt, &mut all, "t0", 0, 0, change(rt, alloc, &a_to_b));
+    add(rt, &mut all, "t1", 1, 1, change(rt, alloc, &c_to_a));
+    add(rt, &mut all, "p2", 2, 2, show(rt, "a"));
+    add(rt, &mut all, "t3", 3, 2, change(rt, alloc, &both));
+    add(rt, &mut all, "t4", 1, 1, change(rt, alloc, &both));
+    add(rt, &mut all, "p5", 4, 0, reach(rt, "a", "b"));
+    add(rt, &mut all, "p6", 5, 2, reach(rt, "c", "b"));
+    add(rt, &mut all, "t7", 2, 2, change(rt, alloc, &both));
+    add(rt, &mut all, "p8", 0, 0, reach(rt, "b", "c"));
+    Script {
+        gates: 3,
+        shards: 4,
+        requests: all,
+        phases: Items::new(alloc),
+        steps: None,
+    }
+}
+
+// Whether the step is one on a request or at a gatekeeper of the script, and built.
+fn is_step_of(script: &Script, step: &Step) -> bool
+    ensures { IsTrue result → IsStepOf script.now step.now × IsBuilt script.now step.now }
+{
+    let requests = script.requests.as_slice();
+    match *step {
+        Step::Begin { request } | Step::Visit { request } | Step::Reply { request } => {
+            (request as usize) < requests.len()
+        }
+        Step::Judge { gate } | Step::Send { gate } | Step::Say { gate } => gate < script.gates,
+        Step::Hear { gate, notice } => gate < script.gates && 1 <= notice,
+        Step::Nop { gate, shard } => gate < script.gates && shard < script.shards,
+        Step::Deliver {
+            gate,
+            shard,
+            number,
+        } => gate < script.gates && shard < script.shards && 1 <= number,
+        Step::Apply { shard, gate } => shard < script.shards && gate < script.gates,
+        Step::Epoch { gate, epoch } => gate < script.gates && 1 <= epoch && epoch <= 1_000_000,
+        _ => false,
+    }
+}
+
+// The core after these steps, whatever they answer.
+fn left_by(rt: &impl Abort, alloc: Global, script: Script, steps: &[Step]) -> Core {
+    if !script.is_within_limits() {
+        panic!(rt; "not within the limits");
+    }
+    let mut core = Core::start(alloc, script).expect(rt, "no memory");
+    for step in steps {
+        if !is_step_of(core.script(), step) {
+            panic!(rt; "no step of the script");
+        }
+        core.step(alloc, step).expect(rt, "no memory");
+    }
+    core
+}
+
+fn drive_to(rt: &impl Abort, alloc: Global, core: &mut Core, upto: u32) {
+    if upto as usize > core.script().requests.as_slice().len() {
+        panic!(rt; "no such request");
+    }
+    drive(alloc, core, upto).expect(rt, "no memory");
+}
+
+// The report, which is right.
+fn right_report(rt: &impl Abort, alloc: Global, core: &Core) -> Report {
+    let report = core.report(alloc).expect(rt, "no memory");
+    if !has_numbered_operations(core.script()) {
+        panic!(rt; "too many operations");
+    }
+    let judged = judge_report(alloc, core.script(), &report).expect(rt, "no memory");
+    assert!(rt; matches!(judged, Judged::Yes));
+    report
+}
+
+// How many replies from the first on are final.
+fn final_replies(report: &Report) -> usize {
+    report
+        .replies
+        .as_slice()
+        .iter()
+        .take_while(|reply| !matches!(reply.state, ReplyState::Unbegun | ReplyState::Begun))
+        .count()
+}
+
+// How many requests have begun.
+fn begun_requests(report: &Report) -> usize {
+    report
+        .replies
+        .as_slice()
+        .iter()
+        .filter(|reply| reply.stamp.is_some())
+        .count()
+}
+
+// Whether what one report says stays in the other: each stamp, and the pairs first.
+fn stays(before: &Report, after: &Report) -> bool {
+    for (old, new) in before
+        .replies
+        .as_slice()
+        .iter()
+        .zip(after.replies.as_slice())
+    {
+        if old.stamp.is_some() && old.stamp != new.stamp {
+            return false;
+        }
+    }
+    for (old, new) in before.pairs.as_slice().iter().zip(after.pairs.as_slice()) {
+        if old.vertex != new.vertex || old.earlier != new.earlier || old.later != new.later {
+            return false;
+        }
+    }
+    before.pairs.as_slice().len() <= after.pairs.as_slice().len()
+}
+
+// The core is left by the steps and driven: requests below the bound have their replies, what the report said stays, and then all have.
+fn driven(rt: &impl Abort, alloc: Global, steps: &[Step], upto: u32) {
+    let mut core = left_by(rt, alloc, chains(rt, alloc), steps);
+    let before = right_report(rt, alloc, &core);
+    drive_to(rt, alloc, &mut core, upto);
+    let between = right_report(rt, alloc, &core);
+    assert!(rt; upto as usize <= final_replies(&between));
+    assert!(rt; stays(&before, &between));
+    drive_to(rt, alloc, &mut core, 9);
+    let after = right_report(rt, alloc, &core);
+    assert_eq!(rt; final_replies(&after), 9);
+    assert!(rt; stays(&between, &after));
+}
+
+fn begin(request: u32) -> Step {
+    Step::Begin { request }
+}
+
+fn judge(gate: u32) -> Step {
+    Step::Judge { gate }
+}
+
+fn send(gate: u32) -> Step {
+    Step::Send { gate }
+}
+
+fn nop(gate: u32, shard: u32) -> Step {
+    Step::Nop { gate, shard }
+}
+
+fn deliver(gate: u32, shard: u32, number: u64) -> Step {
+    Step::Deliver {
+        gate,
+        shard,
+        number,
+    }
+}
+
+fn apply(shard: u32, gate: u32) -> Step {
+    Step::Apply { shard, gate }
+}
+
+fn visit(request: u32) -> Step {
+    Step::Visit { request }
+}
+
+fn epoch(gate: u32, epoch: u64) -> Step {
+    Step::Epoch { gate, epoch }
+}
+
+// No step was done, and no request above the bound begins.
+#[test]
+fn from_the_start(rt: HostRuntime) {
+    let alloc = rt.alloc();
+    let mut core = left_by(&rt, alloc, chains(&rt, alloc), &[]);
+    drive_to(&rt, alloc, &mut core, 4);
+    let report = right_report(&rt, alloc, &core);
+    assert_eq!(rt; final_replies(&report), 4);
+    assert_eq!(rt; begun_requests(&report), 4);
+    drive_to(&rt, alloc, &mut core, 9);
+    assert_eq!(rt; final_replies(&right_report(&rt, alloc, &core)), 9);
+}
+
+// Transactions in flight: one without its verdict, one with it, and one above the bound.
+#[test]
+fn flights_at_each_gatekeeper(rt: HostRuntime) {
+    let alloc = rt.alloc();
+    let steps = [begin(0), begin(1), judge(1), begin(3)];
+    driven(&rt, alloc, &steps, 3);
+}
+
+// Messages that wait for others, which have not arrived.
+#[test]
+fn messages_not_delivered(rt: HostRuntime) {
+    let alloc = rt.alloc();
+    let steps = [
+        begin(0),
+        judge(0),
+        send(0),
+        nop(0, 0),
+        nop(0, 1),
+        begin(3),
+        judge(2),
+        send(2),
+        deliver(2, 0, 1),
+        deliver(2, 1, 1),
+        deliver(2, 2, 1),
+        deliver(2, 3, 1),
+        deliver(0, 0, 2),
+        deliver(0, 1, 2),
+        apply(0, 2),
+        apply(1, 2),
+        apply(2, 2),
+        apply(3, 2),
+        begin(1),
+    ];
+    driven(&rt, alloc, &steps, 3);
+}
+
+// Epochs that were raised at some gatekeepers alone, before and after a program's begin.
+#[test]
+fn epochs_apart(rt: HostRuntime) {
+    let alloc = rt.alloc();
+    let steps = [
+        epoch(0, 3),
+        begin(0),
+        epoch(2, 7),
+        judge(0),
+        send(0),
+        begin(2),
+        begin(5),
+        epoch(0, 9),
+        begin(6),
+        begin(1),
+    ];
+    driven(&rt, alloc, &steps, 6);
+}
+
+// Programs that have read some of their vertices, with writes between.
+#[test]
+fn programs_half_read(rt: HostRuntime) {
+    let alloc = rt.alloc();
+    let steps = [
+        begin(0),
+        judge(0),
+        send(0),
+        begin(5),
+        begin(6),
+        nop(0, 0),
+        nop(1, 0),
+        nop(2, 0),
+        nop(0, 1),
+        nop(1, 1),
+        nop(2, 1),
+        deliver(0, 0, 1),
+        deliver(0, 0, 2),
+        deliver(1, 0, 1),
+        deliver(2, 0, 1),
+        apply(0, 0),
+        apply(0, 0),
+        apply(0, 1),
+        apply(0, 2),
+        visit(5),
+        visit(6),
+        begin(3),
+        judge(2),
+        visit(5),
+    ];
+    driven(&rt, alloc, &steps, 5);
+}
