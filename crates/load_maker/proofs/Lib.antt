@@ -1,0 +1,11 @@
+pub mod NumberedNames
+pub mod Drawing
+pub mod NamesApart
+pub mod ValidParts
+pub mod ValidScripts
+pub mod DrawnValues
+pub mod Forms
+pub mod Counted
+pub mod RequestForms
+pub mod Made
+pub mod Examples
