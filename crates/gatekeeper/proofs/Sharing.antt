@@ -159,6 +159,12 @@ share_more shards ops counts one shard part shares share next some is part_is sh
 
 -- The lists, one after another
 
+-- a list of one
+pub one_of : {A : Type 0} (xs : List A) (x : A) → length xs ≡ 1 → x ≡ get_or xs 0 x → x ∷ [] ≡ xs
+one_of [] x long is = absurd (omega (arith, long))
+one_of (y ∷ []) x long is = ap (λ z. z ∷ []) is
+one_of (y ∷ z ∷ xs) x long is = absurd (omega (arith, long))
+
 first_is : {A : Type 0} (x y : A) (xs ys : List A) → x ∷ xs ≡ y ∷ ys → x ≡ y
 first_is x y xs ys is = cc
 

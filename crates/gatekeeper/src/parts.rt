@@ -26,12 +26,72 @@ pub fn parts_by_shard(
     requires own { AreOfTheirOwn counts.now }
     ensures { IfOk result (λ shares. shares.items ≡ parts_by_shard shards ops.now counts.now) }
 {
+    if counts.len() == 1 {
+        return parts_of_one(alloc, shards, ops, &counts[0]);
+    }
+    parts_of_all(alloc, shards, ops, counts)
+}
+
+// The parts of a commit that names one vertex. It needs no table.
+fn parts_of_one(
+    alloc: Global,
+    shards: u32,
+    ops: &[Op],
+    counted: &Counted,
+) -> Result<Vec<Items<Part>>, AllocError>
+    requires some { 1 ≤ shards }
+    ensures { IfOk result (λ shares. shares.items ≡ parts_by_shard shards ops.now (counted.now ∷ [])) }
+{
+    let chosen = ops_on(alloc, counted.vertex, ops)?;
+    let only = Part {
+        vertex: counted.vertex,
+        before: counted.before,
+        ops: chosen,
+    };
+    let mut shares = empty_shares(alloc, shards)?;
+    let place = counted.vertex.shard(shards);
+    shares[place as usize].push_lean(only)?;
+    Ok(shares)
+}
+
+// The operations on a vertex, in their order. The list has room for all.
+fn ops_on(alloc: Global, vertex: Name, ops: &[Op]) -> Result<Items<Op>, AllocError>
+    ensures { IfOk result (λ chosen. chosen ≡ ops_on vertex ops.now) }
+{
+    let mut chosen = Vec::with_capacity(alloc, ops.len())?;
+    for op in ops {
+        choose(&mut chosen, vertex, op)?;
+    }
+    Ok(Items::from_vec(chosen))
+}
+
+// Adds the operation if it is on the vertex.
+fn choose(chosen: &mut Vec<Op>, vertex: Name, op: &Op) -> Result<(), AllocError>
+    ensures { OnOk result (chosen.new.items ≡ chosen.old.items ++ ops_on vertex (op.now ∷ [])) }
+{
+    if op.vertex() == vertex {
+        chosen.push(*op)?;
+    }
+    Ok(())
+}
+
+// The parts of a commit, by a table of the operations on each vertex.
+fn parts_of_all(
+    alloc: Global,
+    shards: u32,
+    ops: &[Op],
+    counts: &[Counted],
+) -> Result<Vec<Items<Part>>, AllocError>
+    requires some { 1 ≤ shards }
+    requires own { AreOfTheirOwn counts.now }
+    ensures { IfOk result (λ shares. shares.items ≡ parts_by_shard shards ops.now counts.now) }
+{
     let mut table = ops_by_vertex(alloc, ops)?;
     let mut shares = empty_shares(alloc, shards)?;
     for counted in counts {
         let part = take_part(alloc, &mut table, counted);
         let shard = counted.vertex.shard(shards);
-        shares[shard as usize].push(part)?;
+        shares[shard as usize].push_lean(part)?;
     }
     Ok(shares)
 }

@@ -61,6 +61,17 @@ impl<T: Drop> Items<T> {
         self.items.push(item)?;
         Ok(())
     }
+
+    /// Adds an element at the end, and takes room for it alone if it is the first: for lists that seldom have a second
+    /// one. The one error is out of memory, and then the list is as before.
+    pub fn push_lean(&mut self, item: T) -> Result<(), AllocError>
+        ensures ok { OnOk result (self.new ≡ self.old ++ item ∷ []) }
+        ensures err { OnErr result (self.new ≡ self.old) }
+    {
+        make_first(&mut self.items)?;
+        self.items.push(item)?;
+        Ok(())
+    }
 }
 
 impl<T: Copied + Drop> Copied for Items<T> {
@@ -71,10 +82,21 @@ impl<T: Copied + Drop> Copied for Items<T> {
     }
 }
 
+// Takes room for one element alone, if there is none.
+fn make_first<T>(items: &mut Vec<T>) -> Result<(), AllocError>
+    ensures { items.new.items ≡ items.old.items }
+{
+    if items.is_empty() {
+        items.reserve_exact(1)?;
+    }
+    Ok(())
+}
+
+// The copies have room for themselves alone.
 fn copy_all<T: Copied + Drop>(alloc: Global, items: &[T]) -> Result<Vec<T>, AllocError>
     ensures { IfOk result (λ copied. copied.items ≡ items.now) }
 {
-    let mut copies = Vec::new(alloc);
+    let mut copies = Vec::with_capacity(alloc, items.len())?;
     for item in items {
         copies.push(item.copy(alloc)?)?;
     }

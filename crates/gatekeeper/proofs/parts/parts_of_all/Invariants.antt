@@ -1,6 +1,6 @@
 use Rattle.std.proofs.Common.{◌≡◌, take, drop}
 use Rattle.gatekeeper.specs.Parts.{parts_by_shard, AreOfTheirOwn, HasOpsOf}
-use Rattle.gatekeeper.proofs.parts.parts_by_shard.Given as goal
+use Rattle.gatekeeper.proofs.parts.parts_of_all.Given as goal
 
 abbrev pub invariant-loop-counted : goal.invariant-loop-counted
 invariant-loop-counted l = record {
