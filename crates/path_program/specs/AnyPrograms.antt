@@ -13,23 +13,23 @@ use Rattle.path_program.specs.Pathing.{path_of, HasPathed, next_pathed, reads_le
 -- which program it is
 abbrev pub any_of : AnyProgram → Program
 any_of (Show walk) = TheShow walk.v
-any_of (Reach walk) = program_of walk.goal walk.search.aim
-any_of (Path walk) = path_of walk.to walk.bound walk.search
+any_of (Reach walk) = program_of walk.goal walk.search.value.aim
+any_of (Path walk) = path_of walk.to walk.bound walk.search.value
 
 -- it has read these states, the newest first
 abbrev pub HasRead : AnyProgram → List (Name × State) → Type 0
 HasRead (Show walk) reads = HasShown walk.v walk.read reads
-HasRead (Reach walk) reads = HasReached walk.goal walk.search reads
-HasRead (Path walk) reads = HasPathed walk.to walk.bound walk.search reads
+HasRead (Reach walk) reads = HasReached walk.goal walk.search.value reads
+HasRead (Path walk) reads = HasPathed walk.to walk.bound walk.search.value reads
 
 -- the vertex that it reads next
 abbrev pub next_read : AnyProgram → Option Name
 next_read (Show walk) = next_shown walk.v walk.read
-next_read (Reach walk) = next_reached walk.search
-next_read (Path walk) = next_pathed walk.search
+next_read (Reach walk) = next_reached walk.search.value
+next_read (Path walk) = next_pathed walk.search.value
 
 -- the number of reads for which there is room
 abbrev pub reads_left : AnyProgram → ℕ
 reads_left (Show walk) = 1
-reads_left (Reach walk) = reached_left walk.search
-reads_left (Path walk) = pathed_left walk.search
+reads_left (Reach walk) = reached_left walk.search.value
+reads_left (Path walk) = pathed_left walk.search.value

@@ -15,7 +15,8 @@ use weave_data::Name;
 pub struct PathProgram {
     pub to: Name,
     pub bound: u32,
-    pub search: PathSearch,
+    /// It lies apart, since it is large and a program may be kept in a table.
+    pub search: Box<PathSearch>,
 }
 
 impl PathProgram {
@@ -37,18 +38,22 @@ impl PathProgram {
             pass,
         };
         let search = PathSearch::new(alloc, aim)?;
-        Ok(PathProgram { to, bound, search })
+        Ok(PathProgram {
+            to,
+            bound,
+            search: Box::new(alloc, search)?,
+        })
     }
 }
 
 impl NodeProgram for PathProgram {
-    ghost program = { λ walk. path_of walk.to walk.bound walk.search };
+    ghost program = { λ walk. path_of walk.to walk.bound walk.search.value };
 
-    ghost has_read = { λ walk reads. HasPathed walk.to walk.bound walk.search reads };
+    ghost has_read = { λ walk reads. HasPathed walk.to walk.bound walk.search.value reads };
 
-    ghost next = { λ walk. next_pathed walk.search };
+    ghost next = { λ walk. next_pathed walk.search.value };
 
-    ghost spare = { λ walk. reads_left walk.search };
+    ghost spare = { λ walk. reads_left walk.search.value };
 
     fn next_vertex(&self) -> Option<Name> {
         path_searches_are_right();

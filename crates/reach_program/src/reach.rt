@@ -23,7 +23,8 @@ pub enum Goal {
 #[derive(Drop)]
 pub struct ReachProgram {
     pub goal: Goal,
-    pub search: Search,
+    /// It lies apart, since it is large and a program may be kept in a table.
+    pub search: Box<Search>,
 }
 
 impl ReachProgram {
@@ -46,7 +47,7 @@ impl ReachProgram {
         let search = Search::new(alloc, aim)?;
         Ok(ReachProgram {
             goal: Goal::To(to),
-            search,
+            search: Box::new(alloc, search)?,
         })
     }
 
@@ -69,19 +70,19 @@ impl ReachProgram {
         let search = Search::new(alloc, aim)?;
         Ok(ReachProgram {
             goal: Goal::Within(bound),
-            search,
+            search: Box::new(alloc, search)?,
         })
     }
 }
 
 impl NodeProgram for ReachProgram {
-    ghost program = { λ walk. program_of walk.goal walk.search.aim };
+    ghost program = { λ walk. program_of walk.goal walk.search.value.aim };
 
-    ghost has_read = { λ walk reads. HasReached walk.goal walk.search reads };
+    ghost has_read = { λ walk reads. HasReached walk.goal walk.search.value reads };
 
-    ghost next = { λ walk. next_reached walk.search };
+    ghost next = { λ walk. next_reached walk.search.value };
 
-    ghost spare = { λ walk. reads_left walk.search };
+    ghost spare = { λ walk. reads_left walk.search.value };
 
     fn next_vertex(&self) -> Option<Name> {
         searches_are_right();

@@ -1,8 +1,12 @@
 use Rattle.std.proofs.Common.{sym, subst}
 use Rattle.program_defs.specs.Walking.{HasWalked}
 use Rattle.program_defs.specs.declared.program.Program.TheVariants.{Path}
+use Rattle.path_program.specs.Pathing.{HasPathed}
 use Rattle.path_program.proofs.path.PathProgramNodeProgram.ready.Goals as goal
 
 pub returns-clause-reads : goal.returns-clause-reads
 returns-clause-reads c = λ reads h.
-    subst (λ aim. HasWalked (Path aim.from c.args.self.now.to c.args.self.now.bound aim.pass) c.reserve.new.self reads) (sym c.reserve.ensures.same.search.aim) (c.path_searches_are_right.ensures.same _ _ _ reads c.reserve.ensures.same h)
+    let to = c.args.self.now.to in
+    let bound = c.args.self.now.bound in
+    let before = subst (λ search. HasPathed to bound search reads) (sym c.deref_mut.ensures.value) h in
+    subst (λ aim. HasWalked (Path aim.from to bound aim.pass) c.reserve.new.self reads) (sym c.reserve.ensures.same.search.aim) (c.path_searches_are_right.ensures.same _ _ _ reads c.reserve.ensures.same before)

@@ -1,7 +1,10 @@
-use Rattle.std.proofs.Common.{Some, None}
+use Rattle.std.proofs.Common.{sym, subst, [], Some, None}
+use Rattle.reach_program.specs.declared.reach.Goal.TheVariants.{Within}
+use Rattle.reach_program.specs.Reaching.{HasReached}
 use Rattle.reach_program.proofs.reach.ReachProgram.around.Goals as goal
 
 pub returns-clause-reads : goal.returns-clause-reads
 returns-clause-reads c =
     let same = c.in_ok-search.ensures.aim in
-    c.in_ok-search.ensures.reads _ (λ i. Some (record { from = (same i).from; target = None; bound = Some c.args.bound; pass = (same i).pass }))
+    let read : HasReached (Within c.args.bound) c.in_ok-search.search [] = c.in_ok-search.ensures.reads _ (λ i. Some (record { from = (same i).from; target = None; bound = Some c.args.bound; pass = (same i).pass })) in
+    subst (λ search. HasReached (Within c.args.bound) search []) (sym c.in_ok-new.ensures.ok) read
