@@ -2,17 +2,6 @@ pub mod Precedence
 pub mod JudgementLaws
 pub mod PrintedLaws
 pub mod SameOrder
-pub mod PlainStamps
-pub mod PlainStanding
-pub mod PlainReplies
-pub mod PlainListing
-pub mod PlainRefusals
-pub mod PlainRunLaw
-pub mod PlainPrinted
-pub mod GetsNumbered
-pub mod PlainForms
-pub mod PlainMeetings
-pub mod PlainPhases
 pub mod Examples
 pub mod OneSession
 pub mod TwoSessions

@@ -12,7 +12,6 @@ use Rattle.proof_base.specs.Facts.{AllHold}
 use Rattle.report_rules.specs.RightReport.{IsRightReport, BreaksFirst, facts_of}
 use Rattle.report_rules.specs.PrintedOrder.{IsPrintedOrder}
 use Rattle.report_rules.specs.ReportOf.{IsReportOf}
-use Rattle.report_rules.specs.PlainRun.{plain_report}
 use Rattle.report_rules.proofs.Precedence.{IsDecided, no_way}
 use Rattle.report_rules.proofs.Examples.{stamp, transaction, script_of, reply, report_of, t1, t2, v}
 
@@ -41,10 +40,6 @@ module _ (decided : IsDecided) where
 
   pub right : IsRightReport script (report 1 2 (Some red))
   right = (replies (Some red), (listing (Some red), (order (Some red), ((refl, (refl, tt)), (tt, ((tt, (tt, tt)), ((tt, (tt, tt)), ((refl, (refl, tt)), tt))))))))
-
-  -- it is the report of the plain run
-  pub plain : plain_report script.requests ≡ report 1 2 (Some red)
-  plain = refl
 
   pub of_the_script : IsReportOf script (report 1 2 (Some red))
   of_the_script = record { replies = ((refl, refl), ((refl, refl), tt)); pairs = tt; order = (refl, (refl, tt)) }

@@ -5,4 +5,3 @@ pub mod RightReport
 pub mod PrintedOrder
 pub mod Meetings
 pub mod ReportOf
-pub mod PlainRun

@@ -5,7 +5,6 @@ pub use Rattle.report_rules.specs.RightReport
 pub use Rattle.report_rules.specs.PrintedOrder
 pub use Rattle.report_rules.specs.Meetings
 pub use Rattle.report_rules.specs.ReportOf
-pub use Rattle.report_rules.specs.PlainRun
 pub mod ReportText
 pub mod ReadingFields
 pub mod ReadingStates

@@ -26,7 +26,7 @@ use Rattle.weave_script.proofs.CheckReading.{reads_past, stops_at_report, text_b
 use Rattle.weave_script.proofs.CheckTexts.{told_by_name, both_texts}
 use Rattle.weave_script.proofs.FieldLaws.{NumberLaws}
 use Rattle.weave_script.proofs.HeadTexts.{head_reached}
-use Rattle.weave_script.proofs.Plain.{few_requests, small_transactions}
+use Rattle.weave_script.proofs.SmallScripts.{few_requests, small_transactions}
 use Rattle.weave_script.proofs.ReadAgain.{last_place, last_reading, script_at-last, script_again}
 use Rattle.weave_script.proofs.Reached.{after_lines}
 use Rattle.weave_script.proofs.TextLaws.{long}

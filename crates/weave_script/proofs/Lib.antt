@@ -12,7 +12,7 @@ pub mod Numbers
 pub mod OpLaws
 pub mod Phases
 pub mod Places
-pub mod Plain
+pub mod SmallScripts
 pub mod Reached
 pub mod ReadAgain
 pub mod RequestLaws

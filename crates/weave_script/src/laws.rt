@@ -1,10 +1,9 @@
 //! What holds of every valid script.
-ghost use Rattle.std.specs.Prelude.{◌≡◌, ◌≤◌, ◌<◌, ◌^◌, ℕ, List, length, Ok, Err, false};
-ghost use Rattle.std.specs.List.{AllByRecursion, list_any};
+ghost use Rattle.std.specs.Prelude.{◌≡◌, ◌≤◌, ◌<◌, length, Ok, Err};
+ghost use Rattle.std.specs.List.{AllByRecursion};
 ghost use Rattle.program_defs.specs.Limits.{IsWithinLimits};
-ghost use Rattle.program_defs.specs.Works.{is_look, ops_of};
+ghost use Rattle.program_defs.specs.Works.{ops_of};
 ghost use Rattle.program_defs.specs.declared.script.Script.{Script};
-ghost use Rattle.report_rules.specs.PlainRun.{IsPlainScript};
 ghost use Rattle.weave_text.specs.Cutting.{lines_of};
 ghost use Rattle.weave_text.specs.Lines.{Bytes};
 ghost use Rattle.weave_script.specs.CheckText.{IsHead};
@@ -67,12 +66,6 @@ pub fn heads_are_texts()
 {
     numbers_come_back();
 }
-
-/// A script without programs at one gatekeeper asks for transactions at gatekeeper 0 alone.
-pub fn transactions_at_one_gatekeeper_are_plain()
-    ensures { (script : Script) → IsScript script → list_any (λ request. is_look request.work) script.requests ≡ false
-        → script.gates ≤ 1 → IsPlainScript script }
-{}
 
 /// A script has few requests, and its transactions few operations: it is within the limits that laws on runs ask for.
 pub fn scripts_are_small()

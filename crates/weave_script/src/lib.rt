@@ -35,7 +35,7 @@ pub use check_laws::{
 pub use fault::{Cause, ScriptFault};
 pub use laws::{
     faults_are_first, heads_are_texts, printed_scripts_come_back, scripts_are_small,
-    texts_are_of_one_script, texts_are_read, transactions_at_one_gatekeeper_are_plain,
+    texts_are_of_one_script, texts_are_read,
 };
 pub use limits::{
     MOST_BYTES, MOST_GETS, MOST_OPS, MOST_PROGRAMS, MOST_REQUESTS, MOST_STEPS, MOST_VERTICES,

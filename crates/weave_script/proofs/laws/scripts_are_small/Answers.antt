@@ -1,4 +1,4 @@
-use Rattle.weave_script.proofs.Plain.{few_requests, small_transactions, within-limits}
+use Rattle.weave_script.proofs.SmallScripts.{few_requests, small_transactions, within-limits}
 use Rattle.weave_script.proofs.laws.scripts_are_small.Goals as goal
 
 pub returns-clause-requests : goal.returns-clause-requests

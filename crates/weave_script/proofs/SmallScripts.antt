@@ -1,34 +1,16 @@
--- Scripts without programs at one gatekeeper, and how small scripts are.
-use Rattle.std.proofs.Common.{◌≡◌, ℕ, zero, suc, ◌≤◌, ◌<◌, false, List, [], ◌∷◌, IsTrue, length, Some, refl, subst, arith}
+-- How small scripts are.
+use Rattle.std.proofs.Common.{◌≡◌, ℕ, zero, suc, ◌≤◌, ◌<◌, List, [], ◌∷◌, length, Some, subst, arith}
 use Rattle.std.specs.Prelude.{slice_get}
 use Rattle.std.proofs.lemmas.Option.{slice_get_within}
-use Rattle.std.specs.List.{AllByRecursion, list_any}
-use Rattle.std.proofs.lemmas.Bool.{or_parts}
+use Rattle.std.specs.List.{AllByRecursion}
 use Rattle.program_defs.specs.declared.script.Request.{Request}
 use Rattle.program_defs.specs.declared.script.Script.{Script}
 use Rattle.program_defs.specs.declared.script.Work.{Work}
 use Rattle.program_defs.specs.declared.script.Work.TheVariants.{Change, Look}
-use Rattle.report_rules.specs.PlainRun.{IsPlainScript, IsPlainTransaction}
 use Rattle.program_defs.specs.Limits.{IsWithinLimits}
-use Rattle.program_defs.specs.Works.{is_change, is_look, ops_of}
+use Rattle.program_defs.specs.Works.{ops_of}
 use Rattle.weave_script.specs.Scripts.{IsWork, IsRequest, IsScript, steps_of}
 use Rattle.weave_script.proofs.LimitLaws.{within-few}
-
-change : (work : Work) → is_look work ≡ false → IsTrue (is_change work)
-change (Change ops) h = refl
-change (Look program) h = absurd cc
-
-lowest : (gate gates : ℕ) → gate < gates → gates ≤ 1 → gate ≡ 0
-lowest gate gates h k = omega arith
-
-each_plain : (gates : ℕ) → gates ≤ 1 → (requests : List Request) → AllByRecursion (IsRequest gates) requests → list_any (λ request. is_look request.work) requests ≡ false → AllByRecursion IsPlainTransaction requests
-each_plain gates one [] h none = tt
-each_plain gates one (request ∷ requests) h none =
-    let parts = or_parts (is_look request.work) (list_any (λ (request : Request). is_look request.work) requests) none in
-    ((lowest request.gate gates h.0.gate one, change request.work parts.0), each_plain gates one requests h.1 parts.1)
-
-pub all_plain : (script : Script) → IsScript script → list_any (λ request. is_look request.work) script.requests ≡ false → script.gates ≤ 1 → IsPlainScript script
-all_plain script h none one = each_plain script.gates one script.requests h.requests none
 
 pub few_requests : (script : Script) → IsScript script → length script.requests ≤ 10000
 few_requests script h = (within-few 0 script.requests (length (steps_of script.steps)) h.within).1.requests_few
