@@ -1,1 +1,2 @@
 pub mod LookBack
+pub mod Collecting

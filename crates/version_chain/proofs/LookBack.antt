@@ -1,5 +1,5 @@
 -- Looking back from the newest version: what was passed over is not seen, and the first one that is seen is the last one of the view.
-use Rattle.std.proofs.Common.{◌≡◌, ◌≢◌, ℕ, zero, suc, ◌+◌, Bool, true, false, cond, not, List, [], ◌∷◌, ◌++◌, map, take, length, All, Contains, IsTrue, ◌⊎◌, inl, inr, Option, Some, None, refl, sym, ap, subst, ◌∙◌, append_assoc, add-one, arith}
+use Rattle.std.proofs.Common.{◌≡◌, ℕ, zero, suc, ◌+◌, Bool, true, false, cond, not, List, [], ◌∷◌, ◌++◌, take, length, Contains, IsTrue, inl, inr, Option, Some, None, refl, sym, ap, subst, ◌∙◌, append_assoc, arith}
 use Rattle.std.specs.List.{list_any}
 use Rattle.std.proofs.Math.Bool.{or-false}
 use Rattle.std.proofs.lemmas.List.{append-nil, map-append}
@@ -8,17 +8,17 @@ use Rattle.std.specs.Prelude.{◌<◌, ◌≤◌, Result, Ok, Err, IfOk, slice_g
 use Rattle.std.specs.Option.{IsSomeAnd}
 use Rattle.std.specs.declared.alloc.AllocError.{AllocError}
 use Rattle.std.proofs.lemmas.List.Sums.{fold-append}
-use Rattle.std.proofs.lemmas.List.Elements.{All-contains, Contains-append_left, Contains-append_right, Contains-append_cases}
+use Rattle.std.proofs.lemmas.List.Elements.{Contains-append_left, Contains-append_right}
 use Rattle.proof_base.proofs.Members.{has_none, has_read, has_head, has_tail, has_last, has_map, any_from}
 use Rattle.vector_stamp.specs.declared.clock.Stamp.{Stamp}
-use Rattle.vector_stamp.specs.Order.{id_of, stamp_before, unordered}
+use Rattle.vector_stamp.specs.Order.{stamp_before, unordered}
 use Rattle.vector_stamp.specs.Coherence.{AreCoherent}
 use Rattle.vector_stamp.specs.Precedence.{Given, precedes}
 use Rattle.vector_stamp.specs.Settling.{SettledEntry, additions_from, places_of, pairs_of, entries_of_call}
 use Rattle.vector_stamp.specs.Seeing.{with_front, last_place, is_seen, seen_of, last_seen}
 use Rattle.version_chain.specs.declared.version.Version.{Version}
 use Rattle.version_chain.specs.Chains.{ChainView, stamps_of, newest_state}
-use Rattle.version_chain.specs.Views.{has_unordered, kept_seen, read_update, view_of, ReachesBack}
+use Rattle.version_chain.specs.Views.{has_unordered, read_update, view_of, ReachesBack}
 use Rattle.version_chain.specs.Looks.{IsFront, LearnsOnly, read_of}
 use Rattle.version_chain.specs.declared.view.View.{View}
 use Rattle.version_chain.specs.declared.view.Seen.{Seen}
@@ -28,11 +28,11 @@ with_front-suc : (b : Bool) (n : ℕ) → with_front b (suc n) ≡ suc (suc n)
 with_front-suc true n = refl
 with_front-suc false n = refl
 
-place_passes : {A : Type 0} (test : A → Bool) (xs : List A) (x : A) → test x ≡ true → last_place test (xs ++ x ∷ []) ≡ suc (length xs)
+pub place_passes : {A : Type 0} (test : A → Bool) (xs : List A) (x : A) → test x ≡ true → last_place test (xs ++ x ∷ []) ≡ suc (length xs)
 place_passes test [] x passes = rw passes refl
 place_passes test (y ∷ ys) x passes = rw (place_passes test ys x passes) (with_front-suc (test y) (length ys))
 
-place_fails : {A : Type 0} (test : A → Bool) (xs : List A) (x : A) → test x ≡ false → last_place test (xs ++ x ∷ []) ≡ last_place test xs
+pub place_fails : {A : Type 0} (test : A → Bool) (xs : List A) (x : A) → test x ≡ false → last_place test (xs ++ x ∷ []) ≡ last_place test xs
 place_fails test [] x fails = rw fails refl
 place_fails test (y ∷ ys) x fails = ap (with_front (test y)) (place_fails test ys x fails)
 

@@ -1,19 +1,23 @@
 //! A vertex's updates.
-ghost use Rattle.std.specs.Prelude.{◌≡◌, ◌≢◌, ◌+◌, ◌<◌, ◌≤◌, ◌∷◌, ◌++◌, ◌⊎◌, [], false, length, All, Contains, IsTrue, IfOk, OnOk, OnErr};
+ghost use Rattle.std.specs.Prelude.{◌≡◌, ◌≢◌, ◌+◌, ◌<◌, ◌≤◌, ◌∷◌, ◌++◌, ◌⊎◌, ◌↔◌, List, [], false, length, All, Contains, IsTrue, IfOk, OnOk, OnErr};
 ghost use Rattle.vector_stamp.specs.declared.clock.Stamp.{Stamp};
-ghost use Rattle.vector_stamp.specs.Order.{id_of};
+ghost use Rattle.vector_stamp.specs.Order.{id_of, is_at_most};
 ghost use Rattle.vector_stamp.specs.Coherence.{AreCoherent};
+ghost use Rattle.vector_stamp.specs.Precedence.{Given};
 ghost use Rattle.vector_stamp.specs.Settling.{pairs_of};
 ghost use Rattle.version_chain.specs.declared.version.Version.{Version};
 ghost use Rattle.version_chain.specs.Chains.{ChainView, no_updates, update_count, stamps_of, newest_state, with_version, with_update, IsNextUpdate, KeepsOne};
+ghost use Rattle.version_chain.specs.Collection.{collected};
 ghost use Rattle.version_chain.specs.Views.{has_unordered, view_of, put_before, entries_for, ReachesBack};
 
+use crate::collection::older_versions;
+use crate::laws::collections_leave_views;
 use crate::version::{Version, updated};
 use crate::view::{View, look_back};
 use graph_ops::{Op, Record};
 use std::alloc::{AllocError, Global};
 use std::marker::Model;
-use vector_stamp::{Judge, Stamp};
+use vector_stamp::{Clock, Judge, Stamp};
 use weave_data::Copied;
 
 /// The updates of a vertex. Contracts see how many of the oldest versions were dropped, and of each one that is kept its stamp and the state after it.
@@ -94,6 +98,37 @@ impl Chain {
         ensures { (newest : Version) (chain : ChainView) → self.old ≡ with_version newest chain → self.new ≡ chain }
     {
         let _ = self.versions.pop();
+    }
+
+    /// Drops the versions that are older than the newest one whose clock is before the bound.
+    /// If no clock is before it, all stay.
+    /// No view changes for a program whose clock the bound is at most. It takes no memory.
+    pub fn collect(&mut self, bound: &Clock)
+        ensures kept { self.new ≡ collected bound.now self.old }
+        ensures count { update_count self.new ≡ update_count self.old }
+        ensures views { (pairs : List Given) (program : Stamp) → IsTrue (is_at_most bound.now program.clock)
+            → view_of pairs program self.new ≡ view_of pairs program self.old }
+        ensures base { (program : Stamp) → IsTrue (is_at_most bound.now program.clock)
+            → ReachesBack program self.old ⊎ (self.old.dropped < self.new.dropped) → ReachesBack program self.new }
+    {
+        collections_leave_views();
+        let older = older_versions(self.versions.as_slice(), bound);
+        self.versions.drain(..older);
+        self.dropped += older as u64;
+    }
+
+    /// Whether what is kept reaches back far enough for a program of this stamp.
+    /// If versions were dropped, the oldest one that is kept has to be before it.
+    pub fn reaches_back(&self, stamp: &Stamp) -> bool
+        ensures { IsTrue result ↔ ReachesBack stamp.now self.now }
+    {
+        if self.dropped == 0 {
+            return true;
+        }
+        let Some(oldest) = self.versions.first() else {
+            return false;
+        };
+        oldest.stamp.is_before(stamp)
     }
 
     /// What a program sees. From the newest version: one whose stamp is after the program's is skipped, one whose stamp is before it is seen, and for an unordered one the judge is asked to put it before the program: it is skipped if the judge refuses, and seen if not.

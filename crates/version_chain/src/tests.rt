@@ -187,7 +187,7 @@ fn view(
     let kept = stamps(rt, alloc, chain.versions.as_slice());
     let known = ends(rt, alloc, judge.pairs.as_slice());
     let all = together(rt, alloc, program, kept.as_slice(), known.as_slice());
-    if chain.dropped != 0 || !are_coherent(all.as_slice()) {
+    if !chain.reaches_back(&program) || !are_coherent(all.as_slice()) {
         panic!(rt; "not coherent");
     }
     if !are_others(kept.as_slice(), &program, known.as_slice()) {
@@ -310,6 +310,41 @@ fn an_update_is_taken_back(rt: HostRuntime) {
     let mut judge = judge_of(&rt, alloc, &[]);
     let seen = view(&rt, alloc, &chain, stamp(0, 5, 0, 0), &mut judge);
     assert!(rt; shows(&seen, None, 3, false));
+}
+
+// Three updates of one gatekeeper, with the counts 1, 2 and 3.
+// A bound of count 3 drops the first version, and nothing the second time. A bound of count 1 drops none.
+#[test]
+fn older_versions_are_dropped(rt: HostRuntime) {
+    let alloc = rt.alloc();
+    let clocks = [stamp(0, 1, 0, 0), stamp(0, 2, 0, 0), stamp(0, 3, 0, 0)];
+    for (count, kept) in [(3, 2), (1, 3)] {
+        let mut chain = three_updates(&rt, alloc, &clocks);
+        let bound = stamp(0, count, 0, 0).clock;
+        chain.collect(&bound);
+        assert_eq!(rt; (chain.count(), chain.kept()), (3, kept), "at {count}");
+        chain.collect(&bound);
+        assert_eq!(rt; (chain.count(), chain.kept()), (3, kept), "at {count}");
+    }
+}
+
+// A program precedes the newest update by a pair. After a collection it sees the version before it, as it did before.
+// What is kept then no longer reaches back to an earlier program.
+#[test]
+fn a_collection_leaves_the_view(rt: HostRuntime) {
+    let alloc = rt.alloc();
+    let program = stamp(0, 4, 0, 0);
+    let clocks = [stamp(0, 1, 0, 0), stamp(0, 2, 0, 0), stamp(2, 1, 0, 4)];
+    let mut chain = three_updates(&rt, alloc, &clocks);
+    let mut judge = judge_of(&rt, alloc, &[(program, clocks[2])]);
+    let before = view(&rt, alloc, &chain, program, &mut judge);
+    assert!(rt; shows(&before, Some(1), 2, false));
+    assert!(rt; chain.reaches_back(&stamp(0, 0, 1, 0)));
+    chain.collect(&stamp(0, 3, 0, 0).clock);
+    assert_eq!(rt; (chain.count(), chain.kept()), (3, 2));
+    let after = view(&rt, alloc, &chain, program, &mut judge);
+    assert!(rt; shows(&after, Some(1), 2, false));
+    assert!(rt; !chain.reaches_back(&stamp(0, 0, 1, 0)));
 }
 
 // Applies an update of that many reads of a vertex, which pass whatever its state.

@@ -1,14 +1,21 @@
 //! The chains of a shard.
-ghost use Rattle.std.specs.Prelude.{◌≡◌, OnOk, OnErr, None, option_copied};
+ghost use Rattle.std.specs.Prelude.{◌≡◌, List, IsTrue, OnOk, OnErr, None, option_copied};
+ghost use Rattle.std.specs.Option.{option_map};
 ghost use Rattle.weave_data.specs.declared.name.Name.{Name};
-ghost use Rattle.version_graph.specs.Graphs.{chain_of, after_parts, AreNextUpdates};
+ghost use Rattle.vector_stamp.specs.declared.clock.Stamp.{Stamp};
+ghost use Rattle.vector_stamp.specs.Order.{is_at_most};
+ghost use Rattle.vector_stamp.specs.Precedence.{Given};
+ghost use Rattle.version_chain.specs.Collection.{collected};
+ghost use Rattle.version_chain.specs.Views.{view_of};
+ghost use Rattle.version_graph.specs.Graphs.{chain_of, chain_or_new, after_parts, AreNextUpdates};
 
-use crate::table::{Table, apply_all};
+use crate::table::{Table, apply_all, collect_each};
 use graph_ops::Part;
 use std::alloc::{AllocError, Global};
 use std::marker::Model;
-use vector_stamp::Stamp;
+use vector_stamp::{Clock, Stamp};
 use version_chain::Chain;
+use version_chain::laws::collections_leave_views;
 use weave_data::Name;
 
 /// The chains of a shard's vertices, in the order of their first updates. Contracts see a finite map from names to chains, with those alone that have updates.
@@ -67,4 +74,16 @@ impl VersionGraph {
     {
         apply_all(&mut self.table, alloc, stamp, parts)
     }
+}
+
+/// Collects each chain: its versions older than the newest one whose clock is before the bound are dropped.
+/// No view changes for a program whose clock the bound is at most. It takes no memory.
+pub fn collect_all(graph: &mut VersionGraph, bound: &Clock)
+    ensures chains { (v : Name) → chain_of graph.new v ≡ option_map (collected bound.now) (chain_of graph.old v) }
+    ensures views { (v : Name) (pairs : List Given) (program : Stamp) → IsTrue (is_at_most bound.now program.clock)
+        → view_of pairs program (chain_or_new (chain_of graph.new v))
+        ≡ view_of pairs program (chain_or_new (chain_of graph.old v)) }
+{
+    collections_leave_views();
+    collect_each(&mut graph.table, bound);
 }

@@ -1,6 +1,6 @@
 //! The chains of all vertices of a shard.
 //!
-//! A `VersionGraph` takes the parts of a transaction all or none. Contracts see it as a finite map from names to chains, with those alone that have updates.
+//! A `VersionGraph` takes the parts of a transaction all or none, and `collect_all` drops old versions. Contracts see it as a finite map from names to chains, with those alone that have updates.
 #![tactic(auto)]
 
 mod graph;
@@ -8,4 +8,4 @@ mod table;
 #[cfg(test)]
 mod tests;
 
-pub use graph::VersionGraph;
+pub use graph::{VersionGraph, collect_all};

@@ -1,19 +1,22 @@
 //! The table of chains.
 ghost use Rattle.std.specs.Prelude.{◌≡◌, ◌≢◌, List, Option, Some, IsSome, All, AllPairs, OnOk, OnErr};
 ghost use Rattle.std.specs.Map.{lookup};
+ghost use Rattle.std.specs.Option.{option_map};
 ghost use Rattle.weave_data.specs.Names.{same_name};
 ghost use Rattle.weave_data.specs.declared.name.Name.{Name};
 ghost use Rattle.graph_ops.specs.declared.part.Part.{Part};
 ghost use Rattle.version_chain.specs.declared.version.Version.{Version};
 ghost use Rattle.version_chain.specs.Chains.{ChainView, with_version, IsNextUpdate, KeepsOne};
+ghost use Rattle.version_chain.specs.Collection.{collected};
 ghost use Rattle.version_graph.specs.Graphs.{chain_or_new, after_part, after_parts};
 ghost use Rattle.version_graph.specs.Tables.{chain_at, with_updates, at_vertex, HasNewest, WereApplied};
 
 use graph_ops::Part;
 use indexmap::IndexMap;
 use std::alloc::{AllocError, Global};
-use vector_stamp::Stamp;
+use vector_stamp::{Clock, Stamp};
 use version_chain::Chain;
+use version_chain::laws::collections_leave_views;
 use weave_data::Name;
 
 /// The chains, in the order in which their vertices came first.
@@ -113,4 +116,17 @@ fn take_one_back(table: &mut Table, vertex: Name)
         unreachable!()
     };
     chain.take_back();
+}
+
+/// Collects each chain.
+pub(crate) fn collect_each(table: &mut Table, bound: &Clock)
+    ensures { (v : Name) → chain_at v table.new.entries
+        ≡ option_map (collected bound.now) (chain_at v table.old.entries) }
+{
+    collections_leave_views();
+    // It writes to each chain, and removes none.
+    table.retain(|_vertex, chain| {
+        chain.collect(bound);
+        true
+    });
 }

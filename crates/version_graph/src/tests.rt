@@ -3,7 +3,7 @@ ghost use Rattle.graph_ops.specs.declared.op.Op.TheVariants.{Create, Get};
 ghost use Rattle.version_chain.specs.Chains.{update_count};
 ghost use Rattle.version_graph.specs.Graphs.{chain_of, chain_or_new};
 
-use crate::VersionGraph;
+use crate::{VersionGraph, collect_all};
 use graph_ops::{Name, Op, Part};
 use std::alloc::Global;
 use std::process::Abort;
@@ -150,7 +150,26 @@ fn have_updates(rt: &impl Abort, graph: &VersionGraph, updates: u64) -> bool {
     true
 }
 
-// Ten updates of each of forty vertices in turn, and one of no part.
+// How many versions of a vertex are kept.
+fn kept(graph: &VersionGraph, v: Name) -> usize {
+    match graph.chain(v) {
+        None => 0,
+        Some(chain) => chain.kept(),
+    }
+}
+
+// Whether this many versions of each of them are kept.
+fn have_kept(rt: &impl Abort, graph: &VersionGraph, versions: usize) -> bool {
+    for number in 0..40 {
+        if kept(graph, numbered(rt, number)) != versions {
+            return false;
+        }
+    }
+    true
+}
+
+// Ten updates of each of forty vertices in turn, and one of no part. A bound of count 5 then drops the first three
+// versions of each, and the next update follows the tenth. A vertex without updates stays so.
 #[test]
 fn updates_of_what_is_there(rt: HostRuntime) {
     let alloc = rt.alloc();
@@ -161,4 +180,9 @@ fn updates_of_what_is_there(rt: HostRuntime) {
     }
     assert!(rt; graph.apply_parts(alloc, stamp(11), &[]) == Ok(()));
     assert!(rt; have_updates(&rt, &graph, 10));
+    collect_all(&mut graph, &stamp(5).clock);
+    assert!(rt; have_updates(&rt, &graph, 10) && have_kept(&rt, &graph, 7));
+    read_forty(&rt, alloc, &mut graph, stamp(12));
+    assert!(rt; have_updates(&rt, &graph, 11) && have_kept(&rt, &graph, 8));
+    assert!(rt; graph.chain(name(&rt, "v")).is_none());
 }

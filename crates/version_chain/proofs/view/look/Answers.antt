@@ -1,4 +1,4 @@
-use Rattle.std.proofs.Common.{◌≡◌, Bool, true, IsTrue, refl, sym}
+use Rattle.std.proofs.Common.{◌≡◌, true, refl, sym}
 use Rattle.std.proofs.lemmas.List.{append-nil}
 use Rattle.vector_stamp.specs.Order.{stamp_before}
 use Rattle.vector_stamp.specs.Precedence.{precedes}

@@ -1,10 +1,7 @@
-use Rattle.std.proofs.Common.{◌≡◌, ◌∷◌, ◌++◌, [], List, Contains, IsTrue, refl, sym, ap, subst, ◌∙◌}
+use Rattle.std.proofs.Common.{◌≡◌, ◌∙◌}
 use Rattle.std.proofs.lemmas.List.Elements.{All-contains}
 use Rattle.vector_stamp.specs.declared.clock.Stamp.{Stamp}
 use Rattle.vector_stamp.specs.Order.{id_of}
-use Rattle.vector_stamp.specs.Precedence.{precedes}
-use Rattle.vector_stamp.specs.Seeing.{is_seen}
-use Rattle.std.specs.Prelude.{not}
 use Rattle.version_chain.proofs.LookBack.{newest_stamp-in, none_unordered, older-front, one_coherent, learns_on, passed_over, read_is, view_is, seen_on, pairs_seen, log_seen, pairs_skipped, log_skipped, skipped_on}
 use Rattle.version_chain.proofs.view.look_back.Goals as goal
 
