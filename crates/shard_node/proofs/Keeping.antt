@@ -1,6 +1,6 @@
 -- What a shard keeps goes on being the replay of its log, with each deed.
-use Rattle.std.proofs.Common.{◌≡◌, ◌≢◌, ℕ, ◌+◌, ◌<◌, ◌≤◌, Bool, true, false, cond, List, [], ◌∷◌, ◌++◌, drop, length, slice_get, slice_set, Option, None, Some, is_some, inl, inr, refl, sym, ap, subst, ◌∙◌, arith}
-use Rattle.std.specs.Prelude.{◌==◌, All, if◌then◌else◌}
+use Rattle.std.proofs.Common.{◌≡◌, ◌≢◌, ℕ, ◌+◌, ◌-◌, ◌<◌, ◌≤◌, Bool, true, false, cond, List, [], ◌∷◌, ◌++◌, length, slice_get, slice_set, Option, None, Some, is_some, inl, inr, refl, sym, ap, subst, ◌∙◌, arith}
+use Rattle.std.specs.Prelude.{All}
 use Rattle.std.specs.Option.{option_map}
 use Rattle.std.proofs.lemmas.Bool.{cases_eq, cases_lt, eq-eqb, ne_eqb}
 use Rattle.std.proofs.lemmas.Bool.Decides.{leb_tells}
@@ -9,6 +9,7 @@ use Rattle.std.proofs.lemmas.Option.{slice_get_within, get_or_from_slice_get}
 use Rattle.proof_base.proofs.Entries.{each_none, each_push}
 use Rattle.proof_base.proofs.Members.{has_none}
 use Rattle.weave_data.specs.declared.name.Name.{Name}
+use Rattle.vector_stamp.specs.declared.clock.Clock.{Clock}
 use Rattle.vector_stamp.specs.declared.clock.Stamp.{Stamp}
 use Rattle.version_chain.specs.Chains.{ChainView}
 use Rattle.shard_queue.specs.Incoming as incoming
@@ -16,16 +17,17 @@ use Rattle.shard_queue.specs.Incoming.{Incoming, nothing_arrived, waiting_at, ha
 use Rattle.version_graph.specs.Graphs.{Chains, chain_of, after_parts}
 use Rattle.weave_entries.specs.declared.message.Message.{Message}
 use Rattle.weave_entries.specs.declared.shard_log.ShardEntry.{ShardEntry}
-use Rattle.weave_entries.specs.declared.shard_log.ShardDeed.TheVariants.{Arrived, Applied, Visited}
-use Rattle.weave_entries.specs.ShardReplay.{arrived_at, processed_by, processed_count, head_of, updates_of, waits_at, first_unready, dropped_after, dropped_from}
+use Rattle.weave_entries.specs.declared.shard_log.ShardDeed.TheVariants.{Arrived, Applied, Visited, Collected}
+use Rattle.weave_entries.specs.ShardReplay.{arrived_at, processed_by, processed_count, head_of, updates_in, updates_of, waits_at, first_unready, dropped_after, bound_of}
 use Rattle.vector_stamp.specs.Precedence.{Given}
-use Rattle.weave_entries.specs.ShardRules.{updates_read, is_settled_by, IsKeptFor, IsTakable, PassesAt, FitsShard}
+use Rattle.weave_entries.specs.ShardRules.{dropped_of, updates_read, is_settled_by, IsKeptFor, IsTakable, PassesAt, FitsShard}
 use Rattle.shard_node.specs.declared.waiting.Waiting.{Waiting}
-use Rattle.shard_node.specs.Keeping.{chain_in_if, versions_from, head_in, LeadsTo, IsInboxOf, IsReplayOf}
+use Rattle.shard_node.specs.Keeping.{chain_in_if, collected_if, head_in, LeadsTo, IsInboxOf, IsReplayOf}
 use Rattle.shard_node.proofs.Leading.{stamp_in, stamp_at, leads-new, leads-some, leads-stamp, leads-message, leads-still}
 use Rattle.shard_node.proofs.Places.{get_set_here, get_set_other, some_is}
 use Rattle.shard_node.proofs.Replay.{arrived-still, arrived-new, arrived-others, count-still, count-applied, updates-still, updates-applied, all-still, all-applied, dropped-push}
-use Rattle.shard_node.proofs.Updates.{chain_from, parts-on}
+use Rattle.shard_node.proofs.Updates.{chain_from, parts-on, still-few}
+use Rattle.shard_node.proofs.Collecting.{collected-from, few-dropped}
 
 -- An inbox
 
@@ -122,30 +124,40 @@ inbox-new gate = record {
   from_one = refl;
 }
 
--- The chain of a vertex
-
-pub chain-is : (v : Name) (log : List ShardEntry) → dropped_from v [] log 0 ≡ 0 → chain_in_if v log ≡ chain_from (updates_of v log)
-chain-is v log none = ap (λ (dropped : ℕ). if length (updates_of v log) == 0 then None else Some (record { dropped = dropped; kept = drop dropped (versions_from None (updates_of v log)) })) none
-
 -- the processed number of another channel stays
 other_count : (author gate : ℕ) (log : List ShardEntry) (other : ℕ) → gate ≢ other → processed_count other (log ++ record { author = author; deed = Applied gate (processed_count gate log + 1) } ∷ []) ≡ processed_count other log
 other_count author gate log other differ =
     count-applied log author gate (processed_count gate log + 1) other ∙ ap (λ (b : Bool). processed_count other log + cond b 1 0) (ne_eqb gate other differ) ∙ omega arith
 
+-- a collection drops what its deed says
+collected-by : (bound : Option Clock) (v : Name) (log : List ShardEntry) (dropped : ℕ) → collected_if bound (chain_from dropped (updates_of v log)) ≡ chain_from (dropped_after v log (Collected bound) dropped) (updates_of v log)
+collected-by None v log dropped = refl
+collected-by (Some bound) v log dropped = collected-from bound dropped (updates_of v log)
+
+few-by : (bound : Option Clock) (v : Name) (log : List ShardEntry) (dropped : ℕ) → dropped ≤ length (updates_of v log) - 1 → dropped_after v log (Collected bound) dropped ≤ length (updates_of v log) - 1
+few-by None v log dropped few = few
+few-by (Some bound) v log dropped few = few-dropped bound dropped (updates_of v log) few
+
 -- All that is kept
 
 module _ (gates : ℕ) (inboxes : List (Incoming Waiting)) (chains : Chains) (log : List ShardEntry) (kept : IsReplayOf gates inboxes chains log) where
-  -- nothing is dropped by a deed that drops nothing
-  dropped-none : (entry : ShardEntry) → ((v : Name) (dropped : ℕ) → dropped_after v log entry.deed dropped ≡ dropped) → (v : Name) → dropped_from v [] (log ++ entry ∷ []) 0 ≡ 0
-  dropped-none entry still v = dropped-push v [] log entry 0 ∙ still v (dropped_from v [] log 0) ∙ kept.nothing_dropped v
+  -- as many are dropped as before, by a deed that drops nothing
+  dropped-same : (entry : ShardEntry) → ((v : Name) (dropped : ℕ) → dropped_after v log entry.deed dropped ≡ dropped) → (v : Name) → dropped_of v (log ++ entry ∷ []) ≡ dropped_of v log
+  dropped-same entry still v = dropped-push v [] log entry 0 ∙ still v (dropped_of v log)
 
-  -- the chains stay, if nothing is processed
+  -- the chains stay, if nothing is processed and nothing dropped
   chains-still : (entry : ShardEntry) → processed_by entry.deed ≡ [] → ((v : Name) (dropped : ℕ) → dropped_after v log entry.deed dropped ≡ dropped) → (v : Name) → chain_of chains v ≡ chain_in_if v (log ++ entry ∷ [])
   chains-still entry none still v =
       kept.chains_are v
-      ∙ chain-is v log (kept.nothing_dropped v)
-      ∙ ap chain_from (sym (updates-still log entry none kept.all_arrived v))
-      ∙ sym (chain-is v (log ++ entry ∷ []) (dropped-none entry still v))
+      ∙ sym (λ i. chain_from (dropped-same entry still v i) (updates-still log entry none kept.all_arrived v i))
+
+  -- and at least the newest version is kept
+  some-still : (entry : ShardEntry) → processed_by entry.deed ≡ [] → ((v : Name) (dropped : ℕ) → dropped_after v log entry.deed dropped ≡ dropped) → (v : Name) → dropped_of v (log ++ entry ∷ []) ≤ length (updates_of v (log ++ entry ∷ [])) - 1
+  some-still entry none still v =
+      let few = kept.some_kept v in
+      let same = dropped-same entry still v in
+      let long : length (updates_of v (log ++ entry ∷ [])) ≡ length (updates_of v log) = ap length (updates-still log entry none kept.all_arrived v) in
+      omega (arith, few, same, long)
 
   -- with an inbox in its place the others stay
   placed : (gate : ℕ) (next : Incoming Waiting) (longer : List ShardEntry) → gate < gates → IsInboxOf gate longer next → ((other : ℕ) (inbox : Incoming Waiting) → other ≢ gate → IsInboxOf other log inbox → IsInboxOf other longer inbox) → (other : ℕ) (inbox : Incoming Waiting) → slice_get (slice_set inboxes gate next) other ≡ Some inbox → IsInboxOf other longer inbox
@@ -180,7 +192,7 @@ module _ (gates : ℕ) (inboxes : List (Incoming Waiting)) (chains : Chains) (lo
           | inr differ ↦ kept.takable at_gate k one (sym (arrived-others log author gate number message at_gate k (λ both. differ both.0)) ∙ arrived)
         ];
         all_arrived = all-still log entry refl kept.all_arrived;
-        nothing_dropped = dropped-none entry still;
+        some_kept = some-still entry refl still;
         rules = each_push (λ before one. FitsShard gates before one.deed) log entry kept.rules (record { gate_is = below; from_one = some; new = none; takable = takable });
       })
 
@@ -206,13 +218,16 @@ module _ (gates : ℕ) (inboxes : List (Incoming Waiting)) (chains : Chains) (lo
         channels = placed gate next (log ++ entry ∷ []) below here (λ other one differ of. inbox-still other log one of entry (other_count author gate log other (λ same. differ (sym same))) (λ k. arrived-still log entry refl other k));
         chains_are = λ v.
             applied v
-            ∙ ap (λ (chain : Option ChainView). after_parts head.stamp v chain head.parts) (kept.chains_are v ∙ chain-is v log (kept.nothing_dropped v))
-            ∙ parts-on head.stamp v (updates_of v log) head.parts
-            ∙ ap chain_from (sym (updates-applied log author gate (processed_count gate log + 1) head is kept.all_arrived v))
-            ∙ sym (chain-is v (log ++ entry ∷ []) (dropped-none entry still v));
+            ∙ ap (λ (chain : Option ChainView). after_parts head.stamp v chain head.parts) (kept.chains_are v)
+            ∙ parts-on head.stamp v (dropped_of v log) (updates_of v log) head.parts (kept.some_kept v)
+            ∙ sym (λ i. chain_from (dropped-same entry still v i) (updates-applied log author gate (processed_count gate log + 1) head is kept.all_arrived v i));
         takable = λ at_gate k one arrived. kept.takable at_gate k one (sym (arrived-still log entry refl at_gate k) ∙ arrived);
         all_arrived = all-applied log author gate (processed_count gate log + 1) head is kept.all_arrived;
-        nothing_dropped = dropped-none entry still;
+        some_kept = λ v.
+            let few = still-few (dropped_of v log) (updates_of v log) (updates_in v head) (kept.some_kept v) in
+            let same = dropped-same entry still v in
+            let long : length (updates_of v (log ++ entry ∷ [])) ≡ length (updates_of v log ++ updates_in v head) = ap length (updates-applied log author gate (processed_count gate log + 1) head is kept.all_arrived v) in
+            omega (arith, few, same, long);
         rules = each_push (λ before one. FitsShard gates before one.deed) log entry kept.rules (record { gate_is = below; number_is = refl; message = head; head = is; in_turn = in_turn; passes = passes });
       })
 
@@ -234,8 +249,37 @@ module _ (gates : ℕ) (inboxes : List (Incoming Waiting)) (chains : Chains) (lo
         chains_are = chains-still entry refl still;
         takable = λ at_gate k one arrived. kept.takable at_gate k one (sym (arrived-still log entry refl at_gate k) ∙ arrived);
         all_arrived = all-still log entry refl kept.all_arrived;
-        nothing_dropped = dropped-none entry still;
+        some_kept = some-still entry refl still;
         rules = each_push (λ before one. FitsShard gates before one.deed) log entry kept.rules (record { ready = ready; base = base; applied = applied; pairs = pairs; updates_are = updates_are; settled_is = settled_is });
+      })
+
+  -- old versions were dropped
+  pub keeps_collected : (author : ℕ) (bound : Option Clock) (after : Chains) (longer : List ShardEntry)
+      → bound ≡ bound_of gates log → ((v : Name) → chain_of after v ≡ collected_if bound (chain_of chains v))
+      → longer ≡ log ++ record { author = author; deed = Collected bound } ∷ []
+      → IsReplayOf gates inboxes after longer
+  keeps_collected author bound after longer bound_is collected_are longer_is =
+      let entry : ShardEntry = record { author = author; deed = Collected bound } in
+      let dropped : (v : Name) → dropped_of v (log ++ entry ∷ []) ≡ dropped_after v log (Collected bound) (dropped_of v log) = λ v. dropped-push v [] log entry 0 in
+      let same : (v : Name) → updates_of v (log ++ entry ∷ []) ≡ updates_of v log = λ v. updates-still log entry refl kept.all_arrived v in
+      subst (λ (l : List ShardEntry). IsReplayOf gates inboxes after l) (sym longer_is) (record {
+        some_gate = kept.some_gate;
+        few_gates = kept.few_gates;
+        count = kept.count;
+        channels = λ gate inbox at. inbox-still gate log inbox (kept.channels gate inbox at) entry (count-still log entry refl gate) (λ k. arrived-still log entry refl gate k);
+        chains_are = λ v.
+            collected_are v
+            ∙ ap (collected_if bound) (kept.chains_are v)
+            ∙ collected-by bound v log (dropped_of v log)
+            ∙ sym (λ i. chain_from (dropped v i) (same v i));
+        takable = λ at_gate k one arrived. kept.takable at_gate k one (sym (arrived-still log entry refl at_gate k) ∙ arrived);
+        all_arrived = all-still log entry refl kept.all_arrived;
+        some_kept = λ v.
+            let few = few-by bound v log (dropped_of v log) (kept.some_kept v) in
+            let now = dropped v in
+            let long : length (updates_of v (log ++ entry ∷ [])) ≡ length (updates_of v log) = ap length (same v) in
+            omega (arith, few, now, long);
+        rules = each_push (λ before one. FitsShard gates before one.deed) log entry kept.rules bound_is;
       })
 
 -- before the first entry nothing has arrived, and no vertex has updates
@@ -251,6 +295,6 @@ keeps_none gates inboxes chains log log_is some few count empty none =
       chains_are = none;
       takable = λ gate number message arrived. let never : None ≡ Some message = arrived in absurd cc;
       all_arrived = λ of has. absurd (has_none of has);
-      nothing_dropped = λ v. refl;
+      some_kept = λ v. omega arith;
       rules = each_none (λ before one. FitsShard gates before one.deed);
     })

@@ -2,6 +2,8 @@ pub mod Places
 pub mod Leading
 pub mod Replay
 pub mod Updates
+pub mod Collecting
+pub mod LowMarks
 pub mod Keeping
 pub mod Ready
 pub mod Stamps

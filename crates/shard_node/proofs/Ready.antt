@@ -1,11 +1,11 @@
 -- What the inboxes and the chains of a shard say is what the replay of its log says.
-use Rattle.std.proofs.Common.{◌≡◌, ℕ, suc, ◌+◌, Bool, true, false, cond, List, [], ◌∷◌, drop, length, slice_get, get_or, Option, None, Some, is_some, inl, inr, refl, sym, ap, subst, ◌∙◌, arith}
+use Rattle.std.proofs.Common.{◌≡◌, ℕ, suc, ◌+◌, ◌-◌, Bool, true, false, cond, List, [], ◌∷◌, length, slice_get, get_or, Option, None, Some, is_some, inl, inr, refl, sym, ap, subst, ◌∙◌, arith}
 use Rattle.std.specs.Prelude.{◌==◌, ◌||◌, not, All, IsTrue, ◌<◌, ◌≤◌}
 use Rattle.std.specs.List.{find, range_with_len}
 use Rattle.std.specs.Option.{option_map}
 use Rattle.std.proofs.lemmas.Bool.Decides.{eqb_tells}
 use Rattle.std.proofs.lemmas.List.Elements.{All-contains_itself}
-use Rattle.std.proofs.lemmas.List.{length-map}
+use Rattle.std.proofs.lemmas.List.{length-drop, length-map}
 use Rattle.std.proofs.lemmas.Option.{slice_get_read}
 use Rattle.proof_base.proofs.Members.{find_lacks}
 use Rattle.weave_data.specs.declared.name.Name.{Name}
@@ -22,13 +22,13 @@ use Rattle.shard_queue.specs.Incoming.{Incoming, has_arrived}
 use Rattle.weave_entries.specs.declared.message.Message.{Message}
 use Rattle.weave_entries.specs.declared.shard_log.ShardEntry.{ShardEntry}
 use Rattle.weave_entries.specs.ShardReplay.{Update, arrived_at, processed_count, head_of, last_of, updates_of, waits_at, state_of_updates, is_past, is_ready_for, first_unready, kept_of}
-use Rattle.weave_entries.specs.ShardRules.{update_stamps, kept_stamps, updates_read, PassesAt}
+use Rattle.weave_entries.specs.ShardRules.{dropped_of, update_stamps, kept_stamps, updates_read, PassesAt}
 use Rattle.shard_node.specs.declared.waiting.Waiting.{Waiting}
 use Rattle.shard_node.specs.Keeping.{versions_from, chain_in, head_in, first_differing, is_after, is_channel_ready, first_not_ready, IsInboxOf, IsReplayOf}
 use Rattle.shard_node.proofs.Replay.{processed_are_few}
 use Rattle.shard_node.proofs.Updates.{chain_from, or_new, count-is, newest-state-is, kept-stamps-are, length-versions}
 use Rattle.shard_node.proofs.Leading.{stamp_in, leads-some}
-use Rattle.shard_node.proofs.Keeping.{has-arrived, head-leads, head-is, head-stamp, chain-is}
+use Rattle.shard_node.proofs.Keeping.{has-arrived, head-leads, head-is, head-stamp}
 
 none_mapped : {A B : Type 0} (f : A → B) (x : Option A) → option_map f x ≡ None → x ≡ None
 none_mapped f None none = refl
@@ -97,14 +97,11 @@ module _ (gates : ℕ) (inboxes : List (Incoming Waiting)) (chains : Chains) (lo
 
   -- Chains
 
-  chain-from : (v : Name) → chain_of chains v ≡ chain_from (updates_of v log)
-  chain-from v = kept.chains_are v ∙ chain-is v log (kept.nothing_dropped v)
+  chain-from : (v : Name) → chain_of chains v ≡ chain_from (dropped_of v log) (updates_of v log)
+  chain-from v = kept.chains_are v
 
   pub seen-chain : (v : Name) → chain_or_new (chain_of chains v) ≡ chain_in v log
-  seen-chain v =
-      ap chain_or_new (chain-from v)
-      ∙ or_new (updates_of v log)
-      ∙ ap (λ (dropped : ℕ). record { dropped = dropped; kept = drop dropped (versions_from None (updates_of v log)) }) (sym (kept.nothing_dropped v))
+  seen-chain v = ap chain_or_new (chain-from v) ∙ or_new (dropped_of v log) (updates_of v log) (kept.some_kept v)
 
   pub seen-stamps : (v : Name) → stamps_of (chain_or_new (chain_of chains v)).kept ≡ kept_stamps v log
   seen-stamps v = ap (λ (chain : ChainView). stamps_of chain.kept) (seen-chain v) ∙ kept-stamps-are v log
@@ -113,20 +110,17 @@ module _ (gates : ℕ) (inboxes : List (Incoming Waiting)) (chains : Chains) (lo
   pub read-few : ((pairs : List Given) (program : Stamp) (updates : List Stamp) → seen_of pairs program updates ≤ length updates) → (pairs : List Given) (program : Stamp) (v : Name) → updates_read pairs program v log ≤ length (updates_of v log)
   read-few within pairs program v =
       let few = within pairs program (kept_stamps v log) in
-      let none = kept.nothing_dropped v in
-      let long : length (kept_stamps v log) ≡ length (updates_of v log) = ap (λ n. length (drop n (update_stamps v log))) none ∙ length-map (updates_of v log) (λ (update : Update). update.stamp) in
-      omega (arith, few, none, long)
+      let some = kept.some_kept v in
+      omega (arith, few, some, length-drop (dropped_of v log) (update_stamps v log), length-map (updates_of v log) (λ (update : Update). update.stamp))
 
   count-at : (v : Name) → update_count (chain_or_new (chain_of chains v)) ≡ length (updates_of v log)
-  count-at v = ap (λ (chain : Option ChainView). update_count (chain_or_new chain)) (chain-from v) ∙ count-is (updates_of v log)
+  count-at v = ap (λ (chain : Option ChainView). update_count (chain_or_new chain)) (chain-from v) ∙ count-is (dropped_of v log) (updates_of v log) (kept.some_kept v)
 
   pub kept-is : (v : Name) → length (chain_or_new (chain_of chains v)).kept ≡ kept_of v log
   kept-is v =
-      let long = length-versions None (updates_of v log) in
-      let none = kept.nothing_dropped v in
-      ap (λ (chain : Option ChainView). length (chain_or_new chain).kept) (chain-from v)
-      ∙ ap (λ (chain : ChainView). length chain.kept) (or_new (updates_of v log))
-      ∙ omega (arith, long, none)
+      ap (λ (chain : ChainView). length chain.kept) (seen-chain v)
+      ∙ length-drop (dropped_of v log) (versions_from None (updates_of v log))
+      ∙ ap (λ n. n - dropped_of v log) (length-versions None (updates_of v log))
 
   -- A head
 
@@ -135,7 +129,7 @@ module _ (gates : ℕ) (inboxes : List (Incoming Waiting)) (chains : Chains) (lo
 
   -- the newest state of a vertex is that after its updates
   pub state-at : (v : Name) → newest_state (chain_or_new (chain_of chains v)).kept ≡ state_of_updates (updates_of v log)
-  state-at v = ap (λ (chain : Option ChainView). newest_state (chain_or_new chain).kept) (chain-from v) ∙ newest-state-is (updates_of v log)
+  state-at v = ap (λ (chain : Option ChainView). newest_state (chain_or_new chain).kept) (chain-from v) ∙ newest-state-is (dropped_of v log) (updates_of v log) (kept.some_kept v)
 
   -- operations that pass on the newest states pass after the updates
   pub all-pass : (head : Message) → All (λ (part : Part). IsTrue (none_refused part.ops (newest_state (chain_or_new (chain_of chains part.vertex)).kept))) head.parts → PassesAt log head

@@ -1,5 +1,5 @@
 -- The conditions of calls, as tests find them: the stamps of updates are among those of what arrived.
-use Rattle.std.proofs.Common.{◌≡◌, ◌≢◌, ℕ, zero, suc, ◌-◌, ◌^◌, ◌<◌, true, false, List, [], ◌∷◌, ◌++◌, drop, get_or, All, Contains, Option, None, Some, inl, inr, refl, sym, ap, subst, ◌∙◌, arith}
+use Rattle.std.proofs.Common.{◌≡◌, ◌≢◌, ℕ, zero, suc, ◌-◌, ◌^◌, ◌<◌, true, false, List, [], ◌∷◌, ◌++◌, drop, get_or, All, Contains, Option, None, Some, inl, inr, refl, sym, ap, subst, ◌∙◌}
 use Rattle.std.specs.Prelude.{AllPairs, filter_map}
 use Rattle.std.specs.Cmp.Lexicographic.{nat_list_cmp_total}
 use Rattle.std.specs.declared.cmp.Ordering.{Ordering}
@@ -21,7 +21,7 @@ use Rattle.weave_entries.specs.declared.shard_log.ShardEntry.{ShardEntry}
 use Rattle.weave_entries.specs.declared.shard_log.ShardDeed.{ShardDeed}
 use Rattle.weave_entries.specs.declared.shard_log.ShardDeed.TheVariants.{Arrived, Applied, Visited, Collected}
 use Rattle.weave_entries.specs.ShardReplay.{Arrival, arrival_by, arrivals_of, arrived_at, processed_of, applied_messages, Update, updates_in, updates_of}
-use Rattle.weave_entries.specs.ShardRules.{dropped_of, update_stamps, kept_stamps, IsKeptFor}
+use Rattle.weave_entries.specs.ShardRules.{dropped_of, update_stamps, kept_stamps}
 use Rattle.shard_node.specs.TestWords.{stamps_by, arrived_stamps}
 
 -- Stamps
@@ -91,9 +91,6 @@ are_coherent_too v log program known all = record {
         | inr knows ↦ Contains-append_right (arrived_stamps log) known a knows
       ])
     ]
-
-pub reaches : (v : Name) (log : List ShardEntry) (program : Stamp) → dropped_of v log ≡ 0 → IsKeptFor program v log
-reaches v log program none some = absurd (omega (arith, none, some))
 
 -- Messages
 

@@ -1,10 +1,10 @@
 -- The chain of a vertex whose updates are given: with one more update, and with those of a message.
-use Rattle.std.proofs.Common.{◌≡◌, ℕ, zero, suc, ◌+◌, ◌≤◌, false, List, [], ◌∷◌, ◌++◌, map, take, drop, length, filter, slice_get, IsTrue, Option, None, Some, inl, inr, refl, sym, ap, subst, ◌∙◌, arith}
+use Rattle.std.proofs.Common.{◌≡◌, ℕ, zero, suc, ◌+◌, ◌-◌, ◌≤◌, false, List, [], ◌∷◌, ◌++◌, map, take, drop, length, filter, slice_get, IsTrue, Option, None, Some, inl, inr, refl, sym, ap, subst, ◌∙◌, arith}
 use Rattle.std.specs.Prelude.{◌==◌, fold, not, if◌then◌else◌}
 use Rattle.std.specs.List.{list_any}
 use Rattle.std.specs.Option.{IsSomeAnd}
 use Rattle.std.proofs.lemmas.Bool.{cases_Bool, cases_lt, ne_eqb, or_left}
-use Rattle.std.proofs.lemmas.List.{append_assoc, append-nil, length-append, length-map}
+use Rattle.std.proofs.lemmas.List.{append_assoc, append-nil, length-append, length-map, length-drop, take-append-drop, drop-append-le}
 use Rattle.std.proofs.lemmas.List.Sums.{fold-append}
 use Rattle.weave_data.specs.declared.name.Name.{Name}
 use Rattle.weave_data.specs.Names.{same_name}
@@ -25,9 +25,9 @@ use Rattle.weave_entries.specs.declared.shard_log.ShardEntry.{ShardEntry}
 use Rattle.weave_entries.specs.ShardRules.{dropped_of, kept_stamps, updates_read, is_settled_by, last_read, entries_of_visit, pairs_after_visit, IsKeptFor}
 use Rattle.shard_node.specs.Keeping.{versions_from, chain_in}
 
--- the chain that keeps all versions of these updates, if there is an update
-abbrev pub chain_from : List Update → Option ChainView
-chain_from updates = if length updates == 0 then None else Some (record { dropped = 0; kept = versions_from None updates })
+-- the chain of these updates, of which that many of the oldest versions were dropped; none if there is no update
+abbrev pub chain_from : ℕ → List Update → Option ChainView
+chain_from dropped updates = if length updates == 0 then None else Some (record { dropped = dropped; kept = drop dropped (versions_from None updates) })
 
 versions-push : (state : State) (updates : List Update) (last : Update) → versions_from state (updates ++ last ∷ []) ≡ versions_from state updates ++ record { stamp = last.stamp; state = state_after last.ops (fold (λ (before : State) (version : Version). version.state) state (versions_from state updates)) } ∷ []
 versions-push state [] last = refl
@@ -46,26 +46,61 @@ pub stamps-are : (state : State) (updates : List Update) → stamps_of (versions
 stamps-are state [] = refl
 stamps-are state (update ∷ updates) = ap (λ (stamps : List Stamp). update.stamp ∷ stamps) (stamps-are (state_after update.ops state) updates)
 
+-- what is dropped of versions is what is dropped of their updates
+versions-drop : (state : State) (updates : List Update) (n : ℕ) → drop n (versions_from state updates) ≡ versions_from (fold (λ before (update : Update). state_after update.ops before) state (take n updates)) (drop n updates)
+versions-drop state updates zero = refl
+versions-drop state [] (suc n) = refl
+versions-drop state (update ∷ updates) (suc n) = versions-drop (state_after update.ops state) updates n
+
+-- the newest of some versions, whatever was before them
+newest-some : (state : State) (updates : List Update) → 1 ≤ length updates → newest_state (versions_from state updates) ≡ fold (λ before (update : Update). state_after update.ops before) state updates
+newest-some state [] some = absurd (omega (arith, some))
+newest-some state (update ∷ updates) some = newest-is (state_after update.ops state) updates
+
+-- the newest state is that of all updates, if its version is kept
+newest-left : (dropped : ℕ) (updates : List Update) → dropped ≤ length updates - 1 → newest_state (drop dropped (versions_from None updates)) ≡ state_of_updates updates
+newest-left zero updates few = newest-is None updates
+newest-left (suc dropped) updates few =
+    let long : 1 ≤ length (drop (suc dropped) updates) = omega (arith, few, length-drop (suc dropped) updates) in
+    ap newest_state (versions-drop None updates (suc dropped))
+    ∙ newest-some (state_of_updates (take (suc dropped) updates)) (drop (suc dropped) updates) long
+    ∙ sym (fold-append _ None (take (suc dropped) updates) (drop (suc dropped) updates))
+    ∙ ap state_of_updates (take-append-drop (suc dropped) updates)
+
+-- Of a chain at least the newest version is kept
+
 -- a chain without updates is like none
-pub or_new : (updates : List Update) → chain_or_new (chain_from updates) ≡ record { dropped = 0; kept = versions_from None updates }
-or_new [] = refl
-or_new (update ∷ updates) =
+pub or_new : (dropped : ℕ) (updates : List Update) → dropped ≤ length updates - 1 → chain_or_new (chain_from dropped updates) ≡ record { dropped = dropped; kept = drop dropped (versions_from None updates) }
+or_new dropped [] few =
+    let none : 0 ≡ dropped = omega (arith, few) in
+    λ i. record { dropped = none i; kept = drop (none i) (versions_from None []) }
+or_new dropped (update ∷ updates) few =
     let some : (length (update ∷ updates) == 0) ≡ false = ne_eqb (length (update ∷ updates)) 0 (λ none. omega (arith, none)) in
     rw some refl
 
-pub count-is : (updates : List Update) → update_count (chain_or_new (chain_from updates)) ≡ length updates
-count-is updates = let long = length-versions None updates in ap update_count (or_new updates) ∙ omega (arith, long)
+pub count-is : (dropped : ℕ) (updates : List Update) → dropped ≤ length updates - 1 → update_count (chain_or_new (chain_from dropped updates)) ≡ length updates
+count-is dropped updates few =
+    let long = length-versions None updates in
+    ap update_count (or_new dropped updates few) ∙ omega (arith, few, long, length-drop dropped (versions_from None updates))
 
-pub newest-state-is : (updates : List Update) → newest_state (chain_or_new (chain_from updates)).kept ≡ state_of_updates updates
-newest-state-is updates = ap (λ (chain : ChainView). newest_state chain.kept) (or_new updates) ∙ newest-is None updates
+pub newest-state-is : (dropped : ℕ) (updates : List Update) → dropped ≤ length updates - 1 → newest_state (chain_or_new (chain_from dropped updates)).kept ≡ state_of_updates updates
+newest-state-is dropped updates few = ap (λ (chain : ChainView). newest_state chain.kept) (or_new dropped updates few) ∙ newest-left dropped updates few
+
+pub still-few : (dropped : ℕ) (updates more : List Update) → dropped ≤ length updates - 1 → dropped ≤ length (updates ++ more) - 1
+still-few dropped updates more few = omega (arith, few, length-append updates more)
 
 -- one more update
-one_more : (updates : List Update) (last : Update) → Some (with_update last.stamp last.ops (chain_or_new (chain_from updates))) ≡ chain_from (updates ++ last ∷ [])
-one_more updates last =
+one_more : (dropped : ℕ) (updates : List Update) (last : Update) → dropped ≤ length updates - 1 → Some (with_update last.stamp last.ops (chain_or_new (chain_from dropped updates))) ≡ chain_from dropped (updates ++ last ∷ [])
+one_more dropped updates last few =
+    let versions : List Version = versions_from None updates in
+    let long = length-versions None updates in
     let some : (length (updates ++ last ∷ []) == 0) ≡ false = ne_eqb (length (updates ++ last ∷ [])) 0 (λ none. omega (arith, none, length-append updates (last ∷ []))) in
-    let whole : chain_from (updates ++ last ∷ []) ≡ Some (record { dropped = 0; kept = versions_from None (updates ++ last ∷ []) }) = rw some refl in
-    ap (λ (chain : ChainView). Some (with_update last.stamp last.ops chain)) (or_new updates)
-    ∙ ap (λ (versions : List Version). Some (record { dropped = 0; kept = versions })) (sym (versions-push None updates last))
+    let whole : chain_from dropped (updates ++ last ∷ []) ≡ Some (record { dropped = dropped; kept = drop dropped (versions_from None (updates ++ last ∷ [])) }) = rw some refl in
+    let newest : newest_state (drop dropped versions) ≡ newest_state versions = newest-left dropped updates few ∙ sym (newest-is None updates) in
+    let next : Version = record { stamp = last.stamp; state = state_after last.ops (newest_state versions) } in
+    ap (λ (chain : ChainView). Some (with_update last.stamp last.ops chain)) (or_new dropped updates few)
+    ∙ (λ i. Some (record { dropped = dropped; kept = drop dropped versions ++ record { stamp = last.stamp; state = state_after last.ops (newest i) } ∷ [] }))
+    ∙ ap (λ (kept : List Version). Some (record { dropped = dropped; kept = kept })) (sym (drop-append-le dropped versions (next ∷ []) (omega (arith, few, long))) ∙ ap (drop dropped) (sym (versions-push None updates last)))
     ∙ sym whole
 
 -- the update that a part is
@@ -73,15 +108,15 @@ abbrev update_by : Stamp → Part → Update
 update_by stamp part = record { stamp = stamp; ops = part.ops }
 
 -- and the updates of a message
-pub parts-on : (stamp : Stamp) (v : Name) (updates : List Update) (parts : List Part) → after_parts stamp v (chain_from updates) parts ≡ chain_from (updates ++ map (λ (part : Part). record { stamp = stamp; ops = part.ops }) (filter (λ (part : Part). same_name part.vertex v) parts))
-parts-on stamp v updates [] = ap chain_from (sym (append-nil updates))
-parts-on stamp v updates (part ∷ parts) = elim (cases_Bool (same_name part.vertex v)) [
+pub parts-on : (stamp : Stamp) (v : Name) (dropped : ℕ) (updates : List Update) (parts : List Part) → dropped ≤ length updates - 1 → after_parts stamp v (chain_from dropped updates) parts ≡ chain_from dropped (updates ++ map (λ (part : Part). record { stamp = stamp; ops = part.ops }) (filter (λ (part : Part). same_name part.vertex v) parts))
+parts-on stamp v dropped updates [] few = ap (chain_from dropped) (sym (append-nil updates))
+parts-on stamp v dropped updates (part ∷ parts) few = elim (cases_Bool (same_name part.vertex v)) [
   | inl same ↦ rw same (
-      ap (λ (chain : Option ChainView). after_parts stamp v chain parts) (one_more updates (update_by stamp part))
-      ∙ parts-on stamp v (updates ++ update_by stamp part ∷ []) parts
-      ∙ ap chain_from (append_assoc updates (update_by stamp part ∷ []) (map (update_by stamp) (filter (λ (each : Part). same_name each.vertex v) parts)))
+      ap (λ (chain : Option ChainView). after_parts stamp v chain parts) (one_more dropped updates (update_by stamp part) few)
+      ∙ parts-on stamp v dropped (updates ++ update_by stamp part ∷ []) parts (still-few dropped updates (update_by stamp part ∷ []) few)
+      ∙ ap (chain_from dropped) (append_assoc updates (update_by stamp part ∷ []) (map (update_by stamp) (filter (λ (each : Part). same_name each.vertex v) parts)))
       )
-  | inr other ↦ rw other (parts-on stamp v updates parts)
+  | inr other ↦ rw other (parts-on stamp v dropped updates parts few)
 ]
 
 -- A visit in the words of the log
@@ -113,23 +148,16 @@ module _ (pairs : List Given) (program : Stamp) (v : Name) (log : List ShardEntr
 pub reaches-back : (program : Stamp) (v : Name) (log : List ShardEntry) → IsKeptFor program v log → ReachesBack program (chain_in v log)
 reaches-back program v log base some = subst (λ (stamps : List Stamp). IsSomeAnd (slice_get stamps 0) (λ oldest. IsTrue (stamp_before oldest program))) (sym (kept-stamps-are v log)) (base some)
 
--- The state that it reads
+-- and back
+pub kept-for : (program : Stamp) (v : Name) (log : List ShardEntry) → ReachesBack program (chain_in v log) → IsKeptFor program v log
+kept-for program v log base some = subst (λ (stamps : List Stamp). IsSomeAnd (slice_get stamps 0) (λ oldest. IsTrue (stamp_before oldest program))) (kept-stamps-are v log) (base some)
 
--- what is dropped of versions is what is dropped of their updates
-versions-drop : (state : State) (updates : List Update) (n : ℕ) → drop n (versions_from state updates) ≡ versions_from (fold (λ before (update : Update). state_after update.ops before) state (take n updates)) (drop n updates)
-versions-drop state updates zero = refl
-versions-drop state [] (suc n) = refl
-versions-drop state (update ∷ updates) (suc n) = versions-drop (state_after update.ops state) updates n
+-- The state that it reads
 
 versions-take : (state : State) (updates : List Update) (n : ℕ) → take n (versions_from state updates) ≡ versions_from state (take n updates)
 versions-take state updates zero = refl
 versions-take state [] (suc n) = refl
 versions-take state (update ∷ updates) (suc n) = ap (λ (versions : List Version). record { stamp = update.stamp; state = state_after update.ops state } ∷ versions) (versions-take (state_after update.ops state) updates n)
-
--- the newest of some versions, whatever was before them
-newest-some : (state : State) (updates : List Update) → 1 ≤ length updates → newest_state (versions_from state updates) ≡ fold (λ before (update : Update). state_after update.ops before) state updates
-newest-some state [] some = absurd (omega (arith, some))
-newest-some state (update ∷ updates) some = newest-is (state_after update.ops state) updates
 
 abbrev no_updates : List Update
 no_updates = []

@@ -1,14 +1,16 @@
 -- What a shard keeps beside its log. No public contract cites this.
-use Rattle.std.specs.Prelude.{◌≡◌, ℕ, ◌+◌, ◌<◌, ◌≤◌, ◌==◌, ◌||◌, Bool, false, not, if◌then◌else◌, List, [], ◌∷◌, drop, length, slice_get, Option, None, Some, IsSome, Contains, ⊤}
+use Rattle.std.specs.Prelude.{◌≡◌, ℕ, ◌+◌, ◌-◌, ◌<◌, ◌≤◌, ◌==◌, ◌||◌, Bool, false, not, if◌then◌else◌, List, [], ◌∷◌, drop, length, slice_get, Option, None, Some, IsSome, Contains, ⊤}
 use Rattle.std.specs.Option.{option_map, option_and_then}
 use Rattle.std.specs.List.{find}
 use Rattle.graph_ops.specs.declared.part.Part.{Part}
 use Rattle.graph_ops.specs.Operations.{State}
 use Rattle.graph_ops.specs.VertexOps.{state_after}
+use Rattle.vector_stamp.specs.declared.clock.Clock.{Clock}
 use Rattle.vector_stamp.specs.declared.clock.Stamp.{Stamp}
 use Rattle.vector_stamp.specs.Order.{stamp_before}
 use Rattle.version_chain.specs.declared.version.Version.{Version}
 use Rattle.version_chain.specs.Chains.{ChainView, update_count}
+use Rattle.version_chain.specs.Collection.{collected}
 use Rattle.weave_data.specs.declared.name.Name.{Name}
 use Rattle.shard_queue.specs.Incoming.{Incoming, head_of, waiting_at}
 use Rattle.version_graph.specs.Graphs.{Chains, chain_of, chain_or_new}
@@ -36,6 +38,15 @@ chain_in v log = record {
 -- and if it has updates
 abbrev pub chain_in_if : Name → List ShardEntry → Option ChainView
 chain_in_if v log = if length (updates_of v log) == 0 then None else Some (chain_in v log)
+
+-- a chain, if there is one, after a collection by a bound, if there is one
+abbrev pub collected_if : Option Clock → Option ChainView → Option ChainView
+collected_if None chain = chain
+collected_if (Some bound) chain = option_map (collected bound) chain
+
+-- the low mark of the last message that was processed on a channel
+abbrev pub low_of : List ShardEntry → ℕ → Option Clock
+low_of log gate = option_map (λ (message : Message). message.low) (last_of gate log)
 
 -- the first vertex of these parts whose count is not the number of updates that its chain has
 abbrev pub first_differing : Chains → List Part → Option Name
@@ -89,7 +100,7 @@ pub record IsInboxOf (gate : ℕ) (log : List ShardEntry) (inbox : Incoming Wait
 abbrev pub ProcessedArrived : List ShardEntry → Type 0
 ProcessedArrived log = (of : ℕ × ℕ) → Contains (processed_of log) of → IsSome (arrived_at of.0 of.1 log)
 
--- all that it keeps is what the replay of the log gives
+-- all that it keeps is what the replay of the log gives; of a vertex with updates it keeps at least the newest version
 pub record IsReplayOf (gates : ℕ) (inboxes : List (Incoming Waiting)) (chains : Chains) (log : List ShardEntry) : Type 0 where
   pub some_gate : 1 ≤ gates
   pub few_gates : gates ≤ 8
@@ -98,5 +109,10 @@ pub record IsReplayOf (gates : ℕ) (inboxes : List (Incoming Waiting)) (chains 
   pub chains_are : (v : Name) → chain_of chains v ≡ chain_in_if v log
   pub takable : (gate number : ℕ) (message : Message) → arrived_at gate number log ≡ Some message → IsTakable message
   pub all_arrived : ProcessedArrived log
-  pub nothing_dropped : (v : Name) → dropped_of v log ≡ 0
+  pub some_kept : (v : Name) → dropped_of v log ≤ length (updates_of v log) - 1
   pub rules : IsShardLog gates log
+
+-- the low marks that it keeps are those of the last processed messages, by gatekeeper
+pub record AreLowMarks (gates : ℕ) (lows : List (Option Clock)) (log : List ShardEntry) : Type 0 where
+  pub count : length lows ≡ gates
+  pub each : (gate : ℕ) (low : Option Clock) → slice_get lows gate ≡ Some low → low ≡ low_of log gate

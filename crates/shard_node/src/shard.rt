@@ -1,6 +1,7 @@
 //! A shard.
-ghost use Rattle.std.specs.Prelude.{◌≡◌, ◌≢◌, ◌+◌, ◌<◌, ◌≤◌, ◌∷◌, ◌++◌, ◌⊎◌, [], take, length, is_some, false, All, Contains, IsTrue, IsSome, Some, None, IfOk, IfErr, OnOk, OnErr, if◌then◌else◌};
+ghost use Rattle.std.specs.Prelude.{◌≡◌, ◌≢◌, ℕ, ◌+◌, ◌<◌, ◌≤◌, ◌∷◌, ◌++◌, ◌⊎◌, [], take, length, is_some, false, All, Contains, IsTrue, IsSome, Some, None, IfOk, IfErr, OnOk, OnErr, if◌then◌else◌};
 ghost use Rattle.std.specs.Option.{ForSome};
+ghost use Rattle.weave_data.specs.declared.name.Name.{Name};
 ghost use Rattle.vector_stamp.specs.declared.clock.Stamp.{Stamp};
 ghost use Rattle.vector_stamp.specs.Order.{id_of};
 ghost use Rattle.vector_stamp.specs.Coherence.{AreCoherent};
@@ -8,12 +9,14 @@ ghost use Rattle.vector_stamp.specs.Settling.{pairs_of};
 ghost use Rattle.version_chain.specs.Chains.{stamps_of};
 ghost use Rattle.version_graph.specs.Graphs.{chain_of, chain_or_new};
 ghost use Rattle.version_chain.specs.Views.{has_unordered, view_of, put_before, entries_for, ReachesBack};
-ghost use Rattle.weave_entries.specs.ShardReplay.{arrived_at, processed_count, head_of, updates_of, waits_at, state_of_updates, first_unready, kept_of};
+ghost use Rattle.weave_entries.specs.ShardReplay.{arrived_at, processed_count, head_of, updates_of, waits_at, state_of_updates, first_unready, bound_of, kept_of};
 ghost use Rattle.weave_entries.specs.ShardRules.{kept_stamps, updates_read, is_settled_by, pairs_after_visit, entries_of_visit, is_judge_asked, IsKeptFor, IsTakable, PassesAt, IsShardLog};
+ghost use Rattle.shard_node.specs.Keeping.{collected_if};
 ghost use Rattle.shard_node.specs.Shards.{AddsEntry, IsNext, IsRightlyUnapplied, IsRightlyUnread};
 
 use crate::channels::{empty_channels, first_unready, pass_head};
 use crate::fault::{ApplyFault, VisitFault};
+use crate::low_marks::{meet_of_all, no_low_marks};
 use crate::turns::first_waiting;
 use crate::waiting::{Waiting, head_message};
 use graph_ops::Record;
@@ -22,9 +25,9 @@ use shard_queue::{Arrival, Inbox};
 use std::alloc::{AllocError, Global};
 use std::marker::Model;
 use vector_stamp::laws::the_last_update_read_is_seen;
-use vector_stamp::{Judge, Stamp};
+use vector_stamp::{Clock, Judge, Stamp};
 use version_chain::View;
-use version_graph::VersionGraph;
+use version_graph::{VersionGraph, collect_all};
 use weave_data::Name;
 use weave_entries::{Message, ShardDeed, ShardEntry};
 
@@ -34,19 +37,22 @@ pub struct Shard {
     number: u32,
     pub(crate) gates: u32,
     pub(crate) channels: Vec<Inbox<Waiting>>,
+    // The low mark of the last message that was processed on each channel.
+    lows: Vec<Option<Clock>>,
     pub(crate) graph: VersionGraph,
     pub(crate) log: Vec<ShardEntry>,
 }
 
 impl Model for Shard {
     ghost use Rattle.shard_node.specs.Shards.{ShardView};
-    ghost use Rattle.shard_node.specs.Keeping.{IsReplayOf};
+    ghost use Rattle.shard_node.specs.Keeping.{AreLowMarks, IsReplayOf};
 
     ghost Value = { ShardView };
 
     ghost view = { λ s. record { number = s.number; gates = s.gates; log = s.log.items } };
 
-    ghost invariant = { λ s. IsReplayOf s.gates s.channels.items s.graph s.log.items };
+    ghost invariant = { λ s. IsReplayOf s.gates s.channels.items s.graph s.log.items
+        × AreLowMarks s.gates s.lows.items s.log.items };
 }
 
 impl Shard {
@@ -60,6 +66,7 @@ impl Shard {
             number,
             gates,
             channels: empty_channels(alloc, gates)?,
+            lows: no_low_marks(alloc, gates)?,
             graph: VersionGraph::new(alloc),
             log: Vec::new(alloc),
         })
@@ -104,6 +111,15 @@ impl Shard {
         Ok(Arrival::Kept)
     }
 
+    /// The number of the message that is processed next on a gatekeeper's channel. Those before it have arrived.
+    pub fn next_number(&self, gate: u32) -> u64
+        requires { gate < self.now.gates }
+        ensures number { result ≡ processed_count gate self.now.log + 1 }
+        ensures arrived { (n : ℕ) → 1 ≤ n → n < result → IsTrue (is_some (arrived_at gate n self.now.log)) }
+    {
+        self.channels[gate as usize].next()
+    }
+
     /// Processes the head of a gatekeeper's channel, if each of its counts is the number of updates applied to that vertex here.
     pub fn apply(&mut self, alloc: Global, author: u32, gate: u32) -> Result<(), ApplyFault>
         requires gate { gate < self.old.gates }
@@ -126,6 +142,7 @@ impl Shard {
         }
         self.graph
             .apply_parts(alloc, head.stamp, head.parts.as_slice())?;
+        self.lows[gate as usize] = Some(head.low);
         let number = pass_head(channel);
         let deed = ShardDeed::Applied { gate, number };
         self.log.push_reserved(ShardEntry { author, deed });
@@ -182,6 +199,22 @@ impl Shard {
         Ok(view.state)
     }
 
+    /// Drops old versions: of each vertex, those older than the newest one whose clock is before the shard's bound.
+    /// The bound is the meet of the low marks of the last processed messages of all gatekeepers.
+    /// If nothing of a gatekeeper was processed, there is no bound, and nothing is dropped.
+    pub fn collect(&mut self, author: u32) -> Result<(), AllocError>
+        ensures entry { OnOk result (AddsEntry self.old self.new author
+            (ShardDeed.Collected (bound_of self.old.gates self.old.log))) }
+        ensures unchanged { OnErr result (self.new ≡ self.old) }
+    {
+        self.log.reserve(1)?;
+        let bound = meet_of_all(self.lows.as_slice());
+        collect_if(&mut self.graph, &bound);
+        let deed = ShardDeed::Collected { bound };
+        self.log.push_reserved(ShardEntry { author, deed });
+        Ok(())
+    }
+
     /// How many versions of a vertex are kept.
     pub fn kept(&self, v: Name) -> usize
         ensures { result ≡ kept_of v self.now.log }
@@ -198,6 +231,15 @@ impl Shard {
         ensures rules { IsShardLog self.now.gates self.now.log }
     {
         self.log.as_slice()
+    }
+}
+
+// Drops old versions by a bound, if there is one.
+fn collect_if(graph: &mut VersionGraph, bound: &Option<Clock>)
+    ensures { (v : Name) → chain_of graph.new v ≡ collected_if bound.now (chain_of graph.old v) }
+{
+    if let Some(bound) = bound {
+        collect_all(graph, bound);
     }
 }
 

@@ -1,4 +1,4 @@
-ghost use Rattle.std.specs.Prelude.{◌≡◌, ◌≢◌, ◌-◌, ◌^◌, ◌<◌, ◌∷◌, ◌++◌, [], Some, None, All, AllPairs, IsTrue};
+ghost use Rattle.std.specs.Prelude.{◌≡◌, ◌≢◌, ◌-◌, ◌^◌, ◌<◌, ◌≤◌, ◌∷◌, ◌++◌, [], Some, None, All, AllPairs, IsTrue};
 ghost use Rattle.std.specs.List.{flat_map};
 ghost use Rattle.graph_ops.specs.VertexOps.{none_refused};
 ghost use Rattle.vector_stamp.specs.declared.clock.Stamp.{Stamp};
@@ -6,6 +6,7 @@ ghost use Rattle.vector_stamp.specs.Order.{id_of};
 ghost use Rattle.vector_stamp.specs.Precedence.{precedes};
 ghost use Rattle.vector_stamp.specs.Coherence.{AreCoherent};
 ghost use Rattle.version_chain.specs.Chains.{newest_state};
+ghost use Rattle.version_chain.specs.Views.{ReachesBack};
 ghost use Rattle.version_chain.specs.TestJudge.{ends};
 ghost use Rattle.version_graph.specs.Graphs.{chain_of, chain_or_new};
 ghost use Rattle.weave_entries.specs.ShardReplay.{head_of};
@@ -126,6 +127,16 @@ fn nop(alloc: Global, stamp: Stamp) -> Message {
         request: None,
         stamp,
         low: stamp.clock,
+        parts: Items::new(alloc),
+    }
+}
+
+// An empty message with a low mark of its own: gatekeeper 0 has a program that began before.
+fn nop_above(alloc: Global, stamp: Stamp, low: Stamp) -> Message {
+    Message {
+        request: None,
+        stamp,
+        low: low.clock,
         parts: Items::new(alloc),
     }
 }
@@ -315,6 +326,14 @@ fn apply(rt: &impl Abort, alloc: Global, shard: &mut Shard, gate: u32) -> Result
     applied
 }
 
+// The number of the message that is processed next on a gatekeeper's channel.
+fn next_number(rt: &impl Abort, shard: &Shard, gate: u32) -> u64 {
+    if gate >= shard.gates {
+        panic!(rt; "no such gatekeeper");
+    }
+    shard.next_number(gate)
+}
+
 fn stamps(rt: &impl Abort, alloc: Global, log: &[ShardEntry]) -> Vec<Stamp>
     ensures { result.items ≡ arrived_stamps log.now }
 {
@@ -369,6 +388,16 @@ fn together(
     all
 }
 
+// Whether what is kept of a vertex reaches back far enough for a program.
+fn reaches_back(graph: &VersionGraph, vertex: Name, program: &Stamp) -> bool
+    ensures { IsTrue result → ReachesBack program.now (chain_or_new (chain_of graph.now vertex)) }
+{
+    let Some(chain) = graph.chain(vertex) else {
+        return true;
+    };
+    chain.reaches_back(program)
+}
+
 // A visit for a request, under the conditions of `visit`: the stamps of all that arrived, and those that the judge knows, are coherent with the program's. The program's gatekeeper is the author.
 fn visit_for(
     rt: &impl Abort,
@@ -387,6 +416,9 @@ fn visit_for(
     }
     if !are_others(arrived.as_slice(), &program, known.as_slice()) {
         panic!(rt; "the program is one of the updates");
+    }
+    if !reaches_back(&shard.graph, vertex, &program) {
+        panic!(rt; "what is kept doesn't reach back");
     }
     shard.visit(alloc, program.home, request, program, vertex, judge)
 }
@@ -492,7 +524,7 @@ fn messages_out_of_order(rt: HostRuntime) -> Result<(), Fail> {
         }
     }
     assert_eq!(rt; numbers.as_slice(), [(0, 1), (0, 2), (0, 3)].as_slice());
-    assert_eq!(rt; shard.log().len(), 6);
+    assert_eq!(rt; (next_number(&rt, &shard, 0), shard.log().len()), (4, 6));
     Ok(())
 }
 
@@ -788,4 +820,73 @@ fn eight_gatekeepers(rt: HostRuntime) {
     let seen = visit_for(&rt, alloc, &mut shard, 41, program, v, &mut judge);
     assert!(rt; read(&rt, &seen) == Reading::Colored(None));
     assert_eq!(rt; visited(shard.log(), 10), Some((6, 41, 1, false)));
+}
+
+// The bound of the last entry, if that is a collection.
+fn last_bound(log: &[ShardEntry]) -> Option<Option<Clock>> {
+    let entry = log.last()?;
+    match &entry.deed {
+        ShardDeed::Collected { bound } => Some(*bound),
+        _ => None,
+    }
+}
+
+// A collection by author 9 has this bound, and leaves this many versions of `v`.
+fn collect(rt: &impl Abort, shard: &mut Shard, bound: Option<Clock>, kept: usize) {
+    shard.collect(9).expect(rt, "memory");
+    if last_bound(shard.log()) != Some(bound) || !is_last_by(shard.log(), 9) {
+        panic!(rt; "another entry");
+    }
+    if shard.kept(name(rt, "v")) != kept {
+        panic!(rt; "another number of versions");
+    }
+}
+
+// Gatekeeper 0 makes `v`, and gives it a color.
+fn two_updates(rt: &impl Abort, alloc: Global, gates: u32) -> Shard
+    requires some { 1 ≤ gates }
+    requires few { gates ≤ 8 }
+{
+    let v = name(rt, "v");
+    let mut shard = Shard::new(alloc, 0, gates).expect(rt, "memory");
+    let made = commit(rt, alloc, stamp(0, 1, 0, 0), 0, Op::Create { v });
+    take(rt, alloc, &mut shard, 0, 1, made);
+    let red = commit(rt, alloc, stamp(0, 2, 0, 0), 1, color(rt, "red"));
+    take(rt, alloc, &mut shard, 0, 2, red);
+    shard
+}
+
+// The bound is the low mark of the last processed message, and not its stamp. While it has count 2, both versions are
+// kept. With count 3 the older one is dropped. A program of count 4 reads the same after each collection.
+#[test]
+fn old_versions_are_dropped(rt: HostRuntime) {
+    let alloc = rt.alloc();
+    let (v, program) = (name(&rt, "v"), stamp(0, 4, 0, 0));
+    let mut shard = two_updates(&rt, alloc, 1);
+    let mut judge = judge(alloc);
+    for (number, count, low, kept, place) in [(3, 5, 2, 2, 7), (4, 6, 3, 1, 11)] {
+        let low = stamp(0, low, 0, 0);
+        let empty = nop_above(alloc, stamp(0, count, 0, 0), low);
+        take(&rt, alloc, &mut shard, 0, number, empty);
+        collect(&rt, &mut shard, Some(low.clock), kept);
+        let seen = visit(&rt, alloc, &mut shard, program, v, &mut judge);
+        assert!(rt; read(&rt, &seen) == Reading::Colored(Some(name(&rt, "red"))));
+        assert_eq!(rt; visited(shard.log(), place), Some((0, 5, 2, false)));
+    }
+}
+
+// If nothing of a gatekeeper was processed, there is no bound, and nothing is dropped.
+// The bound is then the meet of the low marks of both gatekeepers.
+#[test]
+fn all_gatekeepers_bound_a_collection(rt: HostRuntime) {
+    let alloc = rt.alloc();
+    let mut shard = two_updates(&rt, alloc, 2);
+    take(&rt, alloc, &mut shard, 0, 3, nop(alloc, stamp(0, 3, 0, 0)));
+    collect(&rt, &mut shard, None, 2);
+    take(&rt, alloc, &mut shard, 1, 1, nop(alloc, stamp(1, 1, 1, 0)));
+    collect(&rt, &mut shard, Some(stamp(0, 1, 0, 0).clock), 2);
+    take(&rt, alloc, &mut shard, 1, 2, nop(alloc, stamp(1, 4, 2, 0)));
+    collect(&rt, &mut shard, Some(stamp(0, 3, 0, 0).clock), 1);
+    collect(&rt, &mut shard, Some(stamp(0, 3, 0, 0).clock), 1);
+    assert_eq!(rt; shard.log().len(), 14);
 }

@@ -3,10 +3,11 @@ use Rattle.shard_queue.specs.Incoming.{has_arrived}
 use Rattle.shard_queue.specs.declared.inbox.Arrival.TheVariants.{Kept, Repeat}
 use Rattle.weave_entries.specs.declared.shard_log.ShardEntry.{ShardEntry}
 use Rattle.weave_entries.specs.declared.shard_log.ShardDeed.TheVariants.{Arrived}
-use Rattle.weave_entries.specs.ShardReplay.{arrived_at}
+use Rattle.weave_entries.specs.ShardReplay.{arrived_at, last_of}
 use Rattle.shard_node.specs.declared.waiting.Waiting.{Waiting}
 use Rattle.shard_node.specs.Shards.{ShardView}
 use Rattle.shard_node.proofs.Keeping.{keeps_arrived}
+use Rattle.shard_node.proofs.LowMarks.{last-arrived, marks-still}
 use Rattle.shard_node.proofs.Ready.{not_there, at_gate, arrived-is}
 use Rattle.shard_node.proofs.shard.Shard.arrive.Goals as goal
 
@@ -16,26 +17,30 @@ invariant_of-self-2 c =
     let place : c.len.result ≡ length c.self.inside.log.items = omega (arith, c.len.ensures, c.reserve.new.self.ok.0, same) in
     let inbox = c.index_mut-channel.result.now in
     let below : c.args.gate < c.self.inside.gates = subst (λ (v : ShardView). c.args.gate < v.gates) (sym c.self.view_is) c.requires.gate in
-    let at = at_gate _ _ _ _ c.self.invariant c.args.gate inbox below c.index_mut-channel.ensures.value in
+    let at = at_gate _ _ _ _ c.self.invariant.0 c.args.gate inbox below c.index_mut-channel.ensures.value in
     let new : has_arrived c.args.number inbox ≡ false = sym c.has.ensures ∙ c.if-has.false in
-    let none = not_there _ (sym (arrived-is _ _ _ _ c.self.invariant c.args.gate c.args.number inbox at c.requires.number) ∙ new) in
+    let none = not_there _ (sym (arrived-is _ _ _ _ c.self.invariant.0 c.args.gate c.args.number inbox at c.requires.number) ∙ new) in
     let waiting : Waiting = record { place = c.len.result; stamp = c.args.message.stamp } in
-    keeps_arrived _ _ _ _ c.self.invariant c.each_number_waits_by_itself.ensures c.args.author c.args.gate c.args.number c.args.message waiting inbox c.arrive.new.self _ place refl below c.requires.number c.requires.message none at
-    c.in_ok-arrive.ensures.inbox
-    (c.push_reserved.ensures.items ∙ ap (λ (l : List ShardEntry). l ++ record { author = c.args.author; deed = Arrived c.args.gate c.args.number c.args.message } ∷ []) c.reserve.ensures.items)
+    let log = c.self.inside.log.items in
+    let entry : ShardEntry = record { author = c.args.author; deed = Arrived c.args.gate c.args.number c.args.message } in
+    let longer : c.push_reserved.new.self.items ≡ log ++ entry ∷ [] = c.push_reserved.ensures.items ∙ ap (λ (l : List ShardEntry). l ++ entry ∷ []) c.reserve.ensures.items in (
+      keeps_arrived _ _ _ _ c.self.invariant.0 c.each_number_waits_by_itself.ensures c.args.author c.args.gate c.args.number c.args.message waiting inbox c.arrive.new.self _ place refl below c.requires.number c.requires.message none at
+          c.in_ok-arrive.ensures.inbox longer,
+      marks-still _ _ _ c.self.invariant.1 _ (λ gate. ap (last_of gate) longer ∙ last-arrived log c.args.author c.args.gate c.args.number c.args.message c.requires.number none (c.self.invariant.0.channels c.args.gate inbox at).arrived gate),
+    )
 
 pub returns-clause-answer : goal.returns-clause-answer
 returns-clause-answer c =
     let inbox = c.index_mut-channel.result.now in
     let below : c.args.gate < c.self.inside.gates = subst (λ (v : ShardView). c.args.gate < v.gates) (sym c.self.view_is) c.requires.gate in
-    let at = at_gate _ _ _ _ c.self.invariant c.args.gate inbox below c.index_mut-channel.ensures.value in
+    let at = at_gate _ _ _ _ c.self.invariant.0 c.args.gate inbox below c.index_mut-channel.ensures.value in
     let new : has_arrived c.args.number inbox ≡ false = sym c.has.ensures ∙ c.if-has.false in
-    ap (λ (b : Bool). cond b Repeat Kept) (sym new ∙ arrived-is _ _ _ _ c.self.invariant c.args.gate c.args.number inbox at c.requires.number ∙ ap (λ (v : ShardView). is_some (arrived_at c.args.gate c.args.number v.log)) c.self.view_is)
+    ap (λ (b : Bool). cond b Repeat Kept) (sym new ∙ arrived-is _ _ _ _ c.self.invariant.0 c.args.gate c.args.number inbox at c.requires.number ∙ ap (λ (v : ShardView). is_some (arrived_at c.args.gate c.args.number v.log)) c.self.view_is)
 
 pub returns-then-has-clause-answer : goal.returns-then-has-clause-answer
 returns-then-has-clause-answer c =
     let inbox = c.index_mut-channel.result.now in
     let below : c.args.gate < c.self.inside.gates = subst (λ (v : ShardView). c.args.gate < v.gates) (sym c.self.view_is) c.requires.gate in
-    let at = at_gate _ _ _ _ c.self.invariant c.args.gate inbox below c.index_mut-channel.ensures.value in
+    let at = at_gate _ _ _ _ c.self.invariant.0 c.args.gate inbox below c.index_mut-channel.ensures.value in
     let old : has_arrived c.args.number inbox ≡ true = sym c.has.ensures ∙ c.if-has.true in
-    ap (λ (b : Bool). cond b Repeat Kept) (sym old ∙ arrived-is _ _ _ _ c.self.invariant c.args.gate c.args.number inbox at c.requires.number ∙ ap (λ (v : ShardView). is_some (arrived_at c.args.gate c.args.number v.log)) c.self.view_is)
+    ap (λ (b : Bool). cond b Repeat Kept) (sym old ∙ arrived-is _ _ _ _ c.self.invariant.0 c.args.gate c.args.number inbox at c.requires.number ∙ ap (λ (v : ShardView). is_some (arrived_at c.args.gate c.args.number v.log)) c.self.view_is)

@@ -11,5 +11,5 @@ pub returns : goal.returns
 returns c =
     c.kept.ensures.count
     ∙ ap (λ (chain : Option ChainView). length (chain_or_new chain).kept) (sym (ap option_copied c.in-Some.is) ∙ c.chain.ensures)
-    ∙ kept-is _ _ _ _ c.self.invariant c.args.v
+    ∙ kept-is _ _ _ _ c.self.invariant.0 c.args.v
     ∙ ap (λ (view : ShardView). kept_of c.args.v view.log) c.self.view_is

@@ -1,0 +1,77 @@
+-- The chain of a vertex after a collection is that of its updates, with what the collection dropped.
+use Rattle.std.proofs.Common.{◌≡◌, ℕ, zero, suc, ◌+◌, ◌-◌, ◌≤◌, Bool, true, false, List, [], ◌∷◌, drop, length, None, Some, refl, ap, ◌∙◌, arith}
+use Rattle.std.specs.Prelude.{◌==◌, cond, pred, max}
+use Rattle.std.specs.Option.{option_map}
+use Rattle.std.proofs.lemmas.List.{drop-drop}
+use Rattle.graph_ops.specs.Operations.{State}
+use Rattle.graph_ops.specs.VertexOps.{state_after}
+use Rattle.vector_stamp.specs.declared.clock.Clock.{Clock}
+use Rattle.vector_stamp.specs.Order.{is_before}
+use Rattle.vector_stamp.specs.Seeing.{with_front, last_place}
+use Rattle.version_chain.specs.declared.version.Version.{Version}
+use Rattle.version_chain.specs.Collection.{older_versions, collected}
+use Rattle.weave_entries.specs.ShardReplay.{Update, older_than}
+use Rattle.shard_node.specs.Keeping.{versions_from}
+use Rattle.shard_node.proofs.Updates.{chain_from}
+
+-- The last element that passes a test
+
+front-within : (front : Bool) (place n : ℕ) → place ≤ n → with_front front place ≤ suc n
+front-within true zero n within = omega arith
+front-within false zero n within = omega arith
+front-within front (suc place) n within = omega (arith, within)
+
+front-less : (front : Bool) (place n : ℕ) → place - n ≡ with_front front place - suc n
+front-less true zero n = omega arith
+front-less false zero n = omega arith
+front-less front (suc place) n = omega arith
+
+module _ {A : Type 0} (test : A → Bool) where
+  place-within : (xs : List A) → last_place test xs ≤ length xs
+  place-within [] = omega arith
+  place-within (x ∷ xs) = front-within (test x) (last_place test xs) (length xs) (place-within xs)
+
+  place-drop : (n : ℕ) (xs : List A) → last_place test (drop n xs) ≡ last_place test xs - n
+  place-drop zero xs = omega arith
+  place-drop (suc n) [] = omega arith
+  place-drop (suc n) (x ∷ xs) = place-drop n xs ∙ front-less (test x) (last_place test xs) n
+
+pred-is : (n : ℕ) → pred n ≡ n - 1
+pred-is zero = omega arith
+pred-is (suc n) = omega arith
+
+-- What a collection drops
+
+module _ (bound : Clock) where
+  -- the versions of updates are as old as the updates
+  versions-place : (state : State) (updates : List Update) → last_place (λ (version : Version). is_before version.stamp.clock bound) (versions_from state updates) ≡ last_place (λ (update : Update). is_before update.stamp.clock bound) updates
+  versions-place state [] = refl
+  versions-place state (update ∷ updates) = ap (with_front (is_before update.stamp.clock bound)) (versions-place (state_after update.ops state) updates)
+
+  -- at least the newest version is kept
+  pub few-dropped : (dropped : ℕ) (updates : List Update) → dropped ≤ length updates - 1 → max dropped (older_than bound updates) ≤ length updates - 1
+  few-dropped dropped updates few =
+      let within = place-within (λ (update : Update). is_before update.stamp.clock bound) updates in
+      let older = pred-is (last_place (λ (update : Update). is_before update.stamp.clock bound) updates) in
+      omega (arith, few, within, older)
+
+  dropped-now : (dropped : ℕ) (updates : List Update) → dropped + older_versions bound (drop dropped (versions_from None updates)) ≡ max dropped (older_than bound updates)
+  dropped-now dropped updates =
+      let left : last_place (λ (version : Version). is_before version.stamp.clock bound) (drop dropped (versions_from None updates)) ≡ last_place (λ (update : Update). is_before update.stamp.clock bound) updates - dropped =
+      place-drop (λ (version : Version). is_before version.stamp.clock bound) dropped (versions_from None updates) ∙ ap (λ n. n - dropped) (versions-place None updates) in
+      let now = pred-is (last_place (λ (version : Version). is_before version.stamp.clock bound) (drop dropped (versions_from None updates))) in
+      let older = pred-is (last_place (λ (update : Update). is_before update.stamp.clock bound) updates) in
+      omega (arith, left, now, older)
+
+  pub collected-from : (dropped : ℕ) (updates : List Update) → option_map (collected bound) (chain_from dropped updates) ≡ chain_from (max dropped (older_than bound updates)) updates
+  collected-from dropped updates = by (length updates == 0)
+    where
+      versions : List Version
+      versions = versions_from None updates
+
+      kept : drop (older_versions bound (drop dropped versions)) (drop dropped versions) ≡ drop (max dropped (older_than bound updates)) versions
+      kept = drop-drop (older_versions bound (drop dropped versions)) dropped versions ∙ ap (λ n. drop n versions) (dropped-now dropped updates)
+
+      by : (none : Bool) → option_map (collected bound) (cond none None (Some (record { dropped = dropped; kept = drop dropped versions }))) ≡ cond none None (Some (record { dropped = max dropped (older_than bound updates); kept = drop (max dropped (older_than bound updates)) versions }))
+      by true = refl
+      by false = λ i. Some (record { dropped = dropped-now dropped updates i; kept = kept i })
