@@ -8,9 +8,11 @@ pub mod CanVisit
 pub mod ProgramsStay
 pub mod Turns
 pub mod AtClients
+pub mod Unanswered
 pub mod Resting
 pub mod ClockDone
 pub mod BeginDone
+pub mod FirstUnanswered
 pub mod SendDone
 pub mod VisitDone
 pub mod MessagesDone

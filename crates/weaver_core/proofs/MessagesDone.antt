@@ -1,4 +1,4 @@
--- `nop`, `deliver` and `apply`, by what gatekeepers and shards did.
+-- `nop`, `deliver`, `apply` and `collect`, by what gatekeepers and shards did.
 use Rattle.std.proofs.Common.{◌≡◌, ℕ, ◌+◌, ◌-◌, ◌<◌, ◌^◌, ◌==◌, Bool, true, cond, List, length, Contains, Option, None, Some, inl, inr, refl, sym, ap, subst, ◌∙◌, arith}
 use Rattle.std.specs.Prelude.{is_some, slice_get, if◌then◌else◌}
 use Rattle.std.specs.Option.{ForSome}
@@ -18,19 +18,19 @@ use Rattle.weave_entries.specs.declared.oracle_log.OracleEntry.{OracleEntry}
 use Rattle.weave_entries.specs.declared.shard_log.ShardDeed.TheVariants as deed
 use Rattle.weave_entries.specs.declared.store_log.StoreEntry.{StoreEntry}
 use Rattle.weave_entries.specs.GateReplay.{addressed_to, channel_of}
-use Rattle.weave_entries.specs.ShardReplay.{arrived_at, processed_count}
+use Rattle.weave_entries.specs.ShardReplay.{arrived_at, bound_of, processed_count}
 use Rattle.weave_entries.specs.ShardRules.{IsTakable}
 use Rattle.weave_account.specs.declared.account.Account.{Account}
 use Rattle.weave_account.specs.Account.{commits_in, gate_log, shard_log}
 use Rattle.weave_account.specs.IsAccount.{IsAccount}
 use Rattle.step_rules.specs.Answers.{answer_of_apply, answer_of_deliver, waits_or_ok}
-use Rattle.step_rules.specs.CoreState.{CoreState}
+use Rattle.step_rules.specs.CoreState.{CoreState, with_shard_deed}
 use Rattle.step_rules.specs.Entries.{after_deliver}
 use Rattle.weaver_core.specs.Clients.{ClientTable}
 use Rattle.weaver_core.specs.Cores.{AreOf, MachinesDo, MachinesView, machines_of}
 use Rattle.weaver_core.specs.GateTable.{GateTable, log_at}
 use Rattle.weaver_core.specs.Messages.{Applies, Delivers, SendsNop, nop_deed}
-use Rattle.weaver_core.specs.ShardTable.{ShardTable}
+use Rattle.weaver_core.specs.ShardTable.{AddsAt, ShardTable}
 use Rattle.weaver_core.proofs.Resting.{done, gate-frame, gate-gains, rests, same-gates, same-shards, shard-frame, shard-gains}
 
 -- what was sent with a number was sent
@@ -148,3 +148,15 @@ module _ (script : Script) (old : GateTable) (store : List StoreEntry) (oracle :
   apply-done new s g answer.Unknown none = absurd none
   apply-done new s g answer.Repeat none = absurd none
   apply-done new s g (answer.Again t h) none = absurd none
+
+  -- Collections
+
+  abbrev collected : Account → ℕ → ℕ → Account
+  collected all s gates = with_shard_deed all s (deed.Collected (bound_of gates (shard_log all s)))
+
+  pub collect-done : AreOf script before → (new : ShardTable) (s : ℕ) → AddsAt shards new s (deed.Collected (bound_of shards.gates (shard_log account s))) → MachinesDo script (step.Collect s) before (machines_of old store oracle new was notices) answer.Ok
+  collect-done are new s adds =
+      let entry = deed.Collected (bound_of shards.gates (shard_log account s)) in
+      done script (step.Collect s) before _ refl
+      (ap state-of (shard-gains old store oracle shards was notices new s entry adds ∙ ap (collected account s) are.frame.senders))
+      (shard-frame old store oracle shards was notices new s entry adds) tt

@@ -31,7 +31,7 @@ use Rattle.weave_entries.specs.declared.message.Message.{Message}
 use Rattle.weave_entries.specs.declared.oracle_log.OracleEntry.{OracleEntry}
 use Rattle.weave_entries.specs.declared.shard_log.ShardEntry.{ShardEntry}
 use Rattle.weave_entries.specs.declared.shard_log.ShardDeed.{ShardDeed}
-use Rattle.weave_entries.specs.declared.shard_log.ShardDeed.TheVariants.{Arrived, Applied}
+use Rattle.weave_entries.specs.declared.shard_log.ShardDeed.TheVariants.{Arrived, Applied, Collected}
 use Rattle.weave_entries.specs.declared.store_log.StoreEntry.{StoreEntry}
 use Rattle.weave_entries.specs.declared.store_log.StoreDeed.TheVariants.{Judged}
 use Rattle.weave_entries.specs.declared.verdict.Verdict.{Verdict}
@@ -39,7 +39,7 @@ use Rattle.weave_entries.specs.declared.verdict.Verdict.TheVariants.{Committed, 
 use Rattle.weave_entries.specs.GateReplay.{Begun, channel_of, flight_of, program_begun, program_by, programs_of}
 use Rattle.weave_entries.specs.OracleReplay.{oracle_entry, settled_entry}
 use Rattle.weave_entries.specs.SessionReplay.{has_reply_in, session_stamp_of}
-use Rattle.weave_entries.specs.ShardReplay.{Visit as AVisit, processed_count, visit_by, visits_of}
+use Rattle.weave_entries.specs.ShardReplay.{Visit as AVisit, bound_of, processed_count, visit_by, visits_of}
 use Rattle.weave_entries.specs.StoreReplay.{Judgement}
 use Rattle.weave_entries.specs.StoreRule.{asked_stamps, asked_vertices, entries_of_settling, settled_if}
 use Rattle.shard_queue.specs.Sent.{sent_as}
@@ -283,11 +283,11 @@ module _ (there : (entry : SettledEntry) → settled_entry (oracle_entry entry) 
   done-same (Nop g s) is other = gates-same account _
   done-same (Deliver g s n) is other = deliver-same g s n (sent_as n (channel_of s (gate_log account g))) is.1
   done-same (Apply s g) is other = shard-same account s (Applied g (processed_count g (shard_log account s) + 1)) (let below = is.0 in omega (arith, below, as-many)) refl
+  done-same (Collect s) is other = shard-same account s (Collected (bound_of script.gates (shard_log account s))) (omega (arith, is, as-many)) refl
   done-same (Epoch g e) is other = gates-same account _
   done-same (Begin r) is other = absurd other
   done-same (Visit r) is other = absurd other
   done-same (Reply r) is other = absurd other
-  done-same (Collect s) is other = absurd other
 
   either-same : (b : Bool) (x y : CoreState) → SameLogs account x.account → SameLogs account y.account → SameLogs account (if b then x else y).account
   either-same true x y sx sy = sx

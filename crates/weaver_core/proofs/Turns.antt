@@ -44,13 +44,13 @@ get-take (suc n) [] i x less e = absurd (none-some x e)
 get-take (suc n) (y ∷ xs) zero x less e = let same : y ≡ x = cc in subst (λ z. Contains (y ∷ take n xs) z) same (has_head y (take n xs))
 get-take (suc n) (y ∷ xs) (suc i) x less e = has_tail y (take n xs) x (get-take n xs i x (omega (arith, less)) e)
 
-get-before : {A : Type 0} (xs : List A) (i j : ℕ) (x : A) → slice_get xs i ≡ Some x → j < i → (y : A) × (slice_get xs j ≡ Some y)
+pub get-before : {A : Type 0} (xs : List A) (i j : ℕ) (x : A) → slice_get xs i ≡ Some x → j < i → (y : A) × (slice_get xs j ≡ Some y)
 get-before [] i j x e less = absurd (none-some x e)
 get-before (z ∷ xs) zero j x e less = absurd (omega (arith, less))
 get-before (z ∷ xs) (suc i) zero x e less = (z, refl)
 get-before (z ∷ xs) (suc i) (suc j) x e less = get-before xs i j x e (omega (arith, less))
 
-abbrev at-place : {A : Type 0} (xs : List A) (i : ℕ) (x : A) → slice_get xs i ≡ Some x → Contains xs x
+abbrev pub at-place : {A : Type 0} (xs : List A) (i : ℕ) (x : A) → slice_get xs i ≡ Some x → Contains xs x
 at-place xs i x e = (i, slice_get_within xs i x e, get_or_from_slice_get xs i x x e)
 
 -- a member has a place
@@ -64,7 +64,7 @@ last-of xs x =
     ap (slice_get (xs ++ x ∷ [])) place ∙ get-here xs x []
 
 -- none is the last of none alone
-none-last : (log : List SessionEntry) → last_entry log ≡ None → log ≡ []
+pub none-last : (log : List SessionEntry) → last_entry log ≡ None → log ≡ []
 none-last [] none = refl
 none-last (x ∷ xs) none =
     let place : length (x ∷ xs) - 1 ≡ length xs = omega arith in
@@ -93,7 +93,7 @@ module _ (requests : List ℕ) where
   one-more : (log : List SessionEntry) (entry : SessionEntry) → session_of requests (log ++ entry ∷ []) ≡ session_after (session_of requests log) entry.deed
   one-more log entry = fold-append (λ session (e : SessionEntry). session_after session e.deed) (session_start requests) log (entry ∷ [])
 
-  requests-same : (log : List SessionEntry) → (session_of requests log).requests ≡ requests
+  pub requests-same : (log : List SessionEntry) → (session_of requests log).requests ≡ requests
   requests-same = by_last (λ log. (session_of requests log).requests ≡ requests) refl (λ log entry so. ap (λ (session : SessionState). session.requests) (one-more log entry) ∙ by-deed entry.deed (session_of requests log) ∙ so)
     where
       by-deed : (deed : SessionDeed) (session : SessionState) → (session_after session deed).requests ≡ session.requests
@@ -141,7 +141,7 @@ ends-so requests log (Replied q) fits =
     record { some = waits-begun requests log fits.waits; at = ap (λ rs. slice_get rs (state.begun - 1)) (sym (requests-same requests log)) ∙ fits.last; waits = refl }
 
 -- so it is with the last entry of a session's log
-ends-with : (number : ℕ) (requests : List ℕ) (log : List SessionEntry) → IsSessionLog number requests log → (entry : SessionEntry) → last_entry log ≡ Some entry → EndsWith requests (session_of requests log) entry.deed
+pub ends-with : (number : ℕ) (requests : List ℕ) (log : List SessionEntry) → IsSessionLog number requests log → (entry : SessionEntry) → last_entry log ≡ Some entry → EndsWith requests (session_of requests log) entry.deed
 ends-with number requests =
     by_last (λ log. IsSessionLog number requests log → (entry : SessionEntry) → last_entry log ≡ Some entry → EndsWith requests (session_of requests log) entry.deed)
     (λ right entry is. absurd (none-some entry is))

@@ -1,5 +1,5 @@
 -- The sessions of a core with their logs, as contracts see them.
-use Rattle.std.specs.Prelude.{◌≡◌, ◌<◌, ◌-◌, ◌==◌, ℕ, Bool, false, not, nat_le, ◌&&◌, length, List, [], ◌∷◌, ◌++◌, map, replicate, AllPairs, slice_get, slice_index_or, slice_set, Option, Some, if◌then◌else◌}
+use Rattle.std.specs.Prelude.{◌≡◌, ◌<◌, ◌≤◌, ◌-◌, ◌==◌, ℕ, Bool, false, min, not, nat_le, ◌&&◌, fold, length, List, [], ◌∷◌, ◌++◌, map, replicate, AllPairs, slice_get, slice_index_or, slice_set, Option, None, Some, if◌then◌else◌}
 use Rattle.std.specs.List.{find, flat_map, range_with_len}
 use Rattle.std.specs.Option.{option_map}
 use Rattle.vector_stamp.specs.declared.clock.Stamp.{Stamp}
@@ -7,7 +7,7 @@ use Rattle.program_defs.specs.declared.script.Script.{Script}
 use Rattle.weave_entries.specs.declared.session_log.SessionEntry.{SessionEntry}
 use Rattle.weave_entries.specs.declared.session_log.SessionDeed.{SessionDeed}
 use Rattle.weave_entries.specs.declared.session_log.SessionDeed.TheVariants.{Begun, Replied}
-use Rattle.weave_entries.specs.SessionReplay.{SessionState, IsSessionLog, session_of, next_request, begins_in, has_begun_in, has_reply_in}
+use Rattle.weave_entries.specs.SessionReplay.{SessionState, IsSessionLog, session_of, next_request, begins_in, has_begun_in, has_reply_in, replied_count}
 use Rattle.report_rules.specs.Lookups.{is_some_and}
 use Rattle.weave_account.specs.Sessions.{requests_of_session}
 use Rattle.step_rules.specs.Requests.{waits_before}
@@ -42,6 +42,10 @@ pub record IsInTurn (session : SessionState) (r : ℕ) : Type 0 where
 abbrev pub is_open_in : ℕ → List SessionEntry → Bool
 is_open_in r log = has_begun_in r log && not (has_reply_in r log)
 
+-- the first request of the session without a reply, if there is one: it comes after those that have theirs
+abbrev pub unanswered_in : List ℕ → List SessionEntry → Option ℕ
+unanswered_in requests log = slice_get requests (replied_count (session_of requests log))
+
 -- the log has one more entry, and all else is as before but for the room
 pub record AddsDeed (old new : ClientView) (deed : SessionDeed) : Type 0 where
   pub log : new.log ≡ old.log ++ record { author = old.number; deed = deed } ∷ []
@@ -63,6 +67,10 @@ is_begin_of r (Replied q) = false
 -- the last entry of a log, if it has one
 abbrev pub last_entry : List SessionEntry → Option SessionEntry
 last_entry log = slice_get log (length log - 1)
+
+-- the request of the last entry, if there is one
+abbrev pub last_request : List SessionEntry → Option ℕ
+last_request log = option_map (λ (entry : SessionEntry). request_by entry.deed) (last_entry log)
 
 -- whether a request is at most that of the last entry
 abbrev pub begun_by_last : ℕ → List SessionEntry → Bool
@@ -100,6 +108,21 @@ standing_at clients session r = standing_of r (requests_at clients session) (log
 abbrev pub is_open_at : ClientTable → ℕ → ℕ → Bool
 is_open_at clients session r = is_open_in r (log_at clients session)
 
+-- the first request of a session without a reply, if there is one
+abbrev pub unanswered_at : ClientTable → ℕ → Option ℕ
+unanswered_at clients session = unanswered_in (requests_at clients session) (log_at clients session)
+
+-- it is the first request without a reply of one of the sessions
+pub record IsUnanswered (clients : ClientTable) (r : ℕ) : Type 0 where
+  pub session : ℕ
+  pub at : unanswered_at clients session ≡ Some r
+
+-- the least of the sessions' first requests without a reply, or this many if none of them is less
+pub record IsFirstUnanswered (clients : ClientTable) (most first : ℕ) : Type 0 where
+  pub least : (session r : ℕ) → unanswered_at clients session ≡ Some r → first ≤ r
+  pub unanswered : first < most → IsUnanswered clients first
+  pub within : first ≤ most
+
 -- nothing but the room may differ
 pub record AreSameClients (old new : ClientTable) : Type 0 where
   pub requests : new.requests ≡ old.requests
@@ -125,6 +148,19 @@ log_of client = client.log
 
 abbrev pub spare_of : ClientView → ℕ
 spare_of client = client.spare
+
+-- the first request of a session without a reply, if there is one
+abbrev pub unanswered_by : ClientView → Option ℕ
+unanswered_by client = unanswered_in client.requests client.log
+
+-- the lesser of a number and one that may be there
+abbrev pub lesser : ℕ → Option ℕ → ℕ
+lesser number None = number
+lesser number (Some other) = min number other
+
+-- the least of a number and the sessions' first requests without a reply
+abbrev pub least_unanswered : ℕ → List ClientView → ℕ
+least_unanswered most clients = fold lesser most (map unanswered_by clients)
 
 -- each session has its place as its number
 abbrev pub AreNumbered : List ClientView → Type 0

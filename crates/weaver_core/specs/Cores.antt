@@ -4,7 +4,7 @@ use Rattle.std.specs.List.{range_with_len}
 use Rattle.program_defs.specs.declared.script.Script.{Script}
 use Rattle.program_defs.specs.Limits.{IsWithinLimits}
 use Rattle.program_defs.specs.declared.script.Step.{Step}
-use Rattle.program_defs.specs.declared.script.Step.TheVariants.{Begin, Judge, Send, Say, Hear, Nop, Deliver, Apply, Reply, Collect, Epoch}
+use Rattle.program_defs.specs.declared.script.Step.TheVariants.{Visit, Reply}
 use Rattle.report_rules.specs.Meetings.{is_transaction}
 use Rattle.report_rules.specs.declared.report.StepAnswer.{StepAnswer}
 use Rattle.weave_account.specs.Sessions.{requests_of_session}
@@ -29,13 +29,6 @@ pub record Does (step : Step) (old new : CoreView) (answer : StepAnswer) : Type 
   pub answer_is : answer ≡ answer_of old.script old.state step
   pub state_is : new.state ≡ state_after old.script old.state step
   pub script_is : new.script ≡ old.script
-
--- Steps that are built
-
--- the step is one that the core takes today: all but collections
-abbrev pub IsBuilt : Script → Step → Type 0
-IsBuilt script (Collect shard) = ⊥
-IsBuilt script _ = ⊤
 
 -- The machines of a core. No public contract cites what follows.
 
@@ -65,25 +58,17 @@ pub record AreOf (script : Script) (machines : MachinesView) : Type 0 where
   pub frame : IsFrameOf script machines.frame
   pub core : IsCore script machines.state
 
--- the step is one of the machines alone: of a program it is the begin
+-- the step is one of the machines alone: no visit, and no reply to a program
 abbrev pub IsOfMachines : Script → Step → Type 0
-IsOfMachines script (Begin r) = ⊤
-IsOfMachines script (Judge gate) = ⊤
-IsOfMachines script (Send gate) = ⊤
-IsOfMachines script (Say gate) = ⊤
-IsOfMachines script (Hear gate notice) = ⊤
-IsOfMachines script (Nop gate shard) = ⊤
-IsOfMachines script (Deliver gate shard number) = ⊤
-IsOfMachines script (Apply shard gate) = ⊤
+IsOfMachines script (Visit r) = ⊥
 IsOfMachines script (Reply r) = IsTrue (is_transaction script r)
-IsOfMachines script (Epoch gate epoch) = ⊤
-IsOfMachines script _ = ⊥
+IsOfMachines script _ = ⊤
 
 -- machines of the script that can be given this step
 pub record MayDo (script : Script) (machines : MachinesView) (step : Step) : Type 0 where
   pub are : AreOf script machines
   pub there : IsStepOf script step
-  pub built : IsOfMachines script step
+  pub alone : IsOfMachines script step
 
 -- the machines did this step
 pub record MachinesDo (script : Script) (step : Step) (old new : MachinesView) (answer : StepAnswer) : Type 0 where

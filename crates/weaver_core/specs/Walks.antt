@@ -13,7 +13,7 @@ use Rattle.program_defs.specs.declared.program.Program.{Program}
 use Rattle.program_defs.specs.declared.script.Request.{Request}
 use Rattle.program_defs.specs.declared.script.Script.{Script}
 use Rattle.program_defs.specs.declared.script.Step.{Step}
-use Rattle.program_defs.specs.declared.script.Step.TheVariants.{Judge, Send, Say, Hear, Nop, Deliver, Apply, Epoch}
+use Rattle.program_defs.specs.declared.script.Step.TheVariants.{Begin, Visit, Reply}
 use Rattle.program_defs.specs.declared.script.Work.{Work}
 use Rattle.program_defs.specs.declared.script.Work.TheVariants.{Change, Look}
 use Rattle.report_rules.specs.Lookups.{request_at}
@@ -128,17 +128,12 @@ abbrev pub begun_with : ℕ → Option Stamp → AnyProgram → Option Walk
 begun_with r None walk = None
 begun_with r (Some stamp) walk = Some (kept.Running (record { author = 0; program = record { request = r; stamp = stamp; walk = walk } }))
 
--- the step is built, and is of no request
+-- the step is of no request
 abbrev pub IsOtherStep : Step → Type 0
-IsOtherStep (Judge gate) = ⊤
-IsOtherStep (Send gate) = ⊤
-IsOtherStep (Say gate) = ⊤
-IsOtherStep (Hear gate notice) = ⊤
-IsOtherStep (Nop gate shard) = ⊤
-IsOtherStep (Deliver gate shard number) = ⊤
-IsOtherStep (Apply shard gate) = ⊤
-IsOtherStep (Epoch gate epoch) = ⊤
-IsOtherStep _ = ⊥
+IsOtherStep (Begin r) = ⊥
+IsOtherStep (Visit r) = ⊥
+IsOtherStep (Reply r) = ⊥
+IsOtherStep _ = ⊤
 
 -- walks and marks are as the logs say
 pub record AreProgramsOf (script : Script) (account : Account) (walks : List (Option Walk)) (marks : List (Option Name)) : Type 0 where

@@ -2,7 +2,7 @@
 ghost use Rattle.std.specs.Prelude.{◌≡◌, ◌<◌, ◌≤◌, [], Contains, AllPairs, OnOk, OnErr, true, false};
 ghost use Rattle.weave_entries.specs.SessionReplay.{FitsSession, RepliesToLast, session_of};
 ghost use Rattle.weave_entries.specs.declared.session_log.SessionDeed.TheVariants as deed;
-ghost use Rattle.weaver_core.specs.Clients.{AddsDeed, IsInTurn, begun_by_last, is_begin_of, is_open_in, open_by_last, request_by, standing_of};
+ghost use Rattle.weaver_core.specs.Clients.{AddsDeed, IsInTurn, begun_by_last, is_begin_of, is_open_in, last_request, open_by_last, request_by, standing_of, unanswered_in};
 
 use session_stamp::Session;
 use session_stamp::laws::a_log_goes_on;
@@ -91,6 +91,16 @@ impl Client {
         is_open(self.log.as_slice(), request)
     }
 
+    /// Its first request without a reply, if there is one. It looks at no more than the last entry.
+    pub(crate) fn first_unanswered(&self) -> Option<u32>
+        ensures { result ≡ unanswered_in self.now.requests self.now.log }
+    {
+        match self.session.next() {
+            Ok(next) => next,
+            Err(_) => last_request(self.log.as_slice()),
+        }
+    }
+
     /// The stamp that was begun last.
     pub(crate) fn last(&self) -> Option<Stamp>
         ensures { result ≡ (session_of self.now.requests self.now.log).last }
@@ -175,6 +185,16 @@ fn is_open(log: &[SessionEntry], request: u32) -> bool
     match log.last() {
         Some(entry) => begins(&entry.deed, request),
         None => false,
+    }
+}
+
+// The request of the last entry, if there is one.
+fn last_request(log: &[SessionEntry]) -> Option<u32>
+    ensures { result ≡ last_request log.now }
+{
+    match log.last() {
+        Some(entry) => Some(request_by(&entry.deed)),
+        None => None,
     }
 }
 

@@ -4,7 +4,7 @@ ghost use Rattle.std.specs.List.{range_with_len};
 ghost use Rattle.weave_account.specs.Sessions.{requests_of_session};
 ghost use Rattle.weave_entries.specs.SessionReplay.{FitsSession, RepliesToLast};
 ghost use Rattle.weave_entries.specs.declared.session_log.SessionDeed.TheVariants as deed;
-ghost use Rattle.weaver_core.specs.Clients.{AddsAt, AreFirst, AreSameClients, IsInTurn, is_open_at, log_of, requests_at, session_at, standing_at};
+ghost use Rattle.weaver_core.specs.Clients.{AddsAt, AreFirst, AreSameClients, IsFirstUnanswered, IsInTurn, is_open_at, least_unanswered, lesser, log_of, requests_at, session_at, standing_at};
 ghost use Rattle.weaver_core.specs.Noting.{all_noted, noted, noted_all, noted_by};
 
 use crate::client::{Client, Standing};
@@ -66,6 +66,13 @@ impl Clients {
         ensures last { result ≡ true → RepliesToLast (session_at self.now session) request }
     {
         self.clients[session as usize].is_open(request)
+    }
+
+    /// The first request without a reply, of that many; their number if each has one. It looks once at each session.
+    pub(crate) fn first_unanswered(&self, requests: u32) -> u32
+        ensures { IsFirstUnanswered self.now requests result }
+    {
+        first_unanswered_of(self.clients.as_slice(), requests)
     }
 
     /// The stamp that was begun last in a session.
@@ -148,6 +155,27 @@ fn requests_of(alloc: Global, script: &Script, session: u32) -> Result<Vec<u32>,
         }
     }
     Ok(found)
+}
+
+// The least of a number and these sessions' first requests without a reply.
+fn first_unanswered_of(clients: &[Client], requests: u32) -> u32
+    ensures { result ≡ least_unanswered requests clients.now }
+{
+    let mut first = requests;
+    for client in clients {
+        first = lesser(first, client.first_unanswered());
+    }
+    first
+}
+
+// The lesser of a number and one that may be there.
+fn lesser(number: u32, other: Option<u32>) -> u32
+    ensures { result ≡ lesser number other }
+{
+    match other {
+        Some(other) => number.min(other),
+        None => number,
+    }
 }
 
 fn no_stamps(alloc: Global, requests: usize) -> Result<Vec<Option<Stamp>>, AllocError>

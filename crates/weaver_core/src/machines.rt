@@ -1,15 +1,19 @@
 //! The machines of a core, and what each atomic step does with them.
-ghost use Rattle.std.specs.Prelude.{◌≡◌, ◌<◌, ◌^◌, [], Contains, Some, length, map, OnErr, IfOk};
+ghost use Rattle.std.specs.Prelude.{◌≡◌, ℕ, ◌+◌, ◌<◌, ◌≤◌, ◌^◌, [], Contains, Some, false, is_some, length, map, OnErr, IfOk, IsTrue};
 ghost use Rattle.std.specs.List.{range_with_len};
 ghost use Rattle.vector_stamp.specs.declared.clock.Stamp.{Stamp};
 ghost use Rattle.program_defs.specs.Limits.{IsWithinLimits};
+ghost use Rattle.program_defs.specs.declared.script.Request.{Request};
 ghost use Rattle.program_defs.specs.declared.script.Step.TheVariants as step;
+ghost use Rattle.report_rules.specs.Lookups.{request_at};
 ghost use Rattle.weave_entries.specs.OracleReplay.{settled_entry};
+ghost use Rattle.weave_entries.specs.ShardReplay.{arrived_at, processed_count};
 ghost use Rattle.weave_entries.specs.declared.oracle_log.OracleEntry.{OracleEntry};
+ghost use Rattle.weave_account.specs.Account.{shard_log};
 ghost use Rattle.weave_account.specs.Report.{MatchesAccount};
 ghost use Rattle.step_rules.specs.CoreState.{start_state};
 ghost use Rattle.weaver_core.specs.Cores.{AreOf, MayDo, MachinesDo};
-ghost use Rattle.step_rules.specs.Requests.{last_begun};
+ghost use Rattle.step_rules.specs.Requests.{has_reply, last_begun};
 ghost use Rattle.weaver_core.specs.Reporting.{AreOfHomes, all_pairs_found, reply_kept, request_with};
 ghost use Rattle.weaver_core.specs.Walks.{AreMarksOf, AreProgramsOf, IsKeptIn, IsLook, IsRunningIn};
 
@@ -57,7 +61,7 @@ pub(crate) struct Machines {
     gates: Gates,
     store: Store,
     oracle: Oracle,
-    shards: Shards,
+    pub(crate) shards: Shards,
     clients: Clients,
     // The notices, in the order of the `say` steps: at most one clock for each step.
     notices: Vec<Clock>,
@@ -121,7 +125,8 @@ impl Machines {
                 number,
             } => self.deliver(alloc, script, gate, shard, number),
             Step::Apply { shard, gate } => self.apply(alloc, script, shard, gate),
-            Step::Visit { .. } | Step::Collect { .. } => unreachable!(),
+            Step::Collect { shard } => self.collect(script, shard),
+            Step::Visit { .. } => unreachable!(),
         }
     }
 
@@ -293,6 +298,17 @@ impl Machines {
         apply_in(alloc, &mut self.shards, shard, gate)
     }
 
+    // `collect S`: the shard drops the versions that are older than its bound.
+    fn collect(&mut self, script: &Script, shard: u32) -> Result<StepAnswer, AllocError>
+        requires { MayDo script.now self.old (step.Collect shard) }
+        ensures done { IfOk result (λ answer. MachinesDo script.now (step.Collect shard) self.old self.new answer) }
+        ensures refused { OnErr result (self.new ≡ self.old) }
+    {
+        let _ = script;
+        self.shards.collect(shard)?;
+        Ok(StepAnswer::Ok)
+    }
+
     /// `visit R` of a running program: it reads its next vertex, if its shard is ready.
     pub(crate) fn visit(
         &mut self,
@@ -364,6 +380,35 @@ impl Machines {
             asked,
             walk,
         )
+    }
+
+    /// The first request without a reply, in the script's order; the number of requests if each has one.
+    pub(crate) fn first_unanswered(&self, script: &Script) -> u32
+        requires are { AreOf script.now self.now }
+        ensures replied { (r : ℕ) (request : Request) → r < result → request_at script.now r ≡ Some request
+            → IsTrue (has_reply self.now.state.account r request) }
+        ensures unanswered { (request : Request) → request_at script.now result ≡ Some request
+            → has_reply self.now.state.account result request ≡ false }
+        ensures within { result ≤ length script.now.requests }
+    {
+        begun_and_replied_are_decided();
+        requests_of_a_session_rise();
+        sessions_go_in_turn();
+        let requests = script.requests.as_slice();
+        self.clients.first_unanswered(requests.len() as u32)
+    }
+
+    /// The number of the message that a shard processes next on a gatekeeper's channel. Those before it have arrived.
+    pub(crate) fn next_message(&self, script: &Script, shard: u32, gate: u32) -> u64
+        requires are { AreOf script.now self.now }
+        requires shard { shard < script.now.shards }
+        requires gate { gate < script.now.gates }
+        ensures number { result ≡ processed_count gate (shard_log self.now.state.account shard) + 1 }
+        ensures arrived { (n : ℕ) → 1 ≤ n → n < result
+            → IsTrue (is_some (arrived_at gate n (shard_log self.now.state.account shard))) }
+    {
+        let _ = script;
+        self.shards.next_number(shard, gate)
     }
 
     /// The stamp that was begun last in a session.

@@ -28,7 +28,7 @@ pub(crate) fn replies_of(
     ensures { IfOk result (λ replies. replies
         ≡ map (reply_kept stamps.now walks.now store.now) (range_with_len 0 (length requests.now))) }
 {
-    let mut replies = Items::new(alloc);
+    let mut replies = Items::from_vec(Vec::with_capacity(alloc, requests.len())?);
     for request in 0..requests.len() as u32 {
         let stamp = stamps[request as usize];
         let walk = &walks[request as usize];

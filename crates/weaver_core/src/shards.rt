@@ -1,11 +1,12 @@
 //! The shards of a core, by their numbers.
-ghost use Rattle.std.specs.Prelude.{◌≡◌, ◌<◌, ◌≤◌, [], length, replicate, None, IfErr, IfOk, OnErr, OnOk};
+ghost use Rattle.std.specs.Prelude.{◌≡◌, ℕ, ◌+◌, ◌<◌, ◌≤◌, [], length, replicate, is_some, None, IfErr, IfOk, IsTrue, OnErr, OnOk};
 ghost use Rattle.std.specs.Option.{ForSome};
-ghost use Rattle.weave_entries.specs.ShardReplay.{head_of, waits_at};
+ghost use Rattle.weave_entries.specs.ShardReplay.{arrived_at, bound_of, head_of, processed_count, waits_at};
 ghost use Rattle.weave_entries.specs.ShardRules.{IsTakable, PassesAt};
+ghost use Rattle.weave_entries.specs.declared.shard_log.ShardDeed.TheVariants as deed;
 ghost use Rattle.shard_node.specs.Shards.{IsRightlyUnapplied};
 ghost use Rattle.weaver_core.specs.Messages.{AppliesHead, Arrives};
-ghost use Rattle.weaver_core.specs.ShardTable.{AreFirst, log_at};
+ghost use Rattle.weaver_core.specs.ShardTable.{AddsAt, AreFirst, log_at};
 ghost use Rattle.weaver_core.specs.Visiting.{CanBeVisited, Reads};
 ghost use Rattle.shard_node.specs.Shards.{IsRightlyUnread};
 
@@ -24,7 +25,7 @@ use weave_entries::laws::{kept_updates_are_read_like_all, oracle_entries_are_a_j
 #[derive(Drop)]
 pub(crate) struct Shards {
     gates: u32,
-    shards: Vec<Shard>,
+    pub(crate) shards: Vec<Shard>,
 }
 
 impl Model for Shards {
@@ -75,6 +76,16 @@ impl Shards {
         shard.arrive(alloc, 0, gate, number, message)
     }
 
+    /// The number of the message that a shard processes next on a gatekeeper's channel. Those before it have arrived.
+    pub(crate) fn next_number(&self, shard: u32, gate: u32) -> u64
+        requires there { shard < length self.now.logs }
+        requires gate { gate < self.now.gates }
+        ensures number { result ≡ processed_count gate (log_at self.now shard) + 1 }
+        ensures arrived { (n : ℕ) → 1 ≤ n → n < result → IsTrue (is_some (arrived_at gate n (log_at self.now shard))) }
+    {
+        self.shards[shard as usize].next_number(gate)
+    }
+
     /// A shard processes the head of a gatekeeper's channel, if it does not wait.
     pub(crate) fn apply(&mut self, alloc: Global, shard: u32, gate: u32) -> Result<(), ApplyFault>
         requires there { shard < length self.old.logs }
@@ -87,6 +98,17 @@ impl Shards {
     {
         let shard = &mut self.shards[shard as usize];
         shard.apply(alloc, 0, gate)
+    }
+
+    /// A shard drops the versions that are older than its bound, if it has one. The one error is out of memory.
+    pub(crate) fn collect(&mut self, shard: u32) -> Result<(), AllocError>
+        requires { shard < length self.old.logs }
+        ensures collected { OnOk result (AddsAt self.old self.new shard
+            (deed.Collected (bound_of self.old.gates (log_at self.old shard)))) }
+        ensures refused { OnErr result (self.new ≡ self.old) }
+    {
+        let shard = &mut self.shards[shard as usize];
+        shard.collect(0)
     }
 
     /// A shard reads a vertex for a program: the state that the program sees. The oracle is asked in the same call.

@@ -1,14 +1,19 @@
 //! A core: a script with its machines.
-ghost use Rattle.std.specs.Prelude.{◌≡◌, [], None, length, replicate, OnErr, IfOk};
+ghost use Rattle.std.specs.Prelude.{◌≡◌, ℕ, ◌+◌, ◌<◌, ◌≤◌, [], None, Some, false, is_some, length, replicate, OnErr, IfOk, IsTrue};
 ghost use Rattle.proof_base.specs.Facts.{AllHold};
 ghost use Rattle.program_defs.specs.Limits.{IsWithinLimits};
+ghost use Rattle.program_defs.specs.declared.script.Request.{Request};
+ghost use Rattle.report_rules.specs.Lookups.{request_at};
 ghost use Rattle.report_rules.specs.PrintedOrder.{IsPrintedOrder};
 ghost use Rattle.report_rules.specs.RightReport.{replies_clause};
 ghost use Rattle.order_witness.specs.Begun.{NonePrecedesItself};
+ghost use Rattle.weave_entries.specs.ShardReplay.{arrived_at, processed_count};
+ghost use Rattle.weave_account.specs.Account.{shard_log};
 ghost use Rattle.weave_account.specs.Report.{IsReportOfAccount};
 ghost use Rattle.step_rules.specs.CoreState.{start_state};
 ghost use Rattle.step_rules.specs.IsCore.{IsCore, IsStepOf};
-ghost use Rattle.weaver_core.specs.Cores.{Does, IsBuilt};
+ghost use Rattle.step_rules.specs.Requests.{has_reply};
+ghost use Rattle.weaver_core.specs.Cores.{Does};
 
 use crate::machines::Machines;
 use crate::stepping::step_in;
@@ -29,7 +34,7 @@ use weave_data::{Items, Name};
 #[derive(Drop)]
 pub struct Core {
     script: Script,
-    machines: Machines,
+    pub(crate) machines: Machines,
     // What is kept of each request that is a program: its walk, and then its answer.
     walks: Vec<Option<Walk>>,
     // For each entry of the oracle the vertex of the visit that asked for it, if one did. It may end before the oracle's log.
@@ -70,7 +75,6 @@ impl Core {
     /// It costs what the call of its machine costs, and look-ups. The one error is out of memory, and then the core is as before.
     pub fn step(&mut self, alloc: Global, step: &Step) -> Result<StepAnswer, AllocError>
         requires there { IsStepOf self.old.script step.now }
-        requires built { IsBuilt self.old.script step.now }
         ensures done { IfOk result (λ answer. Does step.now self.old self.new answer) }
         ensures refused { OnErr result (self.new ≡ self.old) }
     {
@@ -101,6 +105,31 @@ impl Core {
         self.machines.notices()
     }
 
+    /// The first request without a reply, in the script's order; the number of requests if each has one.
+    ///
+    /// It costs a look at each of the 64 sessions.
+    pub fn first_unanswered(&self) -> u32
+        ensures replied { (r : ℕ) (request : Request) → r < result → request_at self.now.script r ≡ Some request
+            → IsTrue (has_reply self.now.state.account r request) }
+        ensures unanswered { (request : Request) → request_at self.now.script result ≡ Some request
+            → has_reply self.now.state.account result request ≡ false }
+        ensures within { result ≤ length self.now.script.requests }
+    {
+        self.machines.first_unanswered(&self.script)
+    }
+
+    /// The number of the message that the shard processes next on the gatekeeper's channel. Those before it have arrived
+    /// there.
+    pub fn next_message(&self, shard: u32, gate: u32) -> u64
+        requires shard { shard < self.now.script.shards }
+        requires gate { gate < self.now.script.gates }
+        ensures number { result ≡ processed_count gate (shard_log self.now.state.account shard) + 1 }
+        ensures arrived { (n : ℕ) → 1 ≤ n → n < result
+            → IsTrue (is_some (arrived_at gate n (shard_log self.now.state.account shard))) }
+    {
+        self.machines.next_message(&self.script, shard, gate)
+    }
+
     /// The report of the account, without answers of steps. It costs its own size and the printed order. The one error is out of memory.
     pub fn report(&self, alloc: Global) -> Result<Report, AllocError>
         ensures report { IfOk result (IsReportOfAccount self.now.script self.now.state.account) }
@@ -122,7 +151,7 @@ impl Core {
 fn no_walks(alloc: Global, requests: usize) -> Result<Vec<Option<Walk>>, AllocError>
     ensures { IfOk result (λ walks. walks.items ≡ replicate requests None) }
 {
-    let mut walks = Vec::new(alloc);
+    let mut walks = Vec::with_capacity(alloc, requests)?;
     for _request in 0..requests {
         walks.push(None)?;
     }

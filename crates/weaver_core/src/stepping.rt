@@ -8,7 +8,7 @@ ghost use Rattle.program_defs.specs.declared.script.Request.{Request};
 ghost use Rattle.step_rules.specs.IsCore.{IsStepOf};
 ghost use Rattle.step_rules.specs.Requests.{last_begun};
 ghost use Rattle.step_rules.specs.Trace.{is_ok};
-ghost use Rattle.weaver_core.specs.Cores.{AreOf, IsBuilt, MachinesDo};
+ghost use Rattle.weaver_core.specs.Cores.{AreOf, MachinesDo};
 ghost use Rattle.weaver_core.specs.Walks.{AreMarksOf, AreProgramsOf, IsChangeAt, IsKeptIn, IsLook, IsLookAt, IsOtherStep, begun_with};
 
 use crate::machines::Machines;
@@ -35,7 +35,6 @@ pub(crate) fn step_in(
     requires are { AreOf script.now machines.old }
     requires programs { AreProgramsOf script.now machines.old.state.account walks.old.items marks.old.items }
     requires there { IsStepOf script.now step.now }
-    requires built { IsBuilt script.now step.now }
     ensures done { IfOk result (λ answer. MachinesDo script.now step.now machines.old machines.new answer) }
     ensures refused { OnErr result (machines.new ≡ machines.old) }
     ensures programs { AreProgramsOf script.now machines.new.state.account walks.new.items marks.new.items }
@@ -51,8 +50,8 @@ pub(crate) fn step_in(
         | Step::Nop { .. }
         | Step::Deliver { .. }
         | Step::Apply { .. }
+        | Step::Collect { .. }
         | Step::Epoch { .. } => other_step(alloc, script, machines, walks, marks, step),
-        Step::Collect { .. } => unreachable!(),
     }
 }
 

@@ -30,7 +30,7 @@ returns-clause-done c =
     let is = c.reply_in.new.clients in
     if_ok_map c.reply_in.result (Replies script m.gates m.clients is r) _
     (λ (a : StepAnswer) did. subst (λ (v : MachinesView). MachinesDo script (Reply r) v (machines_of m.gates m.store m.oracle m.shards is m.notices.items) a) c.self.view_is
-    (reply-done script m.gates m.store m.oracle m.shards m.clients m.notices.items may.are laws r is may.built a did))
+    (reply-done script m.gates m.store m.oracle m.shards m.clients m.notices.items may.are laws r is may.alone a did))
     c.reply_in.ensures.replies
 
 pub returns-clause-refused : goal.returns-clause-refused

@@ -1,4 +1,4 @@
-use Rattle.std.proofs.Common.{inl, inr, subst, sym}
+use Rattle.std.proofs.Common.{subst, sym}
 use Rattle.program_defs.specs.declared.script.Step.{Step}
 use Rattle.report_rules.specs.declared.report.StepAnswer.{StepAnswer}
 use Rattle.weaver_core.specs.Cores.{IsOfMachines, MachinesDo, MayDo}
@@ -77,9 +77,13 @@ pub returns-in-Apply-clause-done : goal.returns-in-Apply-clause-done
 returns-in-Apply-clause-done c =
     if_ok_map c.apply.result _ _ (λ (a : StepAnswer) did. subst (λ (s : Step). MachinesDo c.args.script.now s c.args.self.now c.apply.new.self a) (sym c.in-Apply.is) did) c.apply.ensures.done
 
--- the other steps are not built
+pub collect-requires : goal.collect-requires
+collect-requires c = subst (MayDo c.args.script.now c.args.self.now) c.in-Collect.is c.requires
+
+pub returns-in-Collect-clause-done : goal.returns-in-Collect-clause-done
+returns-in-Collect-clause-done c =
+    if_ok_map c.collect.result _ _ (λ (a : StepAnswer) did. subst (λ (s : Step). MachinesDo c.args.script.now s c.args.self.now c.collect.new.self a) (sym c.in-Collect.is) did) c.collect.ensures.done
+
+-- a visit is not of the machines alone
 pub unreachable-requires : goal.unreachable-requires
-unreachable-requires c = elim c.in-Visit.is [
-  | inl visit ↦ subst (IsOfMachines c.args.script.now) visit.1 c.requires.built
-  | inr collect ↦ subst (IsOfMachines c.args.script.now) collect.1 c.requires.built
-]
+unreachable-requires c = subst (IsOfMachines c.args.script.now) c.in-Visit.is c.requires.alone

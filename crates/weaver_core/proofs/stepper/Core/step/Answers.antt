@@ -1,7 +1,7 @@
 use Rattle.std.proofs.Common.{◌≡◌, ap, refl, subst, sym, ◌∙◌}
 use Rattle.report_rules.specs.declared.report.StepAnswer.{StepAnswer}
 use Rattle.step_rules.specs.IsCore.{IsStepOf}
-use Rattle.weaver_core.specs.Cores.{AreOf, CoreView, Does, IsBuilt, MachinesDo, MachinesView}
+use Rattle.weaver_core.specs.Cores.{AreOf, CoreView, Does, MachinesDo, MachinesView}
 use Rattle.weaver_core.proofs.CoreDone.{are-after}
 use Rattle.weaver_core.proofs.Results.{either_way, if_ok_map, on_err_map}
 use Rattle.weaver_core.proofs.stepper.Core.step.Goals as goal
@@ -13,7 +13,6 @@ step_in-requires c = record {
   are = c.self.invariant.0;
   programs = c.self.invariant.1;
   there = subst (λ (v : CoreView). IsStepOf v.script c.args.step.now) (sym c.self.view_is) c.requires.there;
-  built = subst (λ (v : CoreView). IsBuilt v.script c.args.step.now) (sym c.self.view_is) c.requires.built;
 }
 
 -- the law on steps, once for all of them
