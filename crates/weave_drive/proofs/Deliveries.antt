@@ -3,7 +3,7 @@ use Rattle.std.proofs.Common.{◌≡◌, ℕ, zero, suc, ◌+◌, ◌-◌, ◌<�
 use Rattle.std.specs.Prelude.{slice_get, slice_index_or}
 use Rattle.std.specs.List.{find}
 use Rattle.std.specs.Option.{option_map, option_or}
-use Rattle.std.proofs.lemmas.Bool.{and_from, and_parts, cases_eq, eq-eqb, eqb-true, ne_eqb}
+use Rattle.std.proofs.lemmas.Bool.{and_from, cases_eq, eq-eqb, ne_eqb}
 use Rattle.std.proofs.lemmas.List.Concat.{flat_map-append}
 use Rattle.std.proofs.lemmas.List.Folds.{find-append}
 use Rattle.shard_queue.specs.Sent.{sent_as}
@@ -28,7 +28,7 @@ use Rattle.weaver_core.specs.Cores.{CoreView, Does}
 use Rattle.weave_drive.specs.Driving.{Drives}
 use Rattle.weave_drive.specs.LowerLaws.{LowerLaws}
 use Rattle.weave_drive.specs.Loops.{DeliversBelow, IsDelivering}
-use Rattle.weave_drive.specs.Progress.{AreCores, AreCursorsOf, Delivers, DeliversAll, DeliversNext, DeliversTo, HaveArrived, cursor_at, is_known}
+use Rattle.weave_drive.specs.Progress.{AreCores, Delivers, DeliversAll, DeliversTo, HaveArrived, is_known}
 use Rattle.weave_drive.proofs.After.{account-after, set-there, still-arrived}
 use Rattle.weave_drive.proofs.Driven.{drives-none, drives-through}
 
@@ -98,98 +98,54 @@ deliver-done old new gate shard number answer cores inside did =
       arrived = λ some. ap (λ (a : Account). is_some (arrived_at gate number (shard_log a shard))) is ∙ d.arrived (sym known ∙ some);
     }
 
--- The message after the cursor
-
-still-have : (old new : Account) → GoesOn old new → (shard gate n : ℕ) → HaveArrived old shard gate n → HaveArrived new shard gate n
-still-have old new on shard gate n have k low high = still-arrived old new on shard gate k (have k low high)
-
-pub cursors-stay : (old new : Account) → GoesOn old new → (cursors : List (List ℕ)) → AreCursorsOf old cursors → AreCursorsOf new cursors
-cursors-stay old new on cursors are shard gate = still-have old new on shard gate (cursor_at cursors shard gate) (are shard gate)
-
-module _ (old new : Account) (on : GoesOn old new) (gate shard number : ℕ) (cursors next : List (List ℕ)) (number-is : number ≡ cursor_at cursors shard gate + 1) (are : AreCursorsOf old cursors) where
-  pub next-sent : Delivers gate shard number old new true → ((s g : ℕ) → cursor_at next s g ≡ cond ((s == shard) && (g == gate)) number (cursor_at cursors s g)) → DeliversNext gate shard old new cursors next true
-  next-sent d next-is =
-      let here : cursor_at next shard gate ≡ number = next-is shard gate ∙ ap (λ b. cond b number (cursor_at cursors shard gate)) (and_from _ _ (eq-eqb shard shard refl) (eq-eqb gate gate refl)) in
-      record {
-        same_gates = d.same_gates;
-        cursors_are = λ s g. at s g ((s == shard) && (g == gate)) refl;
-        on = λ t. here ∙ number-is;
-        within = λ t. (let within = sent-within number (channel_of shard (gate_log old gate)) (omega (arith, number-is)) (sym d.sent_is) in omega (arith, here, within));
-        all = λ f. cc;
-      }
-    where
-      there : (n : ℕ) → 1 ≤ n → n ≤ number → IsTrue (is_some (arrived_at gate n (shard_log new shard)))
-      there n low high = elim (cases_eq n number) [
-        | inl same ↦ subst (λ k. IsTrue (is_some (arrived_at gate k (shard_log new shard)))) (sym same) (d.arrived refl)
-        | inr other ↦ still-arrived old new on shard gate n (are shard gate n low (omega (arith, number-is, high, other)))
-      ]
-
-      at : (s g : ℕ) (b : Bool) → (s == shard) && (g == gate) ≡ b → HaveArrived new s g (cursor_at next s g)
-      at s g true e =
-          let both = and_parts (s == shard) (g == gate) e in
-          let s-is : s ≡ shard = eqb-true s shard both.0 in
-          let g-is : g ≡ gate = eqb-true g gate both.1 in
-          let top : cursor_at next s g ≡ number = next-is s g ∙ ap (λ b. cond b number (cursor_at cursors s g)) e in
-          λ n low high. subst (λ k. IsTrue (is_some (arrived_at g n (shard_log new k)))) (sym s-is) (subst (λ k. IsTrue (is_some (arrived_at k n (shard_log new shard)))) (sym g-is) (there n low (omega (arith, high, top))))
-      at s g false e =
-          let top : cursor_at next s g ≡ cursor_at cursors s g = next-is s g ∙ ap (λ b. cond b number (cursor_at cursors s g)) e in
-          λ n low high. still-arrived old new on s g n (are s g n low (omega (arith, high, top)))
-
-  pub next-unsent : Delivers gate shard number old new false → next ≡ cursors → DeliversNext gate shard old new cursors next false
-  next-unsent d same = record {
-    same_gates = d.same_gates;
-    cursors_are = subst (AreCursorsOf new) (sym same) (cursors-stay old new on cursors are);
-    on = λ t. cc;
-    within = λ t. cc;
-    all = λ f. (
-        let past = sent-past number (channel_of shard (gate_log old gate)) (omega (arith, number-is)) (sym d.sent_is) in
-        let long = ap (λ (gs : List (List GateEntry)). length (channel_of shard (slice_index_or gs gate []))) d.same_gates in
-        let cursor = ap (λ (c : List (List ℕ)). cursor_at c shard gate) same in
-        omega (arith, past, long, cursor, number-is)
-        );
-  }
-
 -- A channel
 
-pub delivering-none : (old : CoreView) (cursors : List (List ℕ)) → AreCursorsOf old.state.account cursors → IsDelivering old old cursors
-delivering-none old cursors are = record { drives = drives-none 0 old; same_gates = refl; cursors_are = are }
+pub delivering-none : (old : CoreView) (gate shard number : ℕ) → 1 ≤ number → HaveArrived old.state.account shard gate number → IsDelivering gate shard number old old
+delivering-none old gate shard number some arrived = record { drives = drives-none 0 old; same_gates = refl; some = some; arrived = arrived }
 
-pub delivering-next : (old middle new : CoreView) (gate shard : ℕ) (cursors next : List (List ℕ)) (sent : Bool) → IsDelivering old middle cursors → Drives 0 middle new → DeliversNext gate shard middle.state.account new.state.account cursors next sent → IsDelivering old new next
-delivering-next old middle new gate shard cursors next sent before drives d = record {
+pub delivering-next : (old middle new : CoreView) (gate shard number next : ℕ) → next ≡ number + 1 → GoesOn middle.state.account new.state.account → IsDelivering gate shard number old middle → Drives 0 middle new
+    → Delivers gate shard number middle.state.account new.state.account true → IsDelivering gate shard next old new
+delivering-next old middle new gate shard number next after on before drives d = record {
   drives = drives-through 0 old middle new before.drives drives;
   same_gates = d.same_gates ∙ before.same_gates;
-  cursors_are = d.cursors_are;
+  some = omega (arith, after);
+  arrived = λ n low high. elim (cases_eq n number) [
+    | inl same ↦ subst (λ k. IsTrue (is_some (arrived_at gate k (shard_log new.state.account shard)))) (sym same) (d.arrived refl)
+    | inr other ↦ still-arrived middle.state.account new.state.account on shard gate n (before.arrived n low (omega (arith, after, high, other)))
+  ];
 }
 
-pub delivering-less : (old new : Account) (gate shard : ℕ) (cursors next : List (List ℕ)) → DeliversNext gate shard old new cursors next true
-    → length (channel_of shard (gate_log new gate)) - cursor_at next shard gate < length (channel_of shard (gate_log old gate)) - cursor_at cursors shard gate
-delivering-less old new gate shard cursors next d =
+-- there are fewer messages from the next number on
+pub delivering-less : (old new : Account) (gate shard number next : ℕ) → next ≡ number + 1 → 1 ≤ number → Delivers gate shard number old new true
+    → length (channel_of shard (gate_log new gate)) + 1 - next < length (channel_of shard (gate_log old gate)) + 1 - number
+delivering-less old new gate shard number next after some d =
     let long = ap (λ (gs : List (List GateEntry)). length (channel_of shard (slice_index_or gs gate []))) d.same_gates in
-    let on = d.on refl in
-    let within = d.within refl in
-    omega (arith, long, on, within)
+    let within = sent-within number (channel_of shard (gate_log old gate)) some (sym d.sent_is) in
+    omega (arith, after, long, within)
 
-pub delivering-all : (old middle new : CoreView) (gate shard : ℕ) (cursors next : List (List ℕ)) → IsDelivering old middle cursors → DeliversNext gate shard middle.state.account new.state.account cursors next false → DeliversAll gate shard old.state.account new.state.account next
-delivering-all old middle new gate shard cursors next before d = record {
+pub delivering-all : (old middle new : CoreView) (gate shard number : ℕ) → GoesOn middle.state.account new.state.account → IsDelivering gate shard number old middle
+    → Delivers gate shard number middle.state.account new.state.account false → DeliversAll gate shard old.state.account new.state.account
+delivering-all old middle new gate shard number on before d = record {
   same_gates = d.same_gates ∙ before.same_gates;
-  cursors_are = d.cursors_are;
-  arrived = λ n low high. d.cursors_are shard gate n low (let all = d.all refl in omega (arith, high, all));
+  arrived = λ n low high. (
+      let some = before.some in
+      let past = sent-past number (channel_of shard (gate_log middle.state.account gate)) some (sym d.sent_is) in
+      let long = ap (λ (gs : List (List GateEntry)). length (channel_of shard (slice_index_or gs gate []))) d.same_gates in
+      still-arrived middle.state.account new.state.account on shard gate n (before.arrived n low (omega (arith, some, past, long, high)))
+      );
 }
 
 -- All channels
 
-pub below-none : (shard : ℕ) (old : CoreView) (cursors : List (List ℕ)) → AreCursorsOf old.state.account cursors → DeliversBelow 0 shard old old cursors
-below-none shard old cursors are = record { delivering = delivering-none old cursors are; arrived = λ gate below. absurd (omega (arith, below)) }
+pub below-none : (shard : ℕ) (old : CoreView) → DeliversBelow 0 shard old old
+below-none shard old = record { drives = drives-none 0 old; same_gates = refl; arrived = λ gate below. absurd (omega (arith, below)) }
 
-pub below-next : (old middle new : CoreView) (n m shard : ℕ) (cursors next : List (List ℕ)) → m ≡ n + 1 → GoesOn middle.state.account new.state.account → DeliversBelow n shard old middle cursors → Drives 0 middle new → DeliversAll n shard middle.state.account new.state.account next → DeliversBelow m shard old new next
-below-next old middle new n m shard cursors next after on before drives d = record {
-  delivering = record {
-    drives = drives-through 0 old middle new before.delivering.drives drives;
-    same_gates = d.same_gates ∙ before.delivering.same_gates;
-    cursors_are = d.cursors_are;
-  };
+pub below-next : (old middle new : CoreView) (n m shard : ℕ) → m ≡ n + 1 → GoesOn middle.state.account new.state.account → DeliversBelow n shard old middle → Drives 0 middle new → DeliversAll n shard middle.state.account new.state.account → DeliversBelow m shard old new
+below-next old middle new n m shard after on before drives d = record {
+  drives = drives-through 0 old middle new before.drives drives;
+  same_gates = d.same_gates ∙ before.same_gates;
   arrived = λ gate below. elim (cases_eq gate n) [
-    | inl same ↦ subst (λ k. HaveArrived new.state.account shard k (length (channel_of shard (gate_log new.state.account k)))) (sym same) d.arrived
+    | inl same ↦ subst (λ k. HaveArrived new.state.account shard k (length (channel_of shard (gate_log new.state.account k)) + 1)) (sym same) d.arrived
     | inr other ↦ λ k low high. (
         let long = ap (λ (gs : List (List GateEntry)). length (channel_of shard (slice_index_or gs gate []))) d.same_gates in
         still-arrived middle.state.account new.state.account on shard gate k (before.arrived gate (omega (arith, below, other, after)) k low (omega (arith, high, long)))
@@ -197,14 +153,14 @@ below-next old middle new n m shard cursors next after on before drives d = reco
   ];
 }
 
-pub below-all : (laws : LowerLaws) (old new : CoreView) (n shard : ℕ) (cursors : List (List ℕ)) → IsWithinLimits old.script → IsCore old.script new.state → old.script.gates ≤ n → DeliversBelow n shard old new cursors → DeliversTo shard old.state.account new.state.account cursors
-below-all laws old new n shard cursors limits core all d = record {
-  same_gates = d.delivering.same_gates;
-  cursors_are = d.delivering.cursors_are;
+pub below-all : (laws : LowerLaws) (old new : CoreView) (n shard : ℕ) → IsWithinLimits old.script → IsCore old.script new.state → old.script.gates ≤ n → DeliversBelow n shard old new → DeliversTo shard old.state.account new.state.account
+below-all laws old new n shard limits core all d = record {
+  same_gates = d.same_gates;
   arrived = λ home addressed h. (
       let below = laws.gatekeepers old.script account limits core.account shard home addressed h in
       let numbers = laws.numbers old.script account limits core.account shard home addressed h in
-      at home addressed h (arrived_at home addressed.number (shard_log account shard)) refl (d.arrived home (omega (arith, below, all)) addressed.number numbers.0 numbers.1)
+      let within = numbers.1 in
+      at home addressed h (arrived_at home addressed.number (shard_log account shard)) refl (d.arrived home (omega (arith, below, all)) addressed.number numbers.0 (omega (arith, within)))
       );
 }
   where

@@ -38,7 +38,6 @@ use Rattle.weave_drive.specs.Loops.{NudgesBelow}
 use Rattle.weave_drive.specs.Progress.{AppliesAll, AreCores, DeliversTo, IsSentAfter, MakesReady, Nudges}
 use Rattle.weave_drive.proofs.After.{account-after, set-there}
 use Rattle.weave_drive.proofs.Deeds.{after-step}
-use Rattle.weave_drive.proofs.Deliveries.{cursors-stay}
 use Rattle.weave_drive.proofs.Driven.{drives-none, drives-through}
 use Rattle.weave_drive.proofs.Quiet.{stays-quiet}
 
@@ -155,17 +154,13 @@ nudges-next home shard n m old middle new next on further before drives here = r
 
 -- The shard
 
-pub ready-made : (laws : LowerLaws) (script : Script) (old nudged brought new : Account) (next : List (List ℕ)) (home shard : ℕ) → IsWithinLimits script → (core : CoreState) → core.account ≡ new → IsCore script core → GoesOn brought new
-    → ((gate : ℕ) → gate < script.gates → Nudges home gate shard old nudged) → DeliversTo shard nudged brought next → AppliesAll shard brought new → MakesReady script home shard old new next
-ready-made laws script old nudged brought new next home shard limits state state-is core on nudges d a = record {
-  cursors_are = cursors-stay brought new on next d.cursors_are;
-  ready = λ p begun. (
-      let gates-are : new.gates ≡ nudged.gates = a.same_gates ∙ d.same_gates in
-      let passed : (g : ℕ) → g < script.gates → IsPassed new shard p g = λ g below. (
-      let s = nudges g below p begun in
-      let there : Contains (addressed_to shard (gate_log new g)) s.addressed = subst (λ (gs : List (List GateEntry)). Contains (addressed_to shard (slice_index_or gs g [])) s.addressed) (sym gates-are) s.sent in
-      record { addressed = s.addressed; sent = there; later = s.later; done = a.processed g s.addressed there }
-      ) in
-      laws.reached script new limits (subst (IsAccount script) state-is core.account) shard p passed
-      );
-}
+pub ready-made : (laws : LowerLaws) (script : Script) (old nudged brought new : Account) (home shard : ℕ) → IsWithinLimits script → (core : CoreState) → core.account ≡ new → IsCore script core
+    → ((gate : ℕ) → gate < script.gates → Nudges home gate shard old nudged) → DeliversTo shard nudged brought → AppliesAll shard brought new → MakesReady script home shard old new
+ready-made laws script old nudged brought new home shard limits state state-is core nudges d a p begun =
+    let gates-are : new.gates ≡ nudged.gates = a.same_gates ∙ d.same_gates in
+    let passed : (g : ℕ) → g < script.gates → IsPassed new shard p g = λ g below. (
+    let s = nudges g below p begun in
+    let there : Contains (addressed_to shard (gate_log new g)) s.addressed = subst (λ (gs : List (List GateEntry)). Contains (addressed_to shard (slice_index_or gs g [])) s.addressed) (sym gates-are) s.sent in
+    record { addressed = s.addressed; sent = there; later = s.later; done = a.processed g s.addressed there }
+    ) in
+    laws.reached script new limits (subst (IsAccount script) state-is core.account) shard p passed

@@ -40,11 +40,9 @@ use Rattle.weaver_core.specs.Cores.{CoreView, Does}
 use Rattle.drive_rules.specs.Links.{link_count}
 use Rattle.weave_drive.specs.Driving.{Drives}
 use Rattle.weave_drive.specs.LowerLaws.{LowerLaws}
-use Rattle.weave_drive.specs.Loops.{IsLooking}
-use Rattle.weave_drive.specs.Progress.{AreCores, AreCursorsOf, IsReading, MakesReady, Visits, reading_left, reading_left_of, unready_of}
+use Rattle.weave_drive.specs.Progress.{AreCores, IsReading, MakesReady, Visits, reading_left, reading_left_of, unready_of}
 use Rattle.weave_drive.proofs.After.{account-after, not-done}
-use Rattle.weave_drive.proofs.Deliveries.{cursors-stay}
-use Rattle.weave_drive.proofs.Driven.{drives-core, drives-none, drives-on, drives-through}
+use Rattle.weave_drive.proofs.Driven.{drives-core, drives-on}
 use Rattle.weave_drive.proofs.Nudging.{still-stamped}
 
 -- One more read
@@ -218,13 +216,12 @@ module _ (laws : LowerLaws) (old new : CoreView) (r home : ℕ) (answer : StepAn
       let many = cores.before.account.shards.as_many in
       ap (λ (a : Account). length (reads_of a r)) is ∙ reads-many r old.state.account.shards s _ (omega (arith, many, inside)) (read-more r (shard_log old.state.account s) reading.begun.stamp v _ _)
 
-  pub visit-ok : (next : List (List ℕ)) → AreCursorsOf old.state.account next → GoesOn old.state.account new.state.account → ((v : Name) → shard_of v old.script.shards < old.script.shards) → answer ≡ Ok → Visits old.script r home old.state.account new.state.account next true
-  visit-ok next cursors on some-shard ok = at (next_visit (reads_of old.state.account r) reading.program) refl
+  pub visit-ok : GoesOn old.state.account new.state.account → ((v : Name) → shard_of v old.script.shards < old.script.shards) → answer ≡ Ok → Visits old.script r home old.state.account new.state.account true
+  visit-ok on some-shard ok = at (next_visit (reads_of old.state.account r) reading.program) refl
     where
-      at : (o : Option Name) → next_visit (reads_of old.state.account r) reading.program ≡ o → Visits old.script r home old.state.account new.state.account next true
+      at : (o : Option Name) → next_visit (reads_of old.state.account r) reading.program ≡ o → Visits old.script r home old.state.account new.state.account true
       at None e = let clash : Ok ≡ Idle = sym ok ∙ answer-by None e in cc
       at (Some v) e = record {
-        cursors_are = cursors-stay old.state.account new.state.account on next cursors;
         less = λ t. (
             let more = visit-more v e ok (some-shard v) in
             let few = few-read v e in
@@ -269,12 +266,11 @@ module _ (laws : LowerLaws) (old new : CoreView) (r home : ℕ) (answer : StepAn
       at None e = let clash : Again s g ≡ Idle = sym again ∙ answer-by None e in cc
       at (Some v) e = by v e (ready-at v) refl
 
-  pub visit-readied : (s : ℕ) (readied : CoreView) (next : List (List ℕ)) → IsAgain s → IsCore old.script readied.state → GoesOn old.state.account readied.state.account → MakesReady old.script home s old.state.account readied.state.account next → Visits old.script r home old.state.account readied.state.account next true
-  visit-readied s readied next again core on made = record {
-    cursors_are = made.cursors_are;
+  pub visit-readied : (s : ℕ) (readied : CoreView) → IsAgain s → IsCore old.script readied.state → GoesOn old.state.account readied.state.account → MakesReady old.script home s old.state.account readied.state.account → Visits old.script r home old.state.account readied.state.account true
+  visit-readied s readied again core on made = record {
     less = λ t. (
         let few = few-read again.v again.next in
-        let shards = one-fewer laws old.script cores.limits old.state.account readied.state.account cores.before.account core.account on reading.begun.stamp s again.gate again.unready (made.ready reading.begun.stamp reading.stamped) old.script.shards again.inside in
+        let shards = one-fewer laws old.script cores.limits old.state.account readied.state.account cores.before.account core.account on reading.begun.stamp s again.gate again.unready (made reading.begun.stamp reading.stamped) old.script.shards again.inside in
         let reads = reads-stay old.script old.state.account readied.state.account cores.before.account core.account on r in
         let was = left-before in
         let now = left-after readied.state.account on in
@@ -283,29 +279,28 @@ module _ (laws : LowerLaws) (old new : CoreView) (r home : ℕ) (answer : StepAn
     whole = λ f. cc;
   }
 
-  pub visit-after : (s : ℕ) (readied : CoreView) (next : List (List ℕ)) → IsAgain s → Drives 0 new readied → MakesReady new.script home s new.state.account readied.state.account next → Visits old.script r home old.state.account readied.state.account next true
-  visit-after s readied next again drives made =
+  pub visit-after : (s : ℕ) (readied : CoreView) → IsAgain s → Drives 0 new readied → MakesReady new.script home s new.state.account readied.state.account → Visits old.script r home old.state.account readied.state.account true
+  visit-after s readied again drives made =
       let core-new : IsCore new.script new.state = subst (λ (k : Script). IsCore k new.state) (sym did.script_is) cores.after in
       let core : IsCore old.script readied.state = subst (λ (k : Script). IsCore k readied.state) did.script_is (drives-core 0 new readied core-new drives) in
       let limits : IsWithinLimits new.script = subst IsWithinLimits (sym did.script_is) cores.limits in
       let on : GoesOn old.state.account readied.state.account = subst (λ (k : CoreState). GoesOn k.account readied.state.account) again.same (drives-on 0 laws new readied limits core-new drives) in
-      visit-readied s readied next again core on
-      (subst (λ (k : CoreState). MakesReady old.script home s k.account readied.state.account next) again.same (subst (λ (k : Script). MakesReady k home s new.state.account readied.state.account next) did.script_is made))
+      visit-readied s readied again core on
+      (subst (λ (k : CoreState). MakesReady old.script home s k.account readied.state.account) again.same (subst (λ (k : Script). MakesReady k home s new.state.account readied.state.account) did.script_is made))
 
   -- any other answer says that there is no next vertex
-  pub visit-whole : (next : List (List ℕ)) → AreCursorsOf old.state.account next → is_other answer ≡ true → Visits old.script r home old.state.account new.state.account next false
-  visit-whole next cursors other = at (next_visit (reads_of old.state.account r) reading.program) refl
+  pub visit-whole : is_other answer ≡ true → Visits old.script r home old.state.account new.state.account false
+  visit-whole other = at (next_visit (reads_of old.state.account r) reading.program) refl
     where
-      by : (v : Name) → next_visit (reads_of old.state.account r) reading.program ≡ Some v → (o : Option ℕ) → ready-at v ≡ o → Visits old.script r home old.state.account new.state.account next false
+      by : (v : Name) → next_visit (reads_of old.state.account r) reading.program ≡ Some v → (o : Option ℕ) → ready-at v ≡ o → Visits old.script r home old.state.account new.state.account false
       by v e None ready = let clash : true ≡ false = sym other ∙ ap is_other (answer-by (Some v) e ∙ ap (again_or_ok (shard_of v old.script.shards)) ready) in cc
       by v e (Some gate) ready = let clash : true ≡ false = sym other ∙ ap is_other (answer-by (Some v) e ∙ ap (again_or_ok (shard_of v old.script.shards)) ready) in cc
 
-      at : (o : Option Name) → next_visit (reads_of old.state.account r) reading.program ≡ o → Visits old.script r home old.state.account new.state.account next false
+      at : (o : Option Name) → next_visit (reads_of old.state.account r) reading.program ≡ o → Visits old.script r home old.state.account new.state.account false
       at (Some v) e = by v e (ready-at v) refl
       at None e =
           let same : new.state ≡ old.state = did.state_is ∙ not-done old.script old.state (Visit r) (ap is_ok (sym did.answer_is ∙ answer-by None e)) in
           record {
-            cursors_are = subst (λ (s : CoreState). AreCursorsOf s.account next) (sym same) cursors;
             less = λ t. cc;
             whole = λ f request program request-is work-is. (
                 let one : Some request ≡ Some reading.request = sym request-is ∙ reading.request_is in
@@ -330,14 +325,6 @@ other-of Repeat not-ok not-again = refl
 other-of Empty not-ok not-again = refl
 other-of (Waits v) not-ok not-again = refl
 
--- The loop
-
-pub looking-none : (old : CoreView) (cursors : List (List ℕ)) → AreCursorsOf old.state.account cursors → IsLooking old old cursors
-looking-none old cursors are = record { drives = drives-none 0 old; cursors_are = are }
-
-pub looking-next : (old middle new : CoreView) (r home : ℕ) (cursors next : List (List ℕ)) (more : Bool) → IsLooking old middle cursors → Drives 0 middle new → Visits middle.script r home middle.state.account new.state.account next more → IsLooking old new next
-looking-next old middle new r home cursors next more before drives v = record { drives = drives-through 0 old middle new before.drives drives; cursors_are = v.cursors_are }
-
 -- with the script at the start
-pub visits-at : (r home : ℕ) (old middle new : CoreView) (next : List (List ℕ)) (more : Bool) → Drives 0 old middle → Visits middle.script r home middle.state.account new.state.account next more → Visits old.script r home middle.state.account new.state.account next more
-visits-at r home old middle new next more d v = subst (λ (s : Script). Visits s r home middle.state.account new.state.account next more) d.script_is v
+pub visits-at : (r home : ℕ) (old middle new : CoreView) (more : Bool) → Drives 0 old middle → Visits middle.script r home middle.state.account new.state.account more → Visits old.script r home middle.state.account new.state.account more
+visits-at r home old middle new more d v = subst (λ (s : Script). Visits s r home middle.state.account new.state.account more) d.script_is v

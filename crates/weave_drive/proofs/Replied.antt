@@ -43,9 +43,8 @@ use Rattle.drive_rules.specs.Heads.{IsQuiet}
 use Rattle.weave_drive.specs.Driving.{AreReplied, Drives, is_driving}
 use Rattle.weave_drive.specs.LowerLaws.{LowerLaws}
 use Rattle.weave_drive.specs.Loops.{AnswersBelow}
-use Rattle.weave_drive.specs.Progress.{AreCores, AreCursorsOf, IsAnswered, IsReading, IsReadWhole}
+use Rattle.weave_drive.specs.Progress.{AreCores, IsAnswered, IsReading, IsReadWhole}
 use Rattle.weave_drive.proofs.After.{account-after, set-other, set-there}
-use Rattle.weave_drive.proofs.Deliveries.{cursors-stay}
 use Rattle.weave_drive.proofs.Driven.{drives-core, drives-on, drives-through}
 use Rattle.weave_drive.proofs.Quiet.{drives-quiet, drives-quiet-at}
 
@@ -309,8 +308,8 @@ module _ (laws : LowerLaws) (script : Script) (limits : IsWithinLimits script) (
 
   -- Answered
 
-  pub answered-next : (old new : Account) (cursors : List (List ℕ)) → GoesOn old new → AreReplied script r old → IsQuiet new → AreCursorsOf new cursors → has_reply new r request ≡ true → (n : ℕ) → n ≡ r + 1 → IsAnswered script n new cursors
-  answered-next old new cursors on replied quiet are has n n-is = record {
+  pub answered-next : (old new : Account) → GoesOn old new → AreReplied script r old → IsQuiet new → has_reply new r request ≡ true → (n : ℕ) → n ≡ r + 1 → IsAnswered script n new
+  answered-next old new on replied quiet has n n-is = record {
     quiet = quiet;
     replied = λ q asked below asked-is. elim (cases_eq q r) [
       | inl same ↦
@@ -319,13 +318,12 @@ module _ (laws : LowerLaws) (script : Script) (limits : IsWithinLimits script) (
           subst (λ k. has_reply new k asked ≡ true) (sym same) (subst (λ (k : Request). has_reply new r k ≡ true) is has)
       | inr other ↦ still-replied old new on q asked (replied q asked (omega (arith, below, other, n-is)) asked-is)
     ];
-    cursors_are = are;
   }
 
 -- One request in its turn
 
 module _ (laws : LowerLaws) (old first : CoreView) (r : ℕ) (request : Request) (request-is : request_at old.script r ≡ Some request) (cores : AreCores old first) (a : StepAnswer) (did : Does (Begin r) old first a)
-    (cursors : List (List ℕ)) (answered : IsAnswered old.script r old.state.account cursors) where
+    (answered : IsAnswered old.script r old.state.account) where
   pub first-begins : Begins laws old.script cores.limits r request request-is first.state.account
   first-begins = subst (λ (s : CoreState). Begins laws old.script cores.limits r request request-is s.account) (sym did.state_is)
       (begun-now laws old.script cores.limits r request request-is old.state cores.before answered.quiet answered.replied)
@@ -351,9 +349,6 @@ module _ (laws : LowerLaws) (old first : CoreView) (r : ℕ) (request : Request)
 
   pub first-on : GoesOn old.state.account first.state.account
   first-on = subst (λ (s : CoreState). GoesOn old.state.account s.account) (sym did.state_is) (laws.goes_on old.script old.state (Begin r) cores.limits (get-inside old.script.requests r request request-is) cores.before)
-
-  pub first-cursors : AreCursorsOf first.state.account cursors
-  first-cursors = cursors-stay old.state.account first.state.account first-on cursors answered.cursors_are
 
   module _ (middle : CoreView) (drives : Drives 0 first middle) where
     middle-on : GoesOn first.state.account middle.state.account
@@ -381,17 +376,16 @@ module _ (laws : LowerLaws) (old first : CoreView) (r : ℕ) (request : Request)
     middle-read look whole = read-when-whole laws old.script cores.limits r request request-is middle.state.account (subst (λ s. IsReadWhole s r middle.state.account) (drives.script_is ∙ did.script_is) whole) look
 
     -- so it has its reply
-    pub last-answered : (last : CoreView) (b : StepAnswer) (next : List (List ℕ)) → IsQuiet middle.state.account → AreCursorsOf middle.state.account next → is_answered middle.state.account r request request.work ≡ true
-        → Does (Reply r) middle last b → Drives 0 middle last → IsAnswered old.script (r + 1) last.state.account next
-    last-answered last b next quiet are ended replied on-drives =
+    pub last-answered : (last : CoreView) (b : StepAnswer) → IsQuiet middle.state.account → is_answered middle.state.account r request request.work ≡ true
+        → Does (Reply r) middle last b → Drives 0 middle last → IsAnswered old.script (r + 1) last.state.account
+    last-answered last b quiet ended replied on-drives =
         let same : middle.script ≡ old.script = drives.script_is ∙ did.script_is in
         let last-is : last.state ≡ state_after old.script middle.state (Reply r) = replied.state_is ∙ ap (λ s. state_after s middle.state (Reply r)) same in
         let step-goes = laws.goes_on old.script middle.state (Reply r) cores.limits (get-inside old.script.requests r request request-is) middle-core in
         let on : GoesOn middle.state.account last.state.account = subst (λ (s : CoreState). GoesOn middle.state.account s.account) (sym last-is) step-goes in
-        answered-next laws old.script cores.limits r request request-is middle.state.account last.state.account next on
+        answered-next laws old.script cores.limits r request request-is middle.state.account last.state.account on
         (λ q asked below asked-is. still-replied first.state.account middle.state.account middle-on q asked (still-replied old.state.account first.state.account first-on q asked (answered.replied q asked below asked-is)))
         (drives-quiet middle last on-drives quiet)
-        (cursors-stay middle.state.account last.state.account on next are)
         (subst (λ (s : CoreState). has_reply s.account r request ≡ true) (sym last-is) (replied-now laws old.script cores.limits r request request-is middle.state middle-core middle-begun ended step-goes))
         (r + 1) refl
 
@@ -401,21 +395,17 @@ begins-below r = lt-ltb r (r + 1) (omega arith)
 
 -- The loop
 
-pub answers-none : (upto : ℕ) (old new : CoreView) (cursors : List (List ℕ)) → Drives upto old new → IsQuiet new.state.account → ((shard gate : ℕ) → slice_index_or (slice_index_or cursors shard []) gate 0 ≡ 0) → AnswersBelow upto 0 old new cursors
-answers-none upto old new cursors drives quiet zeros = record {
+pub answers-from : (upto n : ℕ) (old new : CoreView) → Drives upto old new → IsQuiet new.state.account → AreReplied new.script n new.state.account → AnswersBelow upto n old new
+answers-from upto n old new drives quiet replied = record {
   drives = drives;
-  answered = record {
-    quiet = quiet;
-    replied = λ r request below. absurd (omega (arith, below));
-    cursors_are = λ shard gate n low high. absurd (let zero = zeros shard gate in omega (arith, low, high, zero));
-  };
+  answered = record { quiet = quiet; replied = subst (λ (s : Script). AreReplied s n new.state.account) drives.script_is replied };
 }
 
-pub answers-next : (upto n : ℕ) (old middle new : CoreView) (cursors next : List (List ℕ)) (m : ℕ) → AnswersBelow upto n old middle cursors → Drives upto middle new → IsAnswered middle.script m new.state.account next → AnswersBelow upto m old new next
-answers-next upto n old middle new cursors next m before drives answered = record {
+pub answers-next : (upto n : ℕ) (old middle new : CoreView) (m : ℕ) → AnswersBelow upto n old middle → Drives upto middle new → IsAnswered middle.script m new.state.account → AnswersBelow upto m old new
+answers-next upto n old middle new m before drives answered = record {
   drives = drives-through upto old middle new before.drives drives;
-  answered = subst (λ (s : Script). IsAnswered s m new.state.account next) before.drives.script_is answered;
+  answered = subst (λ (s : Script). IsAnswered s m new.state.account) before.drives.script_is answered;
 }
 
-pub answers-all : (upto n : ℕ) (old new : CoreView) (cursors : List (List ℕ)) → upto ≤ n → AnswersBelow upto n old new cursors → AreReplied old.script upto new.state.account
-answers-all upto n old new cursors all a r request below is = a.answered.replied r request (omega (arith, below, all)) is
+pub answers-all : (upto n : ℕ) (old new : CoreView) → upto ≤ n → AnswersBelow upto n old new → AreReplied old.script upto new.state.account
+answers-all upto n old new all a r request below is = a.answered.replied r request (omega (arith, below, all)) is

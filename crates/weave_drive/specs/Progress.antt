@@ -1,5 +1,5 @@
 -- What the parts of driving reach, and what gets less with each turn of their loops. No public contract cites this.
-use Rattle.std.specs.Prelude.{◌≡◌, ℕ, zero, suc, ◌+◌, ◌-◌, ◌<◌, ◌≤◌, Bool, true, false, List, [], length, All, Contains, IsTrue, is_some, slice_index_or, Option, None, Some, if◌then◌else◌}
+use Rattle.std.specs.Prelude.{◌≡◌, ℕ, zero, suc, ◌+◌, ◌-◌, ◌<◌, ◌≤◌, Bool, true, false, length, Contains, IsTrue, is_some, Option, None, Some, if◌then◌else◌}
 use Rattle.vector_stamp.specs.declared.clock.Stamp.{Stamp}
 use Rattle.vector_stamp.specs.Order.{stamp_before}
 use Rattle.shard_queue.specs.Sent.{sent_as}
@@ -40,23 +40,10 @@ is_known _ = false
 
 -- Deliveries
 
--- the number of a channel, by shard and gatekeeper
-abbrev pub cursor_at : List (List ℕ) → ℕ → ℕ → ℕ
-cursor_at cursors shard gate = slice_index_or (slice_index_or cursors shard []) gate 0
-
--- sixteen shards with eight gatekeepers each
-pub record AreRows (cursors : List (List ℕ)) : Type 0 where
-  pub sixteen : length cursors ≡ 16
-  pub eight : All (λ (row : List ℕ). length row ≡ 8) cursors
-
--- the first messages of a channel have arrived, up to this number
+-- the messages of a channel before this number have arrived
 abbrev pub HaveArrived : Account → ℕ → ℕ → ℕ → Type 0
 HaveArrived account shard gate number =
-    (n : ℕ) → 1 ≤ n → n ≤ number → IsTrue (is_some (arrived_at gate n (shard_log account shard)))
-
--- on each channel the messages up to its cursor have arrived
-abbrev pub AreCursorsOf : Account → List (List ℕ) → Type 0
-AreCursorsOf account cursors = (shard gate : ℕ) → HaveArrived account shard gate (cursor_at cursors shard gate)
+    (n : ℕ) → 1 ≤ n → n < number → IsTrue (is_some (arrived_at gate n (shard_log account shard)))
 
 -- the message of this number was to arrive: it is there, if it was sent
 pub record Delivers (gate shard number : ℕ) (old new : Account) (sent : Bool) : Type 0 where
@@ -64,24 +51,14 @@ pub record Delivers (gate shard number : ℕ) (old new : Account) (sent : Bool) 
   pub sent_is : sent ≡ is_some (sent_as number (channel_of shard (gate_log old gate)))
   pub arrived : IsTrue sent → IsTrue (is_some (arrived_at gate number (shard_log new shard)))
 
--- the message after the cursor has arrived, if it was sent
-pub record DeliversNext (gate shard : ℕ) (old new : Account) (cursors next : List (List ℕ)) (sent : Bool) : Type 0 where
-  pub same_gates : new.gates ≡ old.gates
-  pub cursors_are : AreCursorsOf new next
-  pub on : IsTrue sent → cursor_at next shard gate ≡ cursor_at cursors shard gate + 1
-  pub within : IsTrue sent → cursor_at next shard gate ≤ length (channel_of shard (gate_log old gate))
-  pub all : sent ≡ false → length (channel_of shard (gate_log new gate)) ≤ cursor_at next shard gate
-
 -- all messages of a channel have arrived
-pub record DeliversAll (gate shard : ℕ) (old new : Account) (next : List (List ℕ)) : Type 0 where
+pub record DeliversAll (gate shard : ℕ) (old new : Account) : Type 0 where
   pub same_gates : new.gates ≡ old.gates
-  pub cursors_are : AreCursorsOf new next
-  pub arrived : HaveArrived new shard gate (length (channel_of shard (gate_log new gate)))
+  pub arrived : HaveArrived new shard gate (length (channel_of shard (gate_log new gate)) + 1)
 
 -- all messages to a shard have arrived
-pub record DeliversTo (shard : ℕ) (old new : Account) (next : List (List ℕ)) : Type 0 where
+pub record DeliversTo (shard : ℕ) (old new : Account) : Type 0 where
   pub same_gates : new.gates ≡ old.gates
-  pub cursors_are : AreCursorsOf new next
   pub arrived : AllArrived new shard
 
 -- Applications
@@ -124,10 +101,9 @@ abbrev pub Nudges : ℕ → ℕ → ℕ → Account → Account → Type 0
 Nudges home gate shard old new = (stamp : Stamp) → Contains (stamps_of (gate_log old home)) stamp → IsSentAfter new shard stamp gate
 
 -- the shard is ready for each stamp that the home had made
-pub record MakesReady (script : Script) (home shard : ℕ) (old new : Account) (next : List (List ℕ)) : Type 0 where
-  pub cursors_are : AreCursorsOf new next
-  pub ready : (stamp : Stamp) → Contains (stamps_of (gate_log old home)) stamp
-      → first_unready script.gates stamp (shard_log new shard) ≡ None
+abbrev pub MakesReady : Script → ℕ → ℕ → Account → Account → Type 0
+MakesReady script home shard old new = (stamp : Stamp) → Contains (stamps_of (gate_log old home)) stamp
+    → first_unready script.gates stamp (shard_log new shard) ≡ None
 
 -- Reading
 
@@ -164,15 +140,13 @@ IsReadWhole script r account =
     → next_visit (reads_of account r) program ≡ None
 
 -- a vertex was read, or a shard became ready; or there is no next vertex
-pub record Visits (script : Script) (r home : ℕ) (old new : Account) (next : List (List ℕ)) (more : Bool) : Type 0 where
-  pub cursors_are : AreCursorsOf new next
+pub record Visits (script : Script) (r home : ℕ) (old new : Account) (more : Bool) : Type 0 where
   pub less : IsTrue more → reading_left script r home new < reading_left script r home old
   pub whole : more ≡ false → IsReadWhole script r new
 
 -- Answers
 
 -- no transaction is in flight, and each request below n has its reply
-pub record IsAnswered (script : Script) (n : ℕ) (account : Account) (next : List (List ℕ)) : Type 0 where
+pub record IsAnswered (script : Script) (n : ℕ) (account : Account) : Type 0 where
   pub quiet : IsQuiet account
   pub replied : AreReplied script n account
-  pub cursors_are : AreCursorsOf account next

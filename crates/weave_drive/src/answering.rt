@@ -6,10 +6,9 @@ ghost use Rattle.weave_entries.specs.GateReplay.{flight_of};
 ghost use Rattle.weave_account.specs.Account.{gate_log};
 ghost use Rattle.drive_rules.specs.Heads.{IsQuiet};
 ghost use Rattle.weave_drive.specs.Driving.{AreReplied, Drives, DrivesGates, IsDriven};
-ghost use Rattle.weave_drive.specs.Progress.{AreCursorsOf, IsAnswered, IsReading, IsReadWhole};
+ghost use Rattle.weave_drive.specs.Progress.{IsAnswered, IsReading, IsReadWhole};
 ghost use Rattle.weave_drive.specs.Staying.{ReportStays};
 
-use crate::cursors::Cursors;
 use crate::flights::{end_flight, end_flights};
 use crate::looking::look;
 use crate::lower_laws::the_crates_below_keep_their_laws;
@@ -40,56 +39,46 @@ fn is_change(work: &Work) -> bool
 fn end_request(
     alloc: Global,
     core: &mut Core,
-    cursors: &mut Cursors,
     home: u32,
     request: u32,
     change: bool,
 ) -> Result<(), AllocError>
     requires home { home < core.old.script.gates }
-    requires cursors { AreCursorsOf core.old.state.account cursors.old }
     requires reading { change ≡ false → IsReading core.old.script request home core.old.state.account }
     requires quiet { change ≡ false → IsQuiet core.old.state.account }
     ensures drives { Drives 0 core.old core.new }
     ensures sent { OnOk result (change ≡ true → flight_of (gate_log core.new.state.account home) ≡ None) }
     ensures read { OnOk result (change ≡ false → IsReadWhole core.old.script request core.new.state.account) }
-    ensures cursors { OnOk result (AreCursorsOf core.new.state.account cursors.new) }
 {
-    the_crates_below_keep_their_laws();
-    core.script();
     if change {
         end_flight(alloc, core, home)?;
         return Ok(());
     }
-    look(alloc, core, cursors, home, request)?;
+    look(alloc, core, home, request)?;
     Ok(())
 }
 
 // The request begins, unless it has, and has its reply.
-fn answer(
-    alloc: Global,
-    core: &mut Core,
-    cursors: &mut Cursors,
-    request: u32,
-) -> Result<(), AllocError>
+fn answer(alloc: Global, core: &mut Core, request: u32) -> Result<(), AllocError>
     requires there { request < length core.old.script.requests }
-    requires answered { IsAnswered core.old.script request core.old.state.account cursors.old }
+    requires answered { IsAnswered core.old.script request core.old.state.account }
     ensures drives { Drives (request + 1) core.old core.new }
-    ensures answered { OnOk result
-        (IsAnswered core.old.script (request + 1) core.new.state.account cursors.new) }
+    ensures answered { OnOk result (IsAnswered core.old.script (request + 1) core.new.state.account) }
 {
     the_crates_below_keep_their_laws();
     let found = asked(core, request);
     let home = found.gate;
     let change = is_change(&found.work);
     step(alloc, core, Step::Begin { request })?;
-    end_request(alloc, core, cursors, home, request, change)?;
+    end_request(alloc, core, home, request, change)?;
     step(alloc, core, Step::Reply { request })?;
     Ok(())
 }
 
 /// Drives the core by ordinary steps until each request below `upto` has its reply (Weaver, PVLDB 9(11) 2016).
 ///
-/// It begins no request from `upto` on and raises no epoch, and what the core's report said stays. It ends from each core. The one error is out of memory, and then the core is as some of those steps left it.
+/// It begins no request from `upto` on and raises no epoch, and what the core's report said stays. It ends from each
+/// core. The one error is out of memory, and then the core is as some of those steps left it.
 pub fn drive(alloc: Global, core: &mut Core, upto: u32) -> Result<(), AllocError>
     requires { upto ≤ length core.old.script.requests }
     ensures script { core.new.script ≡ core.old.script }
@@ -103,17 +92,16 @@ pub fn drive(alloc: Global, core: &mut Core, upto: u32) -> Result<(), AllocError
     drive_all(alloc, core, upto)
 }
 
-// Flights end, and then each request in turn has its reply.
+// Flights end, and then each request in turn has its reply, from the first one on that has none.
 fn drive_all(alloc: Global, core: &mut Core, upto: u32) -> Result<(), AllocError>
     requires { upto ≤ length core.old.script.requests }
     ensures drives { Drives upto core.old core.new }
     ensures replied { OnOk result (AreReplied core.old.script upto core.new.state.account) }
 {
-    the_crates_below_keep_their_laws();
     end_flights(alloc, core)?;
-    let mut cursors = Cursors::new();
-    for request in 0..upto {
-        answer(alloc, core, &mut cursors, request)?;
+    let first = core.first_unanswered();
+    for request in first..upto {
+        answer(alloc, core, request)?;
     }
     Ok(())
 }

@@ -1,9 +1,8 @@
 //! Messages that were sent arrive.
-ghost use Rattle.std.specs.Prelude.{◌<◌, ◌≤◌, IfOk, OnOk};
+ghost use Rattle.std.specs.Prelude.{◌≡◌, ◌+◌, ◌<◌, ◌≤◌, IfOk, OnOk};
 ghost use Rattle.weave_drive.specs.Driving.{Drives};
-ghost use Rattle.weave_drive.specs.Progress.{AreCursorsOf, Delivers, DeliversAll, DeliversNext, DeliversTo};
+ghost use Rattle.weave_drive.specs.Progress.{Delivers, DeliversAll, DeliversTo};
 
-use crate::cursors::Cursors;
 use crate::lower_laws::the_crates_below_keep_their_laws;
 use crate::stepping::{is_sent, step};
 use program_defs::Step;
@@ -33,68 +32,45 @@ fn deliver(
     Ok(is_sent(&answer))
 }
 
-// The message after the cursor arrives, if it was sent: whether it was. The cursor goes on with it.
-fn deliver_next(
-    alloc: Global,
-    core: &mut Core,
-    cursors: &mut Cursors,
-    gate: u32,
-    shard: u32,
-) -> Result<bool, AllocError>
+// The number after it. The one error is out of memory: a channel with more messages than numbers can't be kept.
+fn number_after(number: u64) -> Result<u64, AllocError>
+    ensures { IfOk result (λ next. next ≡ number + 1) }
+{
+    if number == u64::MAX {
+        return Err(AllocError);
+    }
+    Ok(number + 1)
+}
+
+// All that the gatekeeper sent to the shard arrives, from the message on that the shard processes next.
+//
+// What has arrived and waits is asked for once more. After a delivery all that arrived is processed, so that is only
+// what waits when driving begins.
+fn deliver_all(alloc: Global, core: &mut Core, gate: u32, shard: u32) -> Result<(), AllocError>
     requires gate { gate < core.old.script.gates }
     requires shard { shard < core.old.script.shards }
-    requires cursors { AreCursorsOf core.old.state.account cursors.old }
     ensures drives { Drives 0 core.old core.new }
-    ensures delivers { IfOk result (DeliversNext gate shard core.old.state.account core.new.state.account
-        cursors.old cursors.new) }
+    ensures delivers { OnOk result (DeliversAll gate shard core.old.state.account core.new.state.account) }
 {
     the_crates_below_keep_their_laws();
     core.script();
-    let number = cursors.next(shard, gate)?;
-    let sent = deliver(alloc, core, gate, shard, number)?;
-    if sent {
-        cursors.set(shard, gate, number);
-        return Ok(true);
+    let mut number = core.next_message(shard, gate);
+    while deliver(alloc, core, gate, shard, number)? {
+        number = number_after(number)?;
     }
-    Ok(false)
-}
-
-// All that the gatekeeper sent to the shard arrives, from the cursor on.
-fn deliver_all(
-    alloc: Global,
-    core: &mut Core,
-    cursors: &mut Cursors,
-    gate: u32,
-    shard: u32,
-) -> Result<(), AllocError>
-    requires gate { gate < core.old.script.gates }
-    requires shard { shard < core.old.script.shards }
-    requires cursors { AreCursorsOf core.old.state.account cursors.old }
-    ensures drives { Drives 0 core.old core.new }
-    ensures delivers { OnOk result
-        (DeliversAll gate shard core.old.state.account core.new.state.account cursors.new) }
-{
-    while deliver_next(alloc, core, cursors, gate, shard)? {}
     Ok(())
 }
 
 // All that was sent to the shard arrives.
-pub(crate) fn deliver_to(
-    alloc: Global,
-    core: &mut Core,
-    cursors: &mut Cursors,
-    shard: u32,
-) -> Result<(), AllocError>
+pub(crate) fn deliver_to(alloc: Global, core: &mut Core, shard: u32) -> Result<(), AllocError>
     requires shard { shard < core.old.script.shards }
-    requires cursors { AreCursorsOf core.old.state.account cursors.old }
     ensures drives { Drives 0 core.old core.new }
-    ensures delivers { OnOk result
-        (DeliversTo shard core.old.state.account core.new.state.account cursors.new) }
+    ensures delivers { OnOk result (DeliversTo shard core.old.state.account core.new.state.account) }
 {
     the_crates_below_keep_their_laws();
     let gates = core.script().gates;
     for gate in 0..gates {
-        deliver_all(alloc, core, cursors, gate, shard)?;
+        deliver_all(alloc, core, gate, shard)?;
     }
     Ok(())
 }

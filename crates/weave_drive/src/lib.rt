@@ -1,11 +1,11 @@
 //! Every request of a script answered, by ordinary steps of a core.
 //!
-//! `drive` goes on from any core until each request below a bound has its reply. It begins no request at or above the bound and raises no epoch; what the core's report said stays.
+//! `drive` goes on from any core until each request below a bound has its reply. It begins no request at or above the
+//! bound and raises no epoch; what the core's report said stays.
 #![tactic(auto)]
 
 mod answering;
 mod applying;
-mod cursors;
 mod delivering;
 mod flights;
 mod looking;

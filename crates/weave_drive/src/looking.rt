@@ -2,9 +2,8 @@
 ghost use Rattle.std.specs.Prelude.{◌<◌, length, IfOk, OnOk};
 ghost use Rattle.drive_rules.specs.Heads.{IsQuiet};
 ghost use Rattle.weave_drive.specs.Driving.{Drives};
-ghost use Rattle.weave_drive.specs.Progress.{AreCursorsOf, IsReading, IsReadWhole, Visits};
+ghost use Rattle.weave_drive.specs.Progress.{IsReading, IsReadWhole, Visits};
 
-use crate::cursors::Cursors;
 use crate::lower_laws::the_crates_below_keep_their_laws;
 use crate::readying::make_ready;
 use crate::stepping::step;
@@ -14,26 +13,18 @@ use std::alloc::{AllocError, Global};
 use weaver_core::Core;
 
 // The program's next vertex is visited, or its shard becomes ready: whether there was one.
-fn visit(
-    alloc: Global,
-    core: &mut Core,
-    cursors: &mut Cursors,
-    home: u32,
-    request: u32,
-) -> Result<bool, AllocError>
+fn visit(alloc: Global, core: &mut Core, home: u32, request: u32) -> Result<bool, AllocError>
     requires reading { IsReading core.old.script request home core.old.state.account }
     requires quiet { IsQuiet core.old.state.account }
-    requires cursors { AreCursorsOf core.old.state.account cursors.old }
     ensures drives { Drives 0 core.old core.new }
-    ensures visits { IfOk result (Visits core.old.script request home core.old.state.account core.new.state.account
-        cursors.new) }
+    ensures visits { IfOk result (Visits core.old.script request home core.old.state.account core.new.state.account) }
 {
     the_crates_below_keep_their_laws();
     core.script();
     match step(alloc, core, Step::Visit { request })? {
         StepAnswer::Ok => Ok(true),
         StepAnswer::Again { shard, .. } => {
-            make_ready(alloc, core, cursors, home, shard)?;
+            make_ready(alloc, core, home, shard)?;
             Ok(true)
         }
         _ => Ok(false),
@@ -44,19 +35,16 @@ fn visit(
 pub(crate) fn look(
     alloc: Global,
     core: &mut Core,
-    cursors: &mut Cursors,
     home: u32,
     request: u32,
 ) -> Result<(), AllocError>
     requires reading { IsReading core.old.script request home core.old.state.account }
     requires quiet { IsQuiet core.old.state.account }
-    requires cursors { AreCursorsOf core.old.state.account cursors.old }
     ensures drives { Drives 0 core.old core.new }
     ensures whole { OnOk result (IsReadWhole core.old.script request core.new.state.account) }
-    ensures cursors { OnOk result (AreCursorsOf core.new.state.account cursors.new) }
 {
     the_crates_below_keep_their_laws();
     core.script();
-    while visit(alloc, core, cursors, home, request)? {}
+    while visit(alloc, core, home, request)? {}
     Ok(())
 }

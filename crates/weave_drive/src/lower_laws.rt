@@ -8,7 +8,8 @@ use drive_rules::laws::{
 use step_rules::laws::steps_keep_the_core;
 use weave_account::laws::{facts_stay_true, requests_end_or_go_on};
 
-// What was sent arrives as it was, no shard is stuck, a nudged shard is ready for good, and a program reads few vertices.
+// What was sent arrives as it was, no shard is stuck, a nudged shard is ready for good, and a program reads few
+// vertices.
 pub(crate) fn the_crates_below_keep_their_laws()
     ensures { LowerLaws }
 {

@@ -2,10 +2,9 @@
 ghost use Rattle.std.specs.Prelude.{◌<◌, ℕ, OnOk};
 ghost use Rattle.drive_rules.specs.Heads.{IsQuiet};
 ghost use Rattle.weave_drive.specs.Driving.{Drives};
-ghost use Rattle.weave_drive.specs.Progress.{AreCursorsOf, MakesReady, Nudges};
+ghost use Rattle.weave_drive.specs.Progress.{MakesReady, Nudges};
 
 use crate::applying::apply_all;
-use crate::cursors::Cursors;
 use crate::delivering::deliver_to;
 use crate::lower_laws::the_crates_below_keep_their_laws;
 use crate::stepping::step;
@@ -13,7 +12,8 @@ use program_defs::Step;
 use std::alloc::{AllocError, Global};
 use weaver_core::Core;
 
-// The gatekeeper hears what the program's one says now, and sends an empty message to the shard, stamped after all that the program's one has stamped.
+// The gatekeeper hears what the program's one says now, and sends an empty message to the shard, stamped after all that
+// the program's one has stamped.
 fn nudge(alloc: Global, core: &mut Core, home: u32, gate: u32, shard: u32) -> Result<(), AllocError>
     requires home { home < core.old.script.gates }
     requires gate { gate < core.old.script.gates }
@@ -51,22 +51,19 @@ fn nudge_all(alloc: Global, core: &mut Core, home: u32, shard: u32) -> Result<()
 pub(crate) fn make_ready(
     alloc: Global,
     core: &mut Core,
-    cursors: &mut Cursors,
     home: u32,
     shard: u32,
 ) -> Result<(), AllocError>
     requires home { home < core.old.script.gates }
     requires shard { shard < core.old.script.shards }
     requires quiet { IsQuiet core.old.state.account }
-    requires cursors { AreCursorsOf core.old.state.account cursors.old }
     ensures drives { Drives 0 core.old core.new }
-    ensures ready { OnOk result (MakesReady core.old.script home shard core.old.state.account core.new.state.account
-        cursors.new) }
+    ensures ready { OnOk result (MakesReady core.old.script home shard core.old.state.account core.new.state.account) }
 {
     the_crates_below_keep_their_laws();
     core.script();
     nudge_all(alloc, core, home, shard)?;
-    deliver_to(alloc, core, cursors, shard)?;
+    deliver_to(alloc, core, shard)?;
     apply_all(alloc, core, shard)?;
     Ok(())
 }

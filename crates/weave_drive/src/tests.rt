@@ -1,7 +1,6 @@
 //! Cores left in hard places by lists of steps, then driven.
 ghost use Rattle.std.specs.Prelude.{IsTrue};
 ghost use Rattle.step_rules.specs.IsCore.{IsStepOf};
-ghost use Rattle.weaver_core.specs.Cores.{IsBuilt};
 
 use crate::drive;
 use graph_ops::Op;
@@ -26,8 +25,19 @@ fn add(
     gate: u32,
     work: Work,
 ) {
+    add_named(rt, requests, name(rt, text), session, gate, work);
+}
+
+fn add_named(
+    rt: &impl Abort,
+    requests: &mut Items<Request>,
+    name: Name,
+    session: u32,
+    gate: u32,
+    work: Work,
+) {
     let request = Request {
-        name: name(rt, text),
+        name,
         session,
         gate,
         work,
@@ -99,9 +109,68 @@ fn chains(rt: &impl Abort, alloc: Global) -> Script {
     }
 }
 
-// Whether the step is one on a request or at a gatekeeper of the script, and built.
+// A letter with a digit.
+fn numbered(rt: &impl Abort, letter: u8, number: u8) -> Name {
+    Name::parse(&[letter, b'0' + number % 10]).expect(rt, "no name")
+}
+
+// Four requests in a row at two of three gatekeepers: a vertex is made and linked to the first one, the first one is
+// shown, both are written, and the first one is searched for.
+fn add_turn(rt: &impl Abort, alloc: Global, requests: &mut Items<Request>, turn: u8) {
+    let v = numbered(rt, b'v', turn);
+    let root = numbered(rt, b'v', 0);
+    let (key, value) = (name(rt, "k"), numbered(rt, b'x', turn));
+    let edge = name(rt, "e");
+    let made = [
+        Op::Create { v },
+        Op::Link {
+            v,
+            edge,
+            target: root,
+        },
+    ];
+    let written = [
+        Op::Set { v, key, value },
+        Op::Set {
+            v: root,
+            key,
+            value,
+        },
+    ];
+    let search = Program::Reach {
+        from: v,
+        to: root,
+        pass: None,
+    };
+    let home = turn as u32 % 3;
+    let other = (turn as u32 + 1) % 3;
+    let (first, second) = (numbered(rt, b'a', turn), numbered(rt, b'b', turn));
+    let (third, last) = (numbered(rt, b'c', turn), numbered(rt, b'd', turn));
+    let shown = Program::Show { v: root };
+    add_named(rt, requests, first, 0, home, change(rt, alloc, &made));
+    add_named(rt, requests, second, 1, other, Work::Look(shown));
+    add_named(rt, requests, third, 2, other, change(rt, alloc, &written));
+    add_named(rt, requests, last, 3, home, Work::Look(search));
+}
+
+// Forty requests, ten turns of four.
+fn turns(rt: &impl Abort, alloc: Global) -> Script {
+    let mut all = Items::new(alloc);
+    for turn in 0..10 {
+        add_turn(rt, alloc, &mut all, turn);
+    }
+    Script {
+        gates: 3,
+        shards: 4,
+        requests: all,
+        phases: Items::new(alloc),
+        steps: None,
+    }
+}
+
+// Whether the step is one on a request, at a gatekeeper or at a shard of the script.
 fn is_step_of(script: &Script, step: &Step) -> bool
-    ensures { IsTrue result → IsStepOf script.now step.now × IsBuilt script.now step.now }
+    ensures { IsTrue result → IsStepOf script.now step.now }
 {
     let requests = script.requests.as_slice();
     match *step {
@@ -118,7 +187,7 @@ fn is_step_of(script: &Script, step: &Step) -> bool
         } => gate < script.gates && shard < script.shards && 1 <= number,
         Step::Apply { shard, gate } => shard < script.shards && gate < script.gates,
         Step::Epoch { gate, epoch } => gate < script.gates && 1 <= epoch && epoch <= 1_000_000,
-        _ => false,
+        Step::Collect { shard } => shard < script.shards,
     }
 }
 
@@ -142,6 +211,13 @@ fn drive_to(rt: &impl Abort, alloc: Global, core: &mut Core, upto: u32) {
         panic!(rt; "no such request");
     }
     drive(alloc, core, upto).expect(rt, "no memory");
+}
+
+// The core is driven on by two requests at a time, until forty have their replies.
+fn drive_by_two(rt: &impl Abort, alloc: Global, core: &mut Core) {
+    for phase in 0..20 {
+        drive_to(rt, alloc, core, 2 * phase + 2);
+    }
 }
 
 // The report, which is right.
@@ -195,7 +271,8 @@ fn stays(before: &Report, after: &Report) -> bool {
     before.pairs.as_slice().len() <= after.pairs.as_slice().len()
 }
 
-// The core is left by the steps and driven: requests below the bound have their replies, what the report said stays, and then all have.
+// The core is left by the steps and driven: requests below the bound have their replies, what the report said stays,
+// and then all have.
 fn driven(rt: &impl Abort, alloc: Global, steps: &[Step], upto: u32) {
     let mut core = left_by(rt, alloc, chains(rt, alloc), steps);
     let before = right_report(rt, alloc, &core);
@@ -256,6 +333,18 @@ fn from_the_start(rt: HostRuntime) {
     assert_eq!(rt; begun_requests(&report), 4);
     drive_to(&rt, alloc, &mut core, 9);
     assert_eq!(rt; final_replies(&right_report(&rt, alloc, &core)), 9);
+}
+
+// Twenty phases of two requests, and then the same requests at once.
+#[test]
+fn phases_and_at_once(rt: HostRuntime) {
+    let alloc = rt.alloc();
+    let mut core = left_by(&rt, alloc, turns(&rt, alloc), &[]);
+    drive_by_two(&rt, alloc, &mut core);
+    assert_eq!(rt; final_replies(&right_report(&rt, alloc, &core)), 40);
+    let mut other = left_by(&rt, alloc, turns(&rt, alloc), &[]);
+    drive_to(&rt, alloc, &mut other, 40);
+    assert_eq!(rt; final_replies(&right_report(&rt, alloc, &other)), 40);
 }
 
 // Transactions in flight: one without its verdict, one with it, and one above the bound.

@@ -1,21 +1,20 @@
 use Rattle.std.proofs.Common.{refl, ap, arith}
 use Rattle.program_defs.specs.declared.script.Script.{Script}
-use Rattle.weave_drive.proofs.Deliveries.{cursors-stay}
 use Rattle.weave_drive.proofs.Driven.{drives-on, drives-through}
 use Rattle.weave_drive.proofs.Quiet.{drives-quiet}
 use Rattle.weave_drive.proofs.Reading.{other-of, shard-there, visit-after, visit-again, visit-ok, visit-whole}
 use Rattle.weave_drive.proofs.Replied.{get-inside}
 use Rattle.weave_drive.proofs.looking.visit.Goals as goal
 
-pub step-requires-clause-there : goal.step-requires-clause-there
-step-requires-clause-there c = get-inside c.args.core.now.script.requests c.args.request c.requires.reading.request c.requires.reading.request_is
+pub step-requires : goal.step-requires
+step-requires c = get-inside c.args.core.now.script.requests c.args.request c.requires.reading.request c.requires.reading.request_is
 
 pub returns-in-Ok-clause-visits : goal.returns-in-Ok-clause-visits
 returns-in-Ok-clause-visits c =
     let laws = c.the_crates_below_keep_their_laws.ensures in
     let old = c.args.core.now in
     let on = drives-on 0 laws old c.step.new.core c.script.ensures.limits c.script.ensures.core (c.step.ensures.drives 0 refl) in
-    visit-ok laws old c.step.new.core c.args.request c.args.home _ c.in_ok-step.ensures.cores c.requires.reading c.in_ok-step.ensures.done c.args.cursors.now c.requires.cursors on (shard-there old.script c.script.ensures.limits) c.in-Ok.is
+    visit-ok laws old c.step.new.core c.args.request c.args.home _ c.in_ok-step.ensures.cores c.requires.reading c.in_ok-step.ensures.done on (shard-there old.script c.script.ensures.limits) c.in-Ok.is
 
 pub make_ready-requires-clause-home : goal.make_ready-requires-clause-home
 make_ready-requires-clause-home c =
@@ -34,12 +33,6 @@ make_ready-requires-clause-shard c =
 pub make_ready-requires-clause-quiet : goal.make_ready-requires-clause-quiet
 make_ready-requires-clause-quiet c = drives-quiet c.args.core.now c.step.new.core (c.step.ensures.drives 0 refl) c.requires.quiet
 
-pub make_ready-requires-clause-cursors : goal.make_ready-requires-clause-cursors
-make_ready-requires-clause-cursors c =
-    cursors-stay c.args.core.now.state.account c.step.new.core.state.account
-    (drives-on 0 c.the_crates_below_keep_their_laws.ensures c.args.core.now c.step.new.core c.script.ensures.limits c.script.ensures.core (c.step.ensures.drives 0 refl))
-    c.args.cursors.now c.requires.cursors
-
 pub returns-in_err-make_ready-in-Again-clause-drives : goal.returns-in_err-make_ready-in-Again-clause-drives
 returns-in_err-make_ready-in-Again-clause-drives c = drives-through 0 c.args.core.now c.step.new.core c.make_ready.new.core (c.step.ensures.drives 0 refl) c.make_ready.ensures.drives
 
@@ -51,8 +44,8 @@ returns-in_ok-make_ready-in-Again-clause-visits c =
     let laws = c.the_crates_below_keep_their_laws.ensures in
     let old = c.args.core.now in
     let again = visit-again laws old c.step.new.core c.args.request c.args.home _ c.in_ok-step.ensures.cores c.requires.reading c.in_ok-step.ensures.done c.in-Again.shard _ (shard-there old.script c.script.ensures.limits) c.in-Again.is in
-    visit-after laws old c.step.new.core c.args.request c.args.home _ c.in_ok-step.ensures.cores c.requires.reading c.in_ok-step.ensures.done c.in-Again.shard c.make_ready.new.core c.make_ready.new.cursors again c.make_ready.ensures.drives c.in_ok-make_ready-in-Again.ensures.ready
+    visit-after laws old c.step.new.core c.args.request c.args.home _ c.in_ok-step.ensures.cores c.requires.reading c.in_ok-step.ensures.done c.in-Again.shard c.make_ready.new.core again c.make_ready.ensures.drives c.in_ok-make_ready-in-Again.ensures.ready
 
 pub returns-in_default-clause-visits : goal.returns-in_default-clause-visits
 returns-in_default-clause-visits c =
-    visit-whole c.the_crates_below_keep_their_laws.ensures c.args.core.now c.step.new.core c.args.request c.args.home _ c.in_ok-step.ensures.cores c.requires.reading c.in_ok-step.ensures.done c.args.cursors.now c.requires.cursors (other-of _ c.in_default.not-Ok c.in_default.not-Again)
+    visit-whole c.the_crates_below_keep_their_laws.ensures c.args.core.now c.step.new.core c.args.request c.args.home _ c.in_ok-step.ensures.cores c.requires.reading c.in_ok-step.ensures.done (other-of _ c.in_default.not-Ok c.in_default.not-Again)

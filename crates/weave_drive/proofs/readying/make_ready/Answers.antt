@@ -1,23 +1,15 @@
 use Rattle.std.proofs.Common.{refl, ap, arith}
 use Rattle.program_defs.specs.declared.script.Script.{Script}
-use Rattle.weave_drive.proofs.Deliveries.{cursors-stay}
-use Rattle.weave_drive.proofs.Driven.{drives-core, drives-on, drives-through}
+use Rattle.weave_drive.proofs.Driven.{drives-core, drives-through}
 use Rattle.weave_drive.proofs.Quiet.{drives-quiet}
-use Rattle.weave_drive.proofs.Going.{step-on}
 use Rattle.weave_drive.proofs.Nudging.{ready-made}
 use Rattle.weave_drive.proofs.readying.make_ready.Goals as goal
 
-pub deliver_to-requires-clause-shard : goal.deliver_to-requires-clause-shard
-deliver_to-requires-clause-shard c =
+pub deliver_to-requires : goal.deliver_to-requires
+deliver_to-requires c =
     let inside = c.requires.shard in
     let still = ap (λ (s : Script). s.shards) c.nudge_all.ensures.drives.script_is in
     omega (arith, inside, still)
-
-pub deliver_to-requires-clause-cursors : goal.deliver_to-requires-clause-cursors
-deliver_to-requires-clause-cursors c =
-    cursors-stay c.args.core.now.state.account c.nudge_all.new.core.state.account
-    (drives-on 0 c.the_crates_below_keep_their_laws.ensures c.args.core.now c.nudge_all.new.core c.script.ensures.limits c.script.ensures.core c.nudge_all.ensures.drives)
-    c.args.cursors.now c.requires.cursors
 
 pub returns-in_err-deliver_to-clause-drives : goal.returns-in_err-deliver_to-clause-drives
 returns-in_err-deliver_to-clause-drives c = drives-through 0 c.args.core.now c.nudge_all.new.core c.deliver_to.new.core c.nudge_all.ensures.drives c.deliver_to.ensures.drives
@@ -52,7 +44,6 @@ returns-clause-ready c =
     let old = c.args.core.now in
     let before = drives-through 0 old c.nudge_all.new.core c.deliver_to.new.core c.nudge_all.ensures.drives c.deliver_to.ensures.drives in
     let whole = drives-through 0 old c.deliver_to.new.core c.apply_all.new.core before c.apply_all.ensures.drives in
-    ready-made laws old.script old.state.account c.nudge_all.new.core.state.account c.deliver_to.new.core.state.account c.apply_all.new.core.state.account c.deliver_to.new.cursors c.args.home c.args.shard c.script.ensures.limits
+    ready-made laws old.script old.state.account c.nudge_all.new.core.state.account c.deliver_to.new.core.state.account c.apply_all.new.core.state.account c.args.home c.args.shard c.script.ensures.limits
     c.apply_all.new.core.state refl (drives-core 0 old c.apply_all.new.core c.script.ensures.core whole)
-    (step-on 0 0 laws old c.deliver_to.new.core c.apply_all.new.core c.script.ensures.limits c.script.ensures.core before c.apply_all.ensures.drives)
     c.in_ok-nudge_all.ensures.nudges c.in_ok-deliver_to.ensures.delivers c.in_ok-apply_all.ensures.applies
