@@ -1,8 +1,7 @@
--- The printed report of a plain run tells a right report.
-use Rattle.std.proofs.Common.{◌≡◌, ℕ, ◌≤◌, false, List, [], ◌∷◌, ◌++◌, length, refl, sym, ap, ◌∙◌, subst, append_assoc}
+-- The printed report of a run tells a right report.
+use Rattle.std.proofs.Common.{◌≡◌, ℕ, ◌≤◌, List, [], ◌∷◌, ◌++◌, length, refl, sym, ap, ◌∙◌, subst, append_assoc}
 use Rattle.program_defs.specs.declared.script.Script.{Script}
 use Rattle.report_rules.specs.declared.report.Report.{Report}
-use Rattle.report_rules.specs.PlainRun.{IsPlainScript, plain_report}
 use Rattle.report_rules.specs.Lookups.{EveryReplyIsFinal}
 use Rattle.report_rules.specs.ReportOf.{IsReportOf}
 use Rattle.report_rules.specs.RightReport.{IsRightReport}
@@ -10,14 +9,12 @@ use Rattle.report_rules.specs.Meetings.{MeetingsAreOrdered, PhasesAreKept}
 use Rattle.report_rules.specs.PrintedOrder.{IsPrintedOrder}
 use Rattle.weave_report.specs.ReportText.{report_text}
 use Rattle.weave_script.specs.ScriptLines.{IsTextOf}
-use Rattle.weaver_top.specs.Built.{is_unbuilt}
 use Rattle.weave_report.specs.TextOf.{IsReportTextOf}
 use Rattle.weave_script.specs.CheckText.{IsCheckTextOf}
 use Rattle.weaver_top.specs.Acceptance.{IsAcceptedByCheck}
 use Rattle.weaver_top.specs.Answers.{TellsRun}
-use Rattle.weaver_top.specs.Headlines.{TellsRightReport}
 
--- what the laws say of the plain run's report
+-- what the laws say of the report of a run
 pub record IsWellRun (script : Script) (report : Report) : Type 0 where
   pub of_script : IsReportOf script report
   pub right : IsRightReport script report
@@ -26,25 +23,6 @@ pub record IsWellRun (script : Script) (report : Report) : Type 0 where
   pub phases : PhasesAreKept script report
   pub final : EveryReplyIsFinal report
   pub no_steps : report.answers ≡ []
-
--- the printed text of such a report is what the headline asks for
-pub tells : (input : List ℕ) (script : Script) (report : Report) (text : List ℕ) → length input ≤ 4194304 → IsTextOf input script → is_unbuilt script ≡ false → report ≡ plain_report script.requests → text ≡ report_text script report → IsWellRun script (plain_report script.requests) → TellsRightReport input text
-tells input script report text is_short is_text built is printed run =
-    record {
-      input_is_short = is_short;
-      script = script;
-      input_is_its_text = is_text;
-      built = built;
-      report = plain_report script.requests;
-      report_is_of_script = run.of_script;
-      report_is_right = run.right;
-      order_is_printed_order = run.in_order;
-      meetings_are_ordered = run.meetings;
-      phases_are_kept = run.phases;
-      every_reply_is_final = run.final;
-      no_steps = run.no_steps;
-      text_is_printed = printed ∙ ap (report_text script) is;
-    }
 
 -- a text of a report, after a text of its script
 abbrev pub FollowScripts : Type 0
@@ -65,10 +43,22 @@ accepted follow input text script report is_text is_report right front ends shor
     }
 
 -- all that is promised of what `run` writes
-pub run_told : (input : List ℕ) (script : Script) (report : Report) (text : List ℕ) → length input ≤ 4194304 → IsTextOf input script → is_unbuilt script ≡ false → IsPlainScript script → report ≡ plain_report script.requests → text ≡ report_text script report → IsWellRun script (plain_report script.requests) → IsAcceptedByCheck input text → TellsRun input text
-run_told input script report text is_short is_text built plain is printed run accept =
+pub run_told : (input : List ℕ) (script : Script) (report : Report) (text : List ℕ) → length input ≤ 4194304 → IsTextOf input script → text ≡ report_text script report → IsWellRun script report → IsAcceptedByCheck input text → TellsRun input text
+run_told input script report text is_short is_text printed run accept =
     record {
-      right_report = tells input script report text is_short is_text built is printed run;
-      in_script_order = record { script = script; input_is_its_text = is_text; plain = plain; text_is_printed = printed ∙ ap (report_text script) is };
+      right_report = record {
+        input_is_short = is_short;
+        script = script;
+        input_is_its_text = is_text;
+        report = report;
+        report_is_of_script = run.of_script;
+        report_is_right = run.right;
+        order_is_printed_order = run.in_order;
+        meetings_are_ordered = run.meetings;
+        phases_are_kept = run.phases;
+        every_reply_is_final = run.final;
+        no_steps = run.no_steps;
+        text_is_printed = printed;
+      };
       accepted_by_check = accept;
     }

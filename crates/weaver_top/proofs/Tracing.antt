@@ -1,6 +1,6 @@
--- The steps of a valid script that `trace` takes, and what is told of their report.
-use Rattle.std.proofs.Common.{◌≡◌, ℕ, zero, suc, ◌<◌, ◌≤◌, true, false, not, List, [], ◌∷◌, length, refl, subst, arith}
-use Rattle.std.specs.List.{AllByRecursion, list_any}
+-- The steps of a valid script, and what is told of their report.
+use Rattle.std.proofs.Common.{◌≡◌, ℕ, ◌<◌, ◌≤◌, List, [], ◌∷◌, length, refl, subst}
+use Rattle.std.specs.List.{AllByRecursion}
 use Rattle.program_defs.specs.declared.script.Script.{Script}
 use Rattle.program_defs.specs.declared.script.Step.{Step}
 use Rattle.program_defs.specs.declared.script.Step.TheVariants.{Begin, Judge, Send, Say, Hear, Nop, Deliver, Apply, Visit, Reply, Collect, Epoch}
@@ -20,11 +20,8 @@ use Rattle.weave_account.specs.Report.{IsReportOfAccount}
 use Rattle.weave_report.specs.ReportText.{report_text}
 use Rattle.weave_script.specs.ScriptLines.{IsTextOf}
 use Rattle.weave_script.specs.Scripts.{IsScript, IsStep, steps_of}
-use Rattle.weaver_core.specs.Cores.{IsBuilt}
 use Rattle.weaver_top.specs.Acceptance.{IsAcceptedByCheck}
 use Rattle.weaver_top.specs.Answers.{TellsTraceAccepted}
-use Rattle.weaver_top.specs.Built.{is_taken_step, is_unbuilt_for_trace}
-use Rattle.weaver_top.proofs.Plain.{built_parts}
 
 -- a step in a script is one of the script
 there : (script : Script) (step : Step) → IsStep script.gates script.shards (length script.requests) step → IsStepOf script step
@@ -48,31 +45,6 @@ all_there script (step ∷ steps) each = (there script step each.0, all_there sc
 -- each step of a valid script is one of the script
 pub steps_there : (script : Script) → IsScript script → AllByRecursion (IsStepOf script) (steps_of script.steps)
 steps_there script is = all_there script (steps_of script.steps) is.steps
-
--- each step that `trace` takes is built
-one_built : (script : Script) (step : Step) → not (is_taken_step step) ≡ false → IsBuilt script step
-one_built script (Begin r) taken = tt
-one_built script (Judge gate) taken = tt
-one_built script (Send gate) taken = tt
-one_built script (Say gate) taken = tt
-one_built script (Hear gate notice) taken = tt
-one_built script (Nop gate shard) taken = tt
-one_built script (Deliver gate shard number) taken = tt
-one_built script (Apply shard gate) taken = tt
-one_built script (Visit r) taken = tt
-one_built script (Reply r) taken = tt
-one_built script (Collect shard) taken = absurd (cc)
-one_built script (Epoch gate epoch) taken = tt
-
-all_built : (script : Script) (steps : List Step) → list_any (λ (step : Step). not (is_taken_step step)) steps ≡ false → AllByRecursion (IsBuilt script) steps
-all_built script [] taken = tt
-all_built script (step ∷ steps) taken =
-    let parts = built_parts _ _ taken in
-    (one_built script step parts.0, all_built script steps parts.1)
-
--- and so is each step of a script that `trace` takes
-pub steps_built : (script : Script) → is_unbuilt_for_trace script ≡ false → AllByRecursion (IsBuilt script) (steps_of script.steps)
-steps_built script taken = all_built script (steps_of script.steps) taken
 
 -- an order of replies and pairs
 abbrev pub AreOfRepliesAndPairs : Type 0
@@ -111,14 +83,13 @@ pub record IsWellTraced (script : Script) (report : Report) : Type 0 where
   pub meetings : MeetingsAreOrdered script report
 
 -- all that is promised of what `trace` writes
-pub trace_told : (input : List ℕ) (script : Script) (report : Report) (text : List ℕ) → length input ≤ 4194304 → IsTextOf input script → is_unbuilt_for_trace script ≡ false → text ≡ report_text script report → IsWellTraced script report → IsAcceptedByCheck input text → TellsTraceAccepted input text
-trace_told input script report text short is_text built printed trace accept =
+pub trace_told : (input : List ℕ) (script : Script) (report : Report) (text : List ℕ) → length input ≤ 4194304 → IsTextOf input script → text ≡ report_text script report → IsWellTraced script report → IsAcceptedByCheck input text → TellsTraceAccepted input text
+trace_told input script report text short is_text printed trace accept =
     record {
       traced = record {
         input_is_short = short;
         script = script;
         input_is_its_text = is_text;
-        built = built;
         report = report;
         by_steps = trace.by_steps;
         answers_of_steps = trace.answers;

@@ -1,21 +1,21 @@
 -- What a command answers to an input, before it is written.
-use Rattle.std.specs.Prelude.{◌≡◌, ◌⊎◌, ℕ, Bool, true, false, IsTrue, List}
+use Rattle.std.specs.Prelude.{◌≡◌, ◌⊎◌, ℕ, Bool, true, false, IsTrue, List, [], Some, if◌then◌else◌}
 use Rattle.weave_io.specs.Told.{Told, Appends, AppendsPrefix}
 use Rattle.weaver_top.specs.declared.answer.Answer.{Answer}
 use Rattle.weaver_top.specs.declared.command.Command.{Command}
-use Rattle.weaver_top.specs.declared.command.Command.TheVariants.{Run, Check, Trace}
+use Rattle.weaver_top.specs.declared.command.Command.TheVariants.{Run, Check, Trace, Load}
 use Rattle.weaver_top.specs.declared.status.Status.{Status}
 use Rattle.weaver_top.specs.declared.status.Status.TheVariants.{Done, Refused, Write, NotRight}
 use Rattle.weaver_top.specs.Acceptance.{IsAcceptedByCheck}
+use Rattle.weaver_top.specs.Commands.{reads_input}
 use Rattle.weaver_top.specs.Headlines.{TellsRightReport, TellsTrace, TellsYes}
+use Rattle.weaver_top.specs.Loads.{TellsLoad}
 use Rattle.weaver_top.specs.Refusals.{TellsRefusal}
-use Rattle.weaver_top.specs.ScriptOrder.{TellsRunInScriptOrder}
 use Rattle.weaver_top.specs.VerdictLines.{TellsNo}
 
--- the text is a right report for the script in the input, of its run in script order, and `check` says so
+-- the text is a right report for the script in the input, and `check` says so
 pub record TellsRun (input text : List ℕ) : Type 0 where
   pub right_report : TellsRightReport input text
-  pub in_script_order : TellsRunInScriptOrder input text
   pub accepted_by_check : IsAcceptedByCheck input text
 
 -- the text is the report of the steps of the script in the input, and `check` says that it is right
@@ -28,12 +28,14 @@ abbrev pub TellsDone : Command → List ℕ → List ℕ → Type 0
 TellsDone Run input text = TellsRun input text
 TellsDone Check input text = TellsYes input text
 TellsDone Trace input text = TellsTraceAccepted input text
+TellsDone (Load seed size) input text = TellsLoad seed size text
 
 -- or when it ends because a report isn't right
 abbrev pub TellsNotRight : Command → List ℕ → List ℕ → Type 0
 TellsNotRight Run input text = ⊥
 TellsNotRight Check input text = TellsNo input text
 TellsNotRight Trace input text = ⊥
+TellsNotRight (Load seed size) input text = ⊥
 
 -- the text is what the command has to write for the input when it ends with this status
 abbrev pub TellsAt : Command → Status → List ℕ → List ℕ → Type 0
@@ -47,13 +49,18 @@ abbrev pub is_judging : Command → Bool
 is_judging Run = false
 is_judging Check = true
 is_judging Trace = false
+is_judging (Load seed size) = false
 
 -- the command can end with this status and its text written
 abbrev pub can_end : Command → Status → Bool
 can_end command Done = true
-can_end command Refused = true
+can_end command Refused = reads_input command
 can_end command NotRight = is_judging command
 can_end command status = false
+
+-- what is known of the command's input: what the source has left. `load` reads nothing, so its input is empty
+abbrev pub input_told : Command → Told → Told
+input_told command left = if reads_input command then left else Some []
 
 -- the text is what the command has to write for the input
 abbrev pub TellsAnswer : Command → List ℕ → List ℕ → Type 0

@@ -1,10 +1,13 @@
 pub mod Commands
 pub mod Statuses
-pub mod Built
 pub mod Headlines
 pub mod VerdictLines
 pub mod Refusals
-pub mod ScriptOrder
 pub mod Acceptance
+pub mod Summaries
+pub mod Loads
+pub mod LoadProgress
+pub mod LoadLaws
 pub mod Answers
-pub mod RunProgress
+pub mod PhaseByPhase
+pub mod LowerLaws

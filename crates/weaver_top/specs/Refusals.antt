@@ -1,5 +1,5 @@
 -- What a command writes for an input that it refuses. It is said once, over what differs between the commands.
-use Rattle.std.specs.Prelude.{◌≡◌, ◌≤◌, ◌⊎◌, ℕ, Bool, true, false, List, [], ◌∷◌, ◌++◌, length, codes, Result, Err}
+use Rattle.std.specs.Prelude.{◌≡◌, ◌≤◌, ℕ, List, [], ◌∷◌, ◌++◌, length, codes, Result, Ok, Err}
 use Rattle.std.specs.Fmt.{decimal}
 use Rattle.program_defs.specs.declared.script.Script.{Script}
 use Rattle.report_rules.specs.declared.report.Report.{Report}
@@ -8,46 +8,47 @@ use Rattle.weave_script.specs.CheckText.{IsCheckTextOf}
 use Rattle.weave_script.specs.CheckReading.{check_text}
 use Rattle.weave_script.specs.ReadText.{Fault, read_text}
 use Rattle.weave_script.specs.ScriptLines.{IsTextOf}
-use Rattle.weaver_top.specs.Built.{is_unbuilt, is_unbuilt_for_trace}
 use Rattle.weaver_top.specs.declared.command.Command.{Command}
-use Rattle.weaver_top.specs.declared.command.Command.TheVariants.{Run, Check, Trace}
+use Rattle.weaver_top.specs.declared.command.Command.TheVariants.{Run, Check, Trace, Load}
 
--- what a command reads: the values, when bytes are a text of one, which values the command doesn't take yet, and the value or first fault of each text
+-- what a command reads: the values, when bytes are a text of one, and the value or first fault of each text
 pub record InputKind : Type 1 where
   pub Value : Type 0
   pub IsText : List ℕ → Value → Type 0
-  pub is_unbuilt : Value → Bool
   pub read : List ℕ → Result Value Fault
 
 -- `run` reads a script
 abbrev pub run_input : InputKind
-run_input = record { Value = Script; IsText = IsTextOf; is_unbuilt = is_unbuilt; read = read_text }
+run_input = record { Value = Script; IsText = IsTextOf; read = read_text }
 
--- `check` reads a script and then a report for it, and takes each
+-- `check` reads a script and then a report for it
 abbrev pub check_input : InputKind
 check_input = record {
   Value = Script × Report;
   IsText = λ input both. IsCheckTextOf input both.0 both.1;
-  is_unbuilt = λ both. false;
   read = check_text;
 }
 
 -- `trace` reads a script
 abbrev pub trace_input : InputKind
-trace_input = record { Value = Script; IsText = IsTextOf; is_unbuilt = is_unbuilt_for_trace; read = read_text }
+trace_input = record { Value = Script; IsText = IsTextOf; read = read_text }
+
+-- `load` reads nothing: its input is empty
+abbrev pub load_input : InputKind
+load_input = record { Value = Unit {0}; IsText = λ input value. input ≡ []; read = λ input. Ok tt }
 
 -- what a command reads
 abbrev pub input_of : Command → InputKind
 input_of Run = run_input
 input_of Check = check_input
 input_of Trace = trace_input
+input_of (Load seed size) = load_input
 
--- the input isn't too long, and is a text of a value that the command takes
+-- the input isn't too long, and is a text of a value
 pub record CanBeTaken (kind : InputKind) (input : List ℕ) : Type 0 where
   pub input_is_short : length input ≤ 4194304
   pub value : kind.Value
   pub input_is_its_text : kind.IsText input value
-  pub built : kind.is_unbuilt value ≡ false
 
 -- the line for an input that is refused: the number of a line, or 0 for the whole input, and the cause
 abbrev pub refusal_line : ℕ → List ℕ → List ℕ
@@ -60,17 +61,9 @@ pub record TellsFault (kind : InputKind) (input text : List ℕ) : Type 0 where
   pub is_first : kind.read input ≡ Err fault
   pub line : text ≡ refusal_line fault.line (cause_text fault.cause)
 
--- the input is a text of a value that the command doesn't take yet, and the text says so
-pub record TellsUnbuilt (kind : InputKind) (input text : List ℕ) : Type 0 where
-  pub not_taken : ¬ CanBeTaken kind input
-  pub input_is_short : length input ≤ 4194304
-  pub value : kind.Value
-  pub input_is_its_text : kind.IsText input value
-  pub unbuilt : kind.is_unbuilt value ≡ true
-  pub line : text ≡ refusal_line 0 (codes "unbuilt")
-
--- the text says why the command refuses the input: by its first fault, or, of `run` and `trace`, since it doesn't take the script yet
+-- the text says why the command refuses the input: by its first fault. `load` refuses nothing.
 abbrev pub TellsRefusal : Command → List ℕ → List ℕ → Type 0
-TellsRefusal Run input text = TellsFault run_input input text ⊎ TellsUnbuilt run_input input text
+TellsRefusal Run input text = TellsFault run_input input text
 TellsRefusal Check input text = TellsFault check_input input text
-TellsRefusal Trace input text = TellsFault trace_input input text ⊎ TellsUnbuilt trace_input input text
+TellsRefusal Trace input text = TellsFault trace_input input text
+TellsRefusal (Load seed size) input text = ⊥

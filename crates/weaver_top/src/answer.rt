@@ -1,10 +1,12 @@
 //! What a command answers to an input.
-ghost use Rattle.std.specs.Prelude.{◌≡◌, ◌≤◌, ◌<◌, ℕ, List, length, IfOk};
+ghost use Rattle.std.specs.Prelude.{◌≡◌, ◌≤◌, ◌<◌, ℕ, true, List, length, IfOk};
 ghost use Rattle.weaver_top.specs.Answers.{IsAnswerTo};
+ghost use Rattle.weaver_top.specs.Commands.{IsSized, reads_input};
 ghost use Rattle.weaver_top.specs.Refusals.{refusal_line};
 
 use crate::check_command::verdict_on;
 use crate::command::Command;
+use crate::load_command::load_on;
 use crate::run_command::report_on;
 use crate::status::Status;
 use crate::trace_command::trace_on;
@@ -19,22 +21,24 @@ pub(crate) struct Answer {
     pub(crate) text: Vec<u8>,
 }
 
-/// What the command answers to an input that was read whole.
+/// What the command answers to an input that was read whole. That of `load` plays no part.
 pub(crate) fn answer_to(alloc: Global, command: Command, input: &[u8]) -> Result<Answer, AllocError>
-    requires { length input.now ≤ 4194304 }
+    requires short { length input.now ≤ 4194304 }
+    requires sized { IsSized command }
     ensures { IfOk result (IsAnswerTo command input.now) }
 {
     match command {
         Command::Run => report_on(alloc, input),
         Command::Check => verdict_on(alloc, input),
         Command::Trace => trace_on(alloc, input),
+        Command::Load { seed, size } => load_on(alloc, seed, size),
     }
 }
 
 /// Says that the input is too long.
 pub(crate) fn too_long(alloc: Global) -> Result<Answer, AllocError>
     ensures answer { IfOk result (λ answer. (command : Command) (input : List ℕ)
-        → 4194304 < length input → IsAnswerTo command input answer) }
+        → reads_input command ≡ true → 4194304 < length input → IsAnswerTo command input answer) }
     ensures refused { IfOk result (λ answer. answer.status ≡ Status.Refused) }
 {
     refusal(alloc, 0, Cause::TooLong.text())

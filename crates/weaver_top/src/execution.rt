@@ -1,24 +1,25 @@
 //! All that a command does, but for threads.
-ghost use Rattle.std.specs.Prelude.{◌≡◌, ◌≢◌, ◌⊎◌, ◌↔◌, [], map, string_bytes, IsTrue, Err, None, IfOk, OnOk, IfSome};
+ghost use Rattle.std.specs.Prelude.{◌≡◌, ◌≢◌, ◌⊎◌, ◌↔◌, ℕ, false, [], map, string_bytes, IsTrue, Err, None, IfOk, OnOk, IfSome};
 ghost use Rattle.weave_io.specs.Counts.{Rose};
 ghost use Rattle.weave_io.specs.Told.{IsReadWhole, KeepsWritten, Tells, TakesAtMost, Writes, WritesPrefix};
 ghost use Rattle.weaver_top.specs.Acceptance.{IsAcceptedByCheck};
-ghost use Rattle.weaver_top.specs.Answers.{Delivers, IsAnswerTo, TellsAnswer, can_end};
-ghost use Rattle.weaver_top.specs.Commands.{Asks, command_of};
+ghost use Rattle.weaver_top.specs.Answers.{Delivers, IsAnswerTo, TellsAnswer, can_end, input_told};
+ghost use Rattle.weaver_top.specs.Commands.{Asks, IsSized, command_of, reads_input};
 ghost use Rattle.weaver_top.specs.Headlines.{TellsRightReport, TellsTrace, TellsYes};
+ghost use Rattle.weaver_top.specs.Loads.{WritesLoad, WritesLoadPrefix};
 ghost use Rattle.weaver_top.specs.Refusals.{CanBeTaken, TellsRefusal, check_input, run_input, trace_input};
-ghost use Rattle.weaver_top.specs.ScriptOrder.{TellsRunInScriptOrder};
 ghost use Rattle.weaver_top.specs.VerdictLines.{TellsNo};
 
 use crate::answer::{Answer, answer_to, too_long};
-use crate::command::{Command, command_of};
+use crate::command::{Command, command_of, reads_input};
 use crate::status::Status;
 use std::alloc::Global;
 use weave_io::{ReadFault, Sink, Source, read_all, write_all};
 
 /// Runs the command of the command line: `run` reads a script to the end of the source, runs it, and writes its report
 /// to the sink; `trace` does the script's steps instead, and writes their report; `check` reads a script and then a
-/// report, and writes whether the report is right.
+/// report, and writes whether the report is right. `load` reads nothing: it makes a script, does its steps, answers
+/// every request, and writes a summary of the report.
 ///
 /// It has no runtime, so it can't wait, and always returns.
 pub fn execute<S: Source, K: Sink>(
@@ -37,11 +38,13 @@ pub fn execute<S: Source, K: Sink>(
     ensures no { result ≡ Status.NotRight
         → Asks (map string_bytes words.now) Command.Check
         × Writes TellsNo (S.left source.old) (K.written sink.old) (K.written sink.new) }
-    ensures all_is_read { (result ≡ Status.Done) ⊎ (result ≡ Status.NotRight) → Tells (S.left source.new) [] }
+    ensures loaded { (seed size : ℕ) → Asks (map string_bytes words.now) (Command.Load seed size)
+        → result ≡ Status.Done → WritesLoad seed size (K.written sink.old) (K.written sink.new) }
+    ensures all_is_read { (command : Command) → Asks (map string_bytes words.now) command
+        → IsTrue (reads_input command) → (result ≡ Status.Done) ⊎ (result ≡ Status.NotRight)
+        → Tells (S.left source.new) [] }
 
-    // What `run` does beside: it runs in script order, and `check` accepts its report.
-    ensures in_script_order { Asks (map string_bytes words.now) Command.Run → result ≡ Status.Done
-        → Writes TellsRunInScriptOrder (S.left source.old) (K.written sink.old) (K.written sink.new) }
+    // What `run` does beside: `check` accepts its report.
     ensures accepted_by_check { Asks (map string_bytes words.now) Command.Run → result ≡ Status.Done
         → Writes IsAcceptedByCheck (S.left source.old) (K.written sink.old) (K.written sink.new) }
 
@@ -54,13 +57,18 @@ pub fn execute<S: Source, K: Sink>(
     ensures read { result ≡ Status.Read → Rose (S.faults source.old) (S.faults source.new) }
     ensures refused { (command : Command) → Asks (map string_bytes words.now) command → result ≡ Status.Refused
         → Writes (TellsRefusal command) (S.left source.old) (K.written sink.old) (K.written sink.new) }
+    ensures input_refused { (command : Command) → Asks (map string_bytes words.now) command
+        → result ≡ Status.Refused → IsTrue (reads_input command) }
     ensures write { result ≡ Status.Write →
         Rose (K.faults sink.old) (K.faults sink.new) ⊎ Rose (K.stalls sink.old) (K.stalls sink.new) }
     ensures prefix { (command : Command) → Asks (map string_bytes words.now) command → result ≡ Status.Write
         → WritesPrefix (TellsAnswer command) (S.left source.old) (K.written sink.old) (K.written sink.new) }
+    ensures load_prefix { (seed size : ℕ) → Asks (map string_bytes words.now) (Command.Load seed size)
+        → result ≡ Status.Write → WritesLoadPrefix seed size (K.written sink.old) (K.written sink.new) }
 
     // Reading comes before writing, and a stall ends the writing.
-    ensures read_first { (result ≡ Status.Refused) ⊎ (result ≡ Status.Write)
+    ensures read_first { (command : Command) → Asks (map string_bytes words.now) command
+        → IsTrue (reads_input command) → (result ≡ Status.Refused) ⊎ (result ≡ Status.Write)
         → IsReadWhole (S.left source.old) (S.left source.new) }
     ensures without_stall { (result ≡ Status.Done) ⊎ (result ≡ Status.NotRight) ⊎ (result ≡ Status.Refused)
         → K.stalls sink.new ≡ K.stalls sink.old }
@@ -68,7 +76,9 @@ pub fn execute<S: Source, K: Sink>(
     // When nothing is written, and nothing read.
     ensures nothing_written { (result ≡ Status.Words) ⊎ (result ≡ Status.Read) ⊎ (result ≡ Status.Memory)
         → K.written sink.new ≡ K.written sink.old }
-    ensures nothing_read { result ≡ Status.Words → S.left source.new ≡ S.left source.old }
+    ensures nothing_read { result ≡ Status.Words → source.new ≡ source.old }
+    ensures load_reads_nothing { (seed size : ℕ) → Asks (map string_bytes words.now) (Command.Load seed size)
+        → source.new ≡ source.old }
     ensures read_in_time { result ≡ Status.Read → TakesAtMost (S.left source.old) (S.left source.new) 4194304 }
     ensures rest { TakesAtMost (S.left source.old) (S.left source.new) 4194305 }
     ensures written_stays { KeepsWritten (K.written sink.old) (K.written sink.new) }
@@ -92,6 +102,12 @@ pub fn execute<S: Source, K: Sink>(
         → ¬ Rose (K.stalls sink.old) (K.stalls sink.new)
         → IfSome (S.left source.old) (λ input. CanBeTaken trace_input input
         → (result ≡ Status.Done) ⊎ (result ≡ Status.Memory)) }
+
+    // `load` refuses nothing: it gets its answer, unless writing fails, or memory runs out.
+    ensures all_loaded { (seed size : ℕ) → Asks (map string_bytes words.now) (Command.Load seed size)
+        → ¬ Rose (K.faults sink.old) (K.faults sink.new)
+        → ¬ Rose (K.stalls sink.old) (K.stalls sink.new)
+        → (result ≡ Status.Done) ⊎ (result ≡ Status.Memory) }
 {
     let Some(command) = command_of(words) else {
         return Status::Words;
@@ -103,12 +119,44 @@ pub fn execute<S: Source, K: Sink>(
     }
 }
 
-// Reads the input, and finds out what is to be written.
+// Reads the input, if the command has one, and finds out what is to be written.
 fn prepare<S: Source>(
     alloc: Global,
     command: Command,
     source: &mut S,
 ) -> Result<Answer, PrepareError>
+    requires { IsSized command }
+    ensures fits { IfOk result (λ answer. IfSome (input_told command (S.left source.old))
+        (λ input. IsAnswerTo command input answer)) }
+    ensures ends { IfOk result (λ answer. IsTrue (can_end command answer.status)) }
+    ensures all_is_read { IsTrue (reads_input command) → IfOk result (λ answer.
+        (answer.status ≡ Status.Done) ⊎ (answer.status ≡ Status.NotRight) → Tells (S.left source.new) []) }
+    ensures read { result ≡ Err PrepareError.Read → Rose (S.faults source.old) (S.faults source.new) }
+    ensures read_in_time { result ≡ Err PrepareError.Read
+        → TakesAtMost (S.left source.old) (S.left source.new) 4194304 }
+    ensures read_first { IsTrue (reads_input command)
+        → OnOk result (IsReadWhole (S.left source.old) (S.left source.new)) }
+    ensures rest { TakesAtMost (S.left source.old) (S.left source.new) (4194305) }
+    ensures unread { reads_input command ≡ false
+        → (source.new ≡ source.old) × (result ≢ Err PrepareError.Read) }
+{
+    if reads_input(command) {
+        return prepare_from_input(alloc, command, source);
+    }
+    match answer_to(alloc, command, &[]) {
+        Ok(answer) => Ok(answer),
+        Err(_) => Err(PrepareError::Memory),
+    }
+}
+
+// Reads the input of a command that has one, and finds out what is to be written.
+fn prepare_from_input<S: Source>(
+    alloc: Global,
+    command: Command,
+    source: &mut S,
+) -> Result<Answer, PrepareError>
+    requires sized { IsSized command }
+    requires reads { IsTrue (reads_input command) }
     ensures fits { IfOk result (λ answer. IfSome (S.left source.old) (λ input. IsAnswerTo command input answer)) }
     ensures ends { IfOk result (λ answer. IsTrue (can_end command answer.status)) }
     ensures all_is_read { IfOk result (λ answer. (answer.status ≡ Status.Done) ⊎ (answer.status ≡ Status.NotRight)

@@ -3,20 +3,28 @@
 //! `execute` finds the command, reads the input whole, and writes one text: `run` reads a script from the input, runs
 //! it and writes its report; `trace` reads a script, does its steps one after another, and writes their report; `check`
 //! reads a script and a report after it, and writes whether the report is right for the script. It judges every script
-//! and report that can be read. `weave` is `execute` with a runtime, for threads to come.
+//! and report that can be read. `load` reads nothing: it makes a script, does its steps, answers every request, and
+//! writes a summary of the report. `weave` is `execute` with a runtime, for threads to come.
 #![tactic(auto)]
 
 mod answer;
-mod built;
 mod check_command;
 #[cfg(test)]
 mod check_tests;
 mod command;
 mod execution;
+mod load_command;
+mod load_laws;
+#[cfg(test)]
+mod load_tests;
+mod lower_laws;
 mod pace;
-mod plain_run;
+mod phases;
 mod run_command;
+#[cfg(test)]
+mod run_tests;
 mod status;
+mod summary;
 #[cfg(test)]
 mod tests;
 mod top_call;

@@ -10,7 +10,7 @@ pub enum Status {
     Done,
     /// The source failed. Nothing is written.
     Read,
-    /// The input is too long, not in the grammar, or not built yet. `refused LINE CAUSE` is written.
+    /// The input is too long or not in the grammar. `refused LINE CAUSE` is written.
     Refused,
     /// The sink failed, or took nothing. A prefix of the text is written.
     Write,

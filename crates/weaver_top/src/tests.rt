@@ -149,7 +149,7 @@ fn is_refused<R: Threads + Wait + Sync>(
 }
 
 // Inputs that `run` refuses, and the line.
-const REFUSED: [(&str, &str); 19] = [
+const REFUSED: [(&str, &str); 17] = [
     ("", "refused 1 header\n"),
     ("# nothing\n\n", "refused 3 header\n"),
     ("weaver 1 9 1\n", "refused 1 gatekeepers\n"),
@@ -176,8 +176,6 @@ const REFUSED: [(&str, &str); 19] = [
     ),
     ("weaver 1 1 1\ntx  t1 0 0\n", "refused 2 line\n"),
     ("weaver 1 1 1\nreport 1\n", "refused 2 line\n"),
-    ("weaver 1 2 1\n", "refused 0 unbuilt\n"),
-    ("weaver 1 1 1\nprog p 0 0 show v\n", "refused 0 unbuilt\n"),
 ];
 
 #[test]

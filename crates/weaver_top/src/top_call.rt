@@ -1,13 +1,13 @@
 //! The top call.
-ghost use Rattle.std.specs.Prelude.{◌≡◌, ◌⊎◌, ◌↔◌, [], map, string_bytes, None, IfSome};
+ghost use Rattle.std.specs.Prelude.{◌≡◌, ◌⊎◌, ◌↔◌, ℕ, [], map, string_bytes, IsTrue, None, IfSome};
 ghost use Rattle.weave_io.specs.Counts.{Rose};
 ghost use Rattle.weave_io.specs.Told.{IsReadWhole, KeepsWritten, Tells, TakesAtMost, Writes, WritesPrefix};
 ghost use Rattle.weaver_top.specs.Acceptance.{IsAcceptedByCheck};
 ghost use Rattle.weaver_top.specs.Answers.{TellsAnswer};
-ghost use Rattle.weaver_top.specs.Commands.{Asks, command_of};
+ghost use Rattle.weaver_top.specs.Commands.{Asks, command_of, reads_input};
 ghost use Rattle.weaver_top.specs.Headlines.{TellsRightReport, TellsTrace, TellsYes};
+ghost use Rattle.weaver_top.specs.Loads.{WritesLoad, WritesLoadPrefix};
 ghost use Rattle.weaver_top.specs.Refusals.{CanBeTaken, TellsRefusal, check_input, run_input, trace_input};
-ghost use Rattle.weaver_top.specs.ScriptOrder.{TellsRunInScriptOrder};
 ghost use Rattle.weaver_top.specs.VerdictLines.{TellsNo};
 
 use crate::command::Command;
@@ -39,11 +39,13 @@ pub fn weave<R: Threads + Wait + Sync, S: Source, K: Sink, P: Pace>(
     ensures no { result ≡ Status.NotRight
         → Asks (map string_bytes words.now) Command.Check
         × Writes TellsNo (S.left source.old) (K.written sink.old) (K.written sink.new) }
-    ensures all_is_read { (result ≡ Status.Done) ⊎ (result ≡ Status.NotRight) → Tells (S.left source.new) [] }
+    ensures loaded { (seed size : ℕ) → Asks (map string_bytes words.now) (Command.Load seed size)
+        → result ≡ Status.Done → WritesLoad seed size (K.written sink.old) (K.written sink.new) }
+    ensures all_is_read { (command : Command) → Asks (map string_bytes words.now) command
+        → IsTrue (reads_input command) → (result ≡ Status.Done) ⊎ (result ≡ Status.NotRight)
+        → Tells (S.left source.new) [] }
 
-    // What `run` does beside: it runs in script order, and `check` accepts its report.
-    ensures in_script_order { Asks (map string_bytes words.now) Command.Run → result ≡ Status.Done
-        → Writes TellsRunInScriptOrder (S.left source.old) (K.written sink.old) (K.written sink.new) }
+    // What `run` does beside: `check` accepts its report.
     ensures accepted_by_check { Asks (map string_bytes words.now) Command.Run → result ≡ Status.Done
         → Writes IsAcceptedByCheck (S.left source.old) (K.written sink.old) (K.written sink.new) }
 
@@ -56,13 +58,18 @@ pub fn weave<R: Threads + Wait + Sync, S: Source, K: Sink, P: Pace>(
     ensures read { result ≡ Status.Read → Rose (S.faults source.old) (S.faults source.new) }
     ensures refused { (command : Command) → Asks (map string_bytes words.now) command → result ≡ Status.Refused
         → Writes (TellsRefusal command) (S.left source.old) (K.written sink.old) (K.written sink.new) }
+    ensures input_refused { (command : Command) → Asks (map string_bytes words.now) command
+        → result ≡ Status.Refused → IsTrue (reads_input command) }
     ensures write { result ≡ Status.Write →
         Rose (K.faults sink.old) (K.faults sink.new) ⊎ Rose (K.stalls sink.old) (K.stalls sink.new) }
     ensures prefix { (command : Command) → Asks (map string_bytes words.now) command → result ≡ Status.Write
         → WritesPrefix (TellsAnswer command) (S.left source.old) (K.written sink.old) (K.written sink.new) }
+    ensures load_prefix { (seed size : ℕ) → Asks (map string_bytes words.now) (Command.Load seed size)
+        → result ≡ Status.Write → WritesLoadPrefix seed size (K.written sink.old) (K.written sink.new) }
 
     // Reading comes before writing, and a stall ends the writing.
-    ensures read_first { (result ≡ Status.Refused) ⊎ (result ≡ Status.Write)
+    ensures read_first { (command : Command) → Asks (map string_bytes words.now) command
+        → IsTrue (reads_input command) → (result ≡ Status.Refused) ⊎ (result ≡ Status.Write)
         → IsReadWhole (S.left source.old) (S.left source.new) }
     ensures without_stall { (result ≡ Status.Done) ⊎ (result ≡ Status.NotRight) ⊎ (result ≡ Status.Refused)
         → K.stalls sink.new ≡ K.stalls sink.old }
@@ -70,7 +77,9 @@ pub fn weave<R: Threads + Wait + Sync, S: Source, K: Sink, P: Pace>(
     // When nothing is written, and nothing read.
     ensures nothing_written { (result ≡ Status.Words) ⊎ (result ≡ Status.Read) ⊎ (result ≡ Status.Memory)
         → K.written sink.new ≡ K.written sink.old }
-    ensures nothing_read { result ≡ Status.Words → S.left source.new ≡ S.left source.old }
+    ensures nothing_read { result ≡ Status.Words → source.new ≡ source.old }
+    ensures load_reads_nothing { (seed size : ℕ) → Asks (map string_bytes words.now) (Command.Load seed size)
+        → source.new ≡ source.old }
     ensures read_in_time { result ≡ Status.Read → TakesAtMost (S.left source.old) (S.left source.new) 4194304 }
     ensures rest { TakesAtMost (S.left source.old) (S.left source.new) 4194305 }
     ensures written_stays { KeepsWritten (K.written sink.old) (K.written sink.new) }
@@ -94,6 +103,12 @@ pub fn weave<R: Threads + Wait + Sync, S: Source, K: Sink, P: Pace>(
         → ¬ Rose (K.stalls sink.old) (K.stalls sink.new)
         → IfSome (S.left source.old) (λ input. CanBeTaken trace_input input
         → (result ≡ Status.Done) ⊎ (result ≡ Status.Memory)) }
+
+    // `load` refuses nothing: it gets its answer, unless writing fails, or memory runs out.
+    ensures all_loaded { (seed size : ℕ) → Asks (map string_bytes words.now) (Command.Load seed size)
+        → ¬ Rose (K.faults sink.old) (K.faults sink.new)
+        → ¬ Rose (K.stalls sink.old) (K.stalls sink.new)
+        → (result ≡ Status.Done) ⊎ (result ≡ Status.Memory) }
 {
     let _ = rt;
     let _ = pace;

@@ -1,17 +1,14 @@
 //! What `trace` answers to an input.
-ghost use Rattle.std.specs.Prelude.{◌≡◌, ◌≤◌, ◌<◌, ℕ, false, List, length, slice_get, Some, IfOk, OnOk};
+ghost use Rattle.std.specs.Prelude.{◌≡◌, ◌≤◌, ◌<◌, ℕ, List, length, slice_get, Some, IfOk, OnOk};
 ghost use Rattle.std.specs.List.{AllByRecursion};
 ghost use Rattle.step_rules.specs.CoreState.{start_state};
 ghost use Rattle.step_rules.specs.IsCore.{IsStepOf};
 ghost use Rattle.step_rules.specs.Trace.{trace_of};
 ghost use Rattle.weave_script.specs.Scripts.{IsScript, steps_of};
 ghost use Rattle.weave_script.specs.ScriptLines.{IsTextOf};
-ghost use Rattle.weaver_core.specs.Cores.{IsBuilt};
 ghost use Rattle.weaver_top.specs.Answers.{IsAnswerTo, TellsTraceAccepted};
-ghost use Rattle.weaver_top.specs.Built.{is_unbuilt_for_trace};
 
 use crate::answer::{Answer, refusal};
-use crate::built::has_untaken_step;
 use crate::command::Command;
 use crate::status::Status;
 use program_defs::{Script, Step};
@@ -28,7 +25,7 @@ use weave_script::{
 };
 use weaver_core::Core;
 
-/// Reads the script, does its steps if `trace` takes it, and prints their report; or says why the input is refused.
+/// Reads the script, does its steps, and prints their report; or says why the input is refused.
 pub(crate) fn trace_on(alloc: Global, input: &[u8]) -> Result<Answer, AllocError>
     requires { length input.now ≤ 4194304 }
     ensures { IfOk result (IsAnswerTo Command.Trace input.now) }
@@ -42,26 +39,21 @@ pub(crate) fn trace_on(alloc: Global, input: &[u8]) -> Result<Answer, AllocError
     }
 }
 
-// Does the steps of the script if `trace` takes it.
+// Does the steps of the script.
 fn answer_for(alloc: Global, script: Script) -> Result<Answer, AllocError>
     requires { IsScript script }
     ensures { IfOk result (λ answer. (input : List ℕ)
         → length input ≤ 4194304 → IsTextOf input script → IsAnswerTo Command.Trace input answer) }
 {
-    texts_are_of_one_script();
-    if has_untaken_step(&script) {
-        return refusal(alloc, 0, b"unbuilt");
-    }
     Ok(Answer {
         status: Status::Done,
         text: report_of(alloc, script)?,
     })
 }
 
-// Does the steps of a script that is built, and prints their report.
+// Does the steps of a script, and prints their report.
 fn report_of(alloc: Global, script: Script) -> Result<Vec<u8>, AllocError>
-    requires valid { IsScript script }
-    requires built { is_unbuilt_for_trace script ≡ false }
+    requires { IsScript script }
     ensures { IfOk result (λ text. (input : List ℕ)
         → length input ≤ 4194304 → IsTextOf input script → TellsTraceAccepted input text.items) }
 {
@@ -80,11 +72,10 @@ fn report_of(alloc: Global, script: Script) -> Result<Vec<u8>, AllocError>
     Ok(text)
 }
 
-// Does the steps of the core's script, one after another, and gives their answers.
-fn traced(alloc: Global, core: &mut Core) -> Result<Items<StepAnswer>, AllocError>
+/// Does the steps of the core's script, one after another, and gives their answers.
+pub(crate) fn traced(alloc: Global, core: &mut Core) -> Result<Items<StepAnswer>, AllocError>
     requires start { core.old.state ≡ start_state core.old.script }
     requires steps { AllByRecursion (IsStepOf core.old.script) (steps_of core.old.script.steps) }
-    requires built { AllByRecursion (IsBuilt core.old.script) (steps_of core.old.script.steps) }
     ensures script { OnOk result (core.new.script ≡ core.old.script) }
     ensures state { OnOk result (core.new.state ≡ (trace_of core.old.script (steps_of core.old.script.steps)).state) }
     ensures answers { IfOk result (λ answers. answers

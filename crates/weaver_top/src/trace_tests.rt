@@ -301,11 +301,110 @@ fn programs_step_by_step(rt: HostRuntime) -> Result<(), Fail> {
     Ok(())
 }
 
-// What `trace` refuses: a collection, and what is wrong with a script, as `run` says it.
+// Collections of old versions.
+const COLLECTIONS: [(&str, &str); 3] = [
+    // While a program runs a collection leaves what it may still read.
+    (
+        "weaver 1 1 1\ntx t1 0 0\ncreate v\nlink v e w\ncreate w\nend\nprog p 1 0 reach v w\ntx t2 0 0\ndelete w\nend\nsteps\nbegin t1\njudge 0\nsend 0\nreply t1\nbegin p\nbegin t2\njudge 0\nsend 0\ndeliver 0 0 1\ndeliver 0 0 2\napply 0 0\napply 0 0\nvisit p\ncollect 0\nvisit p\nreply p\nnop 0 0\ndeliver 0 0 3\napply 0 0\ncollect 0\n",
+        "report 1\ntx t1 0:0:1 committed 1\nprog p 0:0:2 done yes\ntx t2 0:0:3 committed 2\norder t1 p t2\ndid 1 ok\ndid 2 ok\ndid 3 ok\ndid 4 ok\ndid 5 ok\ndid 6 ok\ndid 7 ok\ndid 8 ok\ndid 9 ok\ndid 10 ok\ndid 11 ok\ndid 12 ok\ndid 13 ok\ndid 14 ok\ndid 15 ok\ndid 16 ok\ndid 17 ok\ndid 18 ok\ndid 19 ok\ndid 20 ok\nend\n",
+    ),
+    // A low mark holds the bound back for a program that has read nothing yet; what is kept is read after the next collection.
+    (
+        "weaver 1 1 1\ntx t1 0 0\ncreate v\nend\nprog p 1 0 show v\ntx t2 0 0\nset v k x\nend\ntx t3 0 0\nset v k y\nend\nprog q 2 0 show v\nsteps\nbegin t1\njudge 0\nsend 0\nreply t1\nbegin p\nbegin t2\njudge 0\nsend 0\nreply t2\nbegin t3\njudge 0\nsend 0\ndeliver 0 0 1\ndeliver 0 0 2\ndeliver 0 0 3\napply 0 0\napply 0 0\napply 0 0\ncollect 0\nvisit p\nreply p\nnop 0 0\ndeliver 0 0 4\napply 0 0\ncollect 0\nbegin q\nnop 0 0\ndeliver 0 0 5\nvisit q\nreply q\n",
+        "report 1\ntx t1 0:0:1 committed 1\nprog p 0:0:2 done record\ntx t2 0:0:3 committed 2\ntx t3 0:0:4 committed 3\nprog q 0:0:6 done record k=y\norder t1 p t2 t3 q\ndid 1 ok\ndid 2 ok\ndid 3 ok\ndid 4 ok\ndid 5 ok\ndid 6 ok\ndid 7 ok\ndid 8 ok\ndid 9 ok\ndid 10 ok\ndid 11 ok\ndid 12 ok\ndid 13 ok\ndid 14 ok\ndid 15 ok\ndid 16 ok\ndid 17 ok\ndid 18 ok\ndid 19 ok\ndid 20 ok\ndid 21 ok\ndid 22 ok\ndid 23 ok\ndid 24 ok\ndid 25 ok\ndid 26 ok\ndid 27 ok\ndid 28 ok\ndid 29 ok\ndid 30 ok\nend\n",
+    ),
+    // Nothing of the second gatekeeper was processed.
+    (
+        "weaver 1 2 1\ntx t1 0 0\ncreate v\nend\nsteps\nbegin t1\njudge 0\nsend 0\ndeliver 0 0 1\napply 0 0\ncollect 0\n",
+        "report 1\ntx t1 0:0:1,0 committed 1\norder t1\ndid 1 ok\ndid 2 ok\ndid 3 ok\ndid 4 ok\ndid 5 ok\ndid 6 ok\nend\n",
+    ),
+];
+
+#[test]
+fn collections(rt: HostRuntime) -> Result<(), Fail> {
+    assert_eq!(rt; rows_traced(&rt, rt.alloc(), COLLECTIONS.as_slice())?, 3);
+    Ok(())
+}
+
+// The requests of a phase: a transaction that sets a property, and a program that shows it.
+fn add_phase_requests(text: &mut Vec<u8>, number: u32) -> Result<(), AllocError> {
+    let lines = format!(in *text.allocator();
+        "tx t{number} 0 0\nset v k x{number}\nend\nprog p{number} 1 0 show v\n"
+    )?;
+    text.extend_from_slice(lines.as_str().as_bytes())
+}
+
+// The steps of a phase. The messages of its transaction and of its gatekeeper after it have the numbers 2n + 2, 2n + 3.
+fn add_phase_steps(text: &mut Vec<u8>, number: u32, collects: bool) -> Result<(), AllocError> {
+    let first = number.wrapping_mul(2).wrapping_add(2);
+    let second = first.wrapping_add(1);
+    let lines = format!(in *text.allocator();
+        "begin t{number}\njudge 0\nsend 0\nreply t{number}\nbegin p{number}\nnop 0 0\ndeliver 0 0 {first}\ndeliver 0 0 {second}\napply 0 0\napply 0 0\nvisit p{number}\nreply p{number}\n"
+    )?;
+    text.extend_from_slice(lines.as_str().as_bytes())?;
+    if collects {
+        text.extend_from_slice(b"collect 0\n")?;
+    }
+    Ok(())
+}
+
+// A vertex that changes in fifty phases and is shown in each, with a collection at the end of each or without.
+fn fifty_phases(alloc: Global, collects: bool) -> Result<Vec<u8>, AllocError> {
+    let mut text = Vec::from_slice(alloc, b"weaver 1 1 1\ntx t 0 0\ncreate v\nend\n")?;
+    for number in 0..50 {
+        add_phase_requests(&mut text, number)?;
+    }
+    text.extend_from_slice(
+        b"steps\nbegin t\njudge 0\nsend 0\nreply t\ndeliver 0 0 1\napply 0 0\n",
+    )?;
+    for number in 0..50 {
+        add_phase_steps(&mut text, number, collects)?;
+    }
+    Ok(text)
+}
+
+// The lines of a report but for the answers of steps.
+fn without_answers(alloc: Global, report: &[u8]) -> Result<Vec<u8>, AllocError> {
+    let mut lines = Vec::new(alloc);
+    for line in report.split(|byte| *byte == b'\n') {
+        if !line.starts_with(b"did ") {
+            lines.extend_from_slice(line)?;
+            lines.push(b'\n')?;
+        }
+    }
+    Ok(lines)
+}
+
+// What `trace` writes of the fifty phases, without the answers of steps.
+fn phases_traced<R: Threads + Wait + Sync>(
+    rt: &R,
+    alloc: Global,
+    collects: bool,
+) -> Result<Vec<u8>, AllocError> {
+    let script = fifty_phases(alloc, collects)?;
+    let (_status, report) = call(rt, alloc, &["trace"], script.as_slice(), HONEST)?;
+    without_answers(alloc, report.as_slice())
+}
+
+#[test]
+fn collections_change_no_report(rt: HostRuntime) -> Result<(), Fail> {
+    let plain = phases_traced(&rt, rt.alloc(), false)?;
+    let collected = phases_traced(&rt, rt.alloc(), true)?;
+    assert!(rt; plain.as_slice() == collected.as_slice());
+    assert!(rt;
+        plain
+            .as_slice()
+            .starts_with(b"report 1\ntx t 0:0:1 committed 1\n")
+    );
+    assert!(rt; plain.as_slice().ends_with(b" t49 p49\nend\n\n"));
+    Ok(())
+}
+
+// What `trace` refuses: what is wrong with a script, as `run` says it.
 const REFUSED: [(&str, &str); 5] = [
     (
-        "weaver 1 1 1\nsteps\nsay 0\ncollect 0\n",
-        "refused 0 unbuilt\n",
+        "weaver 1 1 1\nsteps\nsay 0\ncollect 1\n",
+        "refused 4 shard\n",
     ),
     ("weaver 1 1 1\nsteps\nbegin t1\n", "refused 3 request\n"),
     ("weaver 1 1 1\nsteps\njudge 1\n", "refused 3 gatekeeper\n"),

@@ -8,27 +8,25 @@ use Rattle.step_rules.specs.Trace.{trace_of}
 use Rattle.weave_report.specs.ReportText.{report_text}
 use Rattle.weave_report.specs.TextOf.{IsReportTextOf}
 use Rattle.weave_script.specs.Scripts.{steps_of}
-use Rattle.weaver_core.specs.Cores.{IsBuilt}
 use Rattle.weaver_top.proofs.Headline.{accepted}
-use Rattle.weaver_top.proofs.Tracing.{IsWellTraced, account_of_steps, report_of_steps, steps_built, steps_there, trace_told}
+use Rattle.weaver_top.proofs.Tracing.{IsWellTraced, account_of_steps, report_of_steps, steps_there, trace_told}
 use Rattle.weaver_top.proofs.trace_command.report_of.Goals as goal
 
 pub start-requires : goal.start-requires
-start-requires c = c.scripts_are_small.ensures.limits c.args.script c.requires.valid
+start-requires c = c.scripts_are_small.ensures.limits c.args.script c.requires
 
 pub traced-requires : goal.traced-requires
 traced-requires c =
     let same = sym c.in_ok-core.ensures.script in
     record {
       start = c.in_ok-core.ensures.state ∙ ap start_state same;
-      steps = subst (λ s. AllByRecursion (IsStepOf s) (steps_of s.steps)) same (steps_there c.args.script c.requires.valid);
-      built = subst (λ s. AllByRecursion (IsBuilt s) (steps_of s.steps)) same (steps_built c.args.script c.requires.built);
+      steps = subst (λ s. AllByRecursion (IsStepOf s) (steps_of s.steps)) same (steps_there c.args.script c.requires);
     }
 
 pub returns : goal.returns
 returns c input short is_text =
     let script = c.args.script in
-    let valid = c.requires.valid in
+    let valid = c.requires in
     let started = c.in_ok-core.ensures.script in
     let same = c.in_ok-answers.ensures.script ∙ started in
     let left = c.in_ok-answers.ensures.state ∙ ap (λ (s : Script). (trace_of s (steps_of s.steps)).state) started in
@@ -51,4 +49,4 @@ returns c input short is_text =
     let names = c.script_names_are_distinct.ensures in
     let told : IsReportTextOf script (report_text script report) report = c.printed_text_is_text.ensures script report (names.told script valid) (names.typed script valid) trace.of_script c.in_ok-text.ensures.typed in
     let here = subst (λ bytes. IsReportTextOf script bytes report) (sym printed) told in
-    trace_told input script report _ short is_text c.requires.built printed trace (accepted c.report_texts_follow_script_texts.ensures input _ script report is_text here trace.right)
+    trace_told input script report _ short is_text printed trace (accepted c.report_texts_follow_script_texts.ensures input _ script report is_text here trace.right)

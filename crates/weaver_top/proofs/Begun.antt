@@ -1,0 +1,163 @@
+-- Where requests begin and end: what has its reply has ended, so it is not in flight.
+use Rattle.std.proofs.Common.{◌≡◌, ℕ, zero, suc, ◌==◌, Bool, List, [], ◌∷◌, ◌++◌, get_or, Contains, IsTrue, Some, inl, inr, refl, sym, ap, subst, ◌∙◌}
+use Rattle.std.specs.Prelude.{◌&&◌}
+use Rattle.std.specs.List.{flat_map}
+use Rattle.std.proofs.lemmas.Bool.{and_parts, eqb-true}
+use Rattle.std.proofs.lemmas.List.Concat.{flat_map-append}
+use Rattle.std.proofs.lemmas.List.Elements.{Contains-append_left, Contains-append_right}
+use Rattle.proof_base.proofs.Images.{flat-has}
+use Rattle.proof_base.proofs.Members.{any_has, cut_at, has_flat, has_head, has_none, has_read, has_tail, only}
+use Rattle.proof_base.proofs.Numbers.{has-in}
+use Rattle.program_defs.specs.declared.script.Request.{Request}
+use Rattle.program_defs.specs.declared.script.Script.{Script}
+use Rattle.program_defs.specs.declared.script.Work.{Work}
+use Rattle.program_defs.specs.Limits.{IsWithinLimits}
+use Rattle.program_defs.specs.Works.{is_change, is_look}
+use Rattle.report_rules.specs.Lookups.{is_some_and, request_at}
+use Rattle.weave_entries.specs.declared.gate_log.GateDeed.{GateDeed}
+use Rattle.weave_entries.specs.declared.gate_log.GateDeed.TheVariants.{BeganTx, BeganProgram, Sent, Nop, Heard, Raised, Finished}
+use Rattle.weave_entries.specs.declared.gate_log.GateEntry.{GateEntry}
+use Rattle.weave_entries.specs.declared.session_log.SessionDeed.{SessionDeed}
+use Rattle.weave_entries.specs.declared.session_log.SessionDeed.TheVariants as session
+use Rattle.weave_entries.specs.declared.session_log.SessionEntry.{SessionEntry}
+use Rattle.weave_entries.specs.GateReplay.{Begun, begun_by, begun_in, ended_by, ended_in, flight_of, program_by, programs_of, tx_by, txs_of}
+use Rattle.weave_entries.specs.GateRules.{EndsAs}
+use Rattle.weave_entries.specs.SessionReplay.{has_reply_in, replied_in, reply_by}
+use Rattle.weave_account.specs.declared.account.Account.{Account}
+use Rattle.weave_account.specs.Account.{all_begun, gate_log, is_ended, session_log}
+use Rattle.weave_account.specs.Gatekeepers.{BeginsAs}
+use Rattle.weave_account.specs.IsAccount.{IsAccount}
+use Rattle.weave_account.specs.Sessions.{RepliesAs}
+use Rattle.weaver_top.specs.LowerLaws.{LowerLaws}
+
+-- Lists of lists
+
+-- a list that has something is one of the lists
+list-there : {A : Type 0} (xss : List (List A)) (i : ℕ) (y : A) → Contains (get_or xss i []) y → Contains xss (get_or xss i [])
+list-there [] i y h = absurd (has_none y h)
+list-there (xs ∷ xss) zero y h = has_head xs xss
+list-there (xs ∷ xss) (suc i) y h = has_tail xs xss (get_or xss i []) (list-there xss i y h)
+
+-- and each of the lists is at some place
+pub place-of : {A : Type 0} (xss : List (List A)) (xs : List A) → Contains xss xs → (i : ℕ) × (get_or xss i [] ≡ xs)
+place-of [] xs h = absurd (has_none xs h)
+place-of (ys ∷ xss) xs h = elim (has_read ys xss xs h) [
+  | inl same ↦ (0, same)
+  | inr more ↦ (let rest = place-of xss xs more in (suc rest.0, rest.1))
+]
+
+-- Begins
+
+-- a transaction that was begun was begun
+pub tx-begun : (log : List GateEntry) (begun : Begun) → Contains (txs_of log) begun → Contains (begun_in log) begun
+tx-begun log begun h =
+    let from = flat-has (λ (entry : GateEntry). tx_by entry.author entry.deed) log begun h in
+    has_flat (λ (entry : GateEntry). begun_by entry.author entry.deed) log from.0 begun from.1.0
+    (Contains-append_left (tx_by (from.0).author (from.0).deed) (program_by (from.0).author (from.0).deed) begun from.1.1)
+
+-- so was a program
+pub program-begun-in : (log : List GateEntry) (begun : Begun) → Contains (programs_of log) begun → Contains (begun_in log) begun
+program-begun-in log begun h =
+    let from = flat-has (λ (entry : GateEntry). program_by entry.author entry.deed) log begun h in
+    has_flat (λ (entry : GateEntry). begun_by entry.author entry.deed) log from.0 begun from.1.0
+    (Contains-append_right (tx_by (from.0).author (from.0).deed) (program_by (from.0).author (from.0).deed) begun from.1.1)
+
+-- what was begun at one gatekeeper was begun
+pub all-in : (account : Account) (home : ℕ) (begun : Begun) → Contains (begun_in (gate_log account home)) begun → Contains (all_begun account) begun
+all-in account home begun h =
+    let entry = flat-has (λ (entry : GateEntry). begun_by entry.author entry.deed) (gate_log account home) begun h in
+    has_flat begun_in account.gates (gate_log account home) begun (list-there account.gates home entry.0 entry.1.0) h
+
+-- and what was begun was begun at one of them
+pub at-home : (account : Account) (begun : Begun) → Contains (all_begun account) begun → (home : ℕ) × Contains (begun_in (gate_log account home)) begun
+at-home account begun h =
+    let log = flat-has begun_in account.gates begun h in
+    let home = place-of account.gates log.0 log.1.0 in
+    (home.0, subst (λ l. Contains (begun_in l) begun) (sym home.1) log.1.1)
+
+-- Ends
+
+-- what a deed ends was begun before
+ended-deed : (before : List GateEntry) (author : ℕ) (deed : GateDeed) (r : ℕ) → Contains (ended_by deed) r → EndsAs before author deed → (b : Begun) × Contains (begun_in before) b × (b.request ≡ r)
+ended-deed before author (Sent q messages) r h ends = (_, tx-begun before _ ends.1, only q r h)
+ended-deed before author (Finished q) r h ends = (_, program-begun-in before _ ends.1, only q r h)
+ended-deed before author (BeganTx q stamp) r h ends = absurd (has_none r h)
+ended-deed before author (BeganProgram q stamp) r h ends = absurd (has_none r h)
+ended-deed before author (Nop to number stamp low) r h ends = absurd (has_none r h)
+ended-deed before author (Heard clock) r h ends = absurd (has_none r h)
+ended-deed before author (Raised epoch) r h ends = absurd (has_none r h)
+
+module _ (laws : LowerLaws) (script : Script) (account : Account) (limits : IsWithinLimits script) (is : IsAccount script account) where
+  -- Gatekeepers
+
+  own-gate : (home r : ℕ) (kind : Work → Bool) (request : Request) → request_at script r ≡ Some request
+      → IsTrue (is_some_and (λ (request : Request). (request.gate == home) && kind request.work) (request_at script r)) → request.gate ≡ home
+  own-gate home r kind request there own =
+      eqb-true request.gate home (and_parts (request.gate == home) (kind request.work)
+      (subst (λ q. IsTrue (is_some_and (λ (request : Request). (request.gate == home) && kind request.work) q)) there own)).0
+
+  deed-gate : (home : ℕ) (before : List GateEntry) (author : ℕ) (deed : GateDeed) (b : Begun) (request : Request) → Contains (begun_by author deed) b
+      → BeginsAs script account home before deed → request_at script b.request ≡ Some request → request.gate ≡ home
+  deed-gate home before author (BeganTx r stamp) b request h rule there =
+      own-gate home r is_change request (ap (λ (k : Begun). request_at script k.request) (only _ b h) ∙ there) rule.own
+  deed-gate home before author (BeganProgram r stamp) b request h rule there =
+      own-gate home r is_look request (ap (λ (k : Begun). request_at script k.request) (only _ b h) ∙ there) rule.own
+  deed-gate home before author (Sent r messages) b request h rule there = absurd (has_none b h)
+  deed-gate home before author (Nop to number stamp low) b request h rule there = absurd (has_none b h)
+  deed-gate home before author (Heard clock) b request h rule there = absurd (has_none b h)
+  deed-gate home before author (Raised epoch) b request h rule there = absurd (has_none b h)
+  deed-gate home before author (Finished r) b request h rule there = absurd (has_none b h)
+
+  -- what was begun at a gatekeeper is a request of it
+  begun-gate : (home : ℕ) (b : Begun) (request : Request) → Contains (begun_in (gate_log account home)) b → request_at script b.request ≡ Some request → request.gate ≡ home
+  begun-gate home b request h there =
+      let entry = flat-has (λ (e : GateEntry). begun_by e.author e.deed) (gate_log account home) b h in
+      let place = cut_at (gate_log account home) entry.0 entry.1.0 in
+      deed-gate home place.before (entry.0).author (entry.0).deed b request entry.1.1 (is.gatekeepers.begins home place.before entry.0 place.after place.is) there
+
+  -- what has ended at a gatekeeper was begun there
+  ended-begun : (home r : ℕ) → Contains (ended_in (gate_log account home)) r → (b : Begun) × Contains (begun_in (gate_log account home)) b × (b.request ≡ r)
+  ended-begun home r h =
+      let entry = flat-has (λ (e : GateEntry). ended_by e.deed) (gate_log account home) r h in
+      let place = cut_at (gate_log account home) entry.0 entry.1.0 in
+      let begun =
+      ended-deed place.before (entry.0).author (entry.0).deed r entry.1.1
+      (laws.ends home script.shards (gate_log account home) (is.gatekeepers.logs home) place.before entry.0 place.after place.is) in
+      let longer : Contains (begun_in (gate_log account home)) begun.0 = subst (λ l. Contains (begun_in l) begun.0) (sym place.is)
+      (subst (λ bs. Contains bs begun.0) (sym (flat_map-append (λ (e : GateEntry). begun_by e.author e.deed) place.before (entry.0 ∷ place.after))) (Contains-append_left (begun_in place.before) (begun_in (entry.0 ∷ place.after)) begun.0 begun.1)) in
+      (begun.0, longer, begun.2)
+
+  -- Replies
+
+  reply-ended : (deed : SessionDeed) (r : ℕ) → Contains (reply_by deed) r → RepliesAs account deed → IsTrue (is_ended account r)
+  reply-ended (session.Begun q stamp) r h right = absurd (has_none r h)
+  reply-ended (session.Replied q) r h right = subst (λ k. IsTrue (is_ended account k)) (only q r h) right
+
+  -- what has its reply has ended
+  replied-ended : (r number : ℕ) → IsTrue (has_reply_in r (session_log account number)) → IsTrue (is_ended account r)
+  replied-ended r number h =
+      let found = any_has (λ replied. replied == r) (replied_in (session_log account number)) h in
+      let from = flat-has (λ (e : SessionEntry). reply_by e.deed) (session_log account number) found.0 found.1 in
+      let place = cut_at (session_log account number) from.0 from.1.0 in
+      subst (λ k. IsTrue (is_ended account k)) (eqb-true found.0 r found.2)
+      (reply-ended (from.0).deed found.0 from.1.1 (is.sessions.replies number place.before from.0 place.after place.is))
+
+  -- a transaction in flight has no reply
+  pub flight-unanswered : (home number : ℕ) (flight : Begun) (request : Request) → flight_of (gate_log account home) ≡ Some flight → request_at script flight.request ≡ Some request
+      → IsTrue (has_reply_in flight.request (session_log account number)) → ⊥
+  flight-unanswered home number flight request flies there replied =
+      let r = flight.request in
+      let so = (laws.in_flight home script.shards (gate_log account home) (is.gatekeepers.logs home) (laws.once script account limits is home) flight).0 flies in
+      let log = flat-has ended_in account.gates r (has-in (flat_map ended_in account.gates) r (replied-ended r number replied)) in
+      let other = place-of account.gates log.0 log.1.0 in
+      let here : Contains (ended_in (gate_log account other.0)) r = subst (λ l. Contains (ended_in l) r) (sym other.1) log.1.1 in
+      let b = ended-begun other.0 r here in
+      let gate : request.gate ≡ other.0 = begun-gate other.0 b.0 request b.1 (ap (request_at script) b.2 ∙ there) in
+      let own : request.gate ≡ home = begun-gate home flight request (tx-begun (gate_log account home) flight so.0) there in
+      so.1 (subst (λ g. Contains (ended_in (gate_log account g)) r) (sym gate ∙ own) here)
+
+  -- a transaction in flight was begun
+  pub flight-begun : (home : ℕ) (flight : Begun) → flight_of (gate_log account home) ≡ Some flight → Contains (all_begun account) flight
+  flight-begun home flight flies =
+      all-in account home flight (tx-begun (gate_log account home) flight
+      ((laws.in_flight home script.shards (gate_log account home) (is.gatekeepers.logs home) (laws.once script account limits is home) flight).0 flies).0)

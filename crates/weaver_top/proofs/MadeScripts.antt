@@ -1,0 +1,29 @@
+-- How many requests and steps a generated script has.
+use Rattle.std.proofs.Common.{◌≡◌, ℕ, zero, suc, ◌*◌, Bool, true, false, cond, ◌==◌, List, [], ◌∷◌, ◌++◌, length, refl, arith}
+use Rattle.std.specs.Prelude.{nat_lt}
+use Rattle.std.specs.List.{AllByRecursion}
+use Rattle.std.proofs.lemmas.List.{length-append}
+use Rattle.program_defs.specs.declared.script.Script.{Script}
+use Rattle.program_defs.specs.declared.script.Step.{Step}
+use Rattle.weave_script.specs.Scripts.{steps_of}
+use Rattle.load_maker.specs.Words.{Words, drawn_list, words_of}
+use Rattle.load_maker.specs.Generated.{request_of, script_from, script_of, step_of, step_of_form}
+
+drawn-length : {A : Type 0} (item : List A → Words → A × Words) (n : ℕ) (words : Words) → length (drawn_list item n words).0 ≡ n
+unfolding drawn_list
+drawn-length item zero words = refl
+drawn-length item (suc n) words =
+    let before = drawn_list item n words in
+    let rest = drawn-length item n words in
+    let more = length-append before.0 ((item before.0 before.1).0 ∷ []) in
+    omega (arith, rest, more)
+
+-- a script has as many requests as its size says
+pub requests-made : (seed size : ℕ) → length (script_of seed size).requests ≡ size
+unfolding script_from
+requests-made seed size = drawn-length request_of size (words_of seed)
+
+-- and four times as many steps
+pub steps-made : (seed size : ℕ) → length (steps_of (script_of seed size).steps) ≡ 4 * size
+unfolding script_from
+steps-made seed size = drawn-length (λ _ words. step_of size words) (4 * size) (drawn_list request_of size (words_of seed)).1

@@ -1,0 +1,143 @@
+//! Scripts that are run whole: the script, and the report that `run` writes. `check` says of each that it is right.
+use crate::Status;
+use crate::tests::{HONEST, call, gives};
+use std::alloc::{AllocError, Global};
+use std::sync::Wait;
+use std::test::Fail;
+use std::thread::Threads;
+
+// Scripts, and their reports.
+const RUNS: [(&str, &str); 9] = [
+    // Nothing to do, at all gatekeepers and shards.
+    ("weaver 1 8 16\n", "report 1\norder\nend\n"),
+    // Phases without requests: before the first request, between two, and after the last.
+    (
+        "weaver 1 1 1\nphase\nphase\ntx a 0 0\ncreate v\nend\nphase\nphase\ntx b 1 0\nget v\nend\nphase\n",
+        "report 1\ntx a 0:0:1 committed 1\ntx b 0:0:2 committed 2\ngot 1 record\norder a b\nend\n",
+    ),
+    // Phases alone.
+    ("weaver 1 1 1\nphase\nphase\n", "report 1\norder\nend\n"),
+    // Steps play no part: no epoch is raised, and the second request begins after the first.
+    (
+        "weaver 1 2 1\ntx a 0 0\ncreate v\nend\ntx b 1 0\nget v\nend\nsteps\nepoch 0 5\nbegin b\njudge 0\nsend 0\ncollect 0\n",
+        "report 1\ntx a 0:0:1,0 committed 1\ntx b 0:0:2,0 committed 2\ngot 1 record\norder a b\nend\n",
+    ),
+    // Two phases at two gatekeepers that hear nothing of each other: the pair puts the first one first.
+    (
+        "weaver 1 2 1\ntx a 0 0\ncreate v\nend\nphase\ntx b 1 1\nget v\nend\n",
+        "report 1\ntx a 0:0:1,0 committed 1\ntx b 0:1:0,1 committed 2\ngot 1 record\nsettled v a b\norder a b\nend\n",
+    ),
+    // The same with a program.
+    (
+        "weaver 1 2 1\ntx a 0 0\ncreate v\nend\nphase\nprog p 1 1 show v\n",
+        "report 1\ntx a 0:0:1,0 committed 1\nprog p 0:1:0,1 done record\nsettled v a p\norder a p\nend\n",
+    ),
+    // A program, a write after it, and a write at another gatekeeper.
+    (
+        "weaver 1 2 1\nprog p 0 0 show v\ntx t1 1 0\ncreate v\nend\ntx t2 2 1\nset v k x\nend\n",
+        "report 1\nprog p 0:0:1,0 done absent\ntx t1 0:0:3,0 committed 1\ntx t2 0:1:2,2 committed 2\nsettled v t1 t2\norder p t1 t2\nend\n",
+    ),
+    // Who follows whom: one stops following another in the last phase.
+    (
+        FOLLOWS,
+        "report 1\ntx join 0:0:1,0 committed 1\ntx follow 0:1:1,1 committed 2\nprog reach1 0:0:2,0 done yes\nprog near 0:1:4,4 done found ann bob\nprog who 0:0:6,4 done path ann bob cyd\ntx rename 0:1:8,8 committed 3\ntx leave 0:0:9,4 committed 4\nprog gone 0:1:9,9 done no\nsettled ann follow reach1\norder join follow reach1 near who leave rename gone\nend\n",
+    ),
+    // A dangling edge over two shards.
+    (
+        "weaver 1 1 2\ntx t1 0 0\ncreate a\nlink a e b\nend\nprog p1 1 0 reach a b\ntx t2 0 0\ncreate b\nend\nprog p2 1 0 reach a b\n",
+        "report 1\ntx t1 0:0:1 committed 1\nprog p1 0:0:2 done no\ntx t2 0:0:5 committed 2\nprog p2 0:0:6 done yes\norder t1 p1 t2 p2\nend\n",
+    ),
+];
+
+// Three phases, two gatekeepers and two shards.
+const FOLLOWS: &str =
+    "weaver 1 2 2\ntx join 0 0\ncreate ann\ncreate bob\ncreate cyd\nset ann city oslo\nend\ntx follow 0 1\nlink ann f1 bob\nlink bob f1 cyd\ntag bob f1 since y2016\nend\nphase\nprog reach1 1 0 reach ann cyd\nprog near 2 1 around ann 1\nprog who 3 0 path ann cyd 5\ntx rename 4 1\nset cyd city rome\nend\nphase\ntx leave 0 0\nunlink bob f1\nend\nprog gone 0 1 reach ann cyd\n";
+
+// Whether `check` says that the report is right for the script.
+fn is_right<R: Threads + Wait + Sync>(
+    rt: &R,
+    alloc: Global,
+    script: &[u8],
+    report: &[u8],
+) -> Result<bool, AllocError> {
+    let mut input = Vec::from_slice(alloc, script)?;
+    input.extend_from_slice(report)?;
+    gives(
+        rt,
+        alloc,
+        &["check"],
+        input.as_slice(),
+        HONEST,
+        Status::Done,
+        b"yes\n",
+    )
+}
+
+// Whether `run` writes this report for the script, and `check` says that it is right.
+fn is_run<R: Threads + Wait + Sync>(
+    rt: &R,
+    alloc: Global,
+    script: &[u8],
+    report: &[u8],
+) -> Result<bool, AllocError> {
+    let (status, written) = call(rt, alloc, &["run"], script, HONEST)?;
+    let right = is_right(rt, alloc, script, written.as_slice())?;
+    Ok(status == Status::Done && written.as_slice() == report && right)
+}
+
+// The number of the first row that is not run so, from 0; that of all rows if there is none.
+fn rows_run<R: Threads + Wait + Sync>(
+    rt: &R,
+    alloc: Global,
+    rows: &[(&str, &str)],
+) -> Result<usize, AllocError> {
+    for (number, (script, report)) in rows.iter().enumerate() {
+        if !is_run(rt, alloc, script.as_bytes(), report.as_bytes())? {
+            return Ok(number);
+        }
+    }
+    Ok(rows.len())
+}
+
+#[test]
+fn scripts_that_are_driven(rt: HostRuntime) -> Result<(), Fail> {
+    assert_eq!(rt; rows_run(&rt, rt.alloc(), RUNS.as_slice())?, 9);
+    Ok(())
+}
+
+// A phase: a transaction and a program, of two sessions at two gatekeepers.
+fn add_phase(text: &mut Vec<u8>, number: u32) -> Result<(), AllocError> {
+    let (session, gate, other) = (number % 8, number % 3, (number + 1) % 3);
+    let lines = format!(in *text.allocator();
+        "phase\ntx t{number} {session} {gate}\nset v k x{number}\nlink v e{number} w\nend\nprog p{number} 9 {other} reach v w\n"
+    )?;
+    text.extend_from_slice(lines.as_str().as_bytes())
+}
+
+// A vertex, and thirty phases in which it changes and is read.
+fn many_phases(alloc: Global) -> Result<Vec<u8>, AllocError> {
+    let mut input = Vec::from_slice(alloc, b"weaver 1 3 2\ntx t 0 0\ncreate v\ncreate w\nend\n")?;
+    for number in 0..30 {
+        add_phase(&mut input, number)?;
+    }
+    Ok(input)
+}
+
+// Whether `run` takes the script, its report ends so, and `check` says that it is right.
+fn is_run_to<R: Threads + Wait + Sync>(
+    rt: &R,
+    alloc: Global,
+    script: &[u8],
+    end: &[u8],
+) -> Result<bool, AllocError> {
+    let (status, report) = call(rt, alloc, &["run"], script, HONEST)?;
+    let right = is_right(rt, alloc, script, report.as_slice())?;
+    Ok(status == Status::Done && report.as_slice().ends_with(end) && right)
+}
+
+#[test]
+fn thirty_phases(rt: HostRuntime) -> Result<(), Fail> {
+    let script = many_phases(rt.alloc())?;
+    assert!(rt; is_run_to(&rt, rt.alloc(), script.as_slice(), b" t29 p29\nend\n")?);
+    Ok(())
+}
