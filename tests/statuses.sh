@@ -61,8 +61,24 @@ is "the report with a program: status" 0 $status
 is "the report with a program: text" yes "$text"
 
 text=$(printf 'weaver 1 1 1\nsteps\ncollect 0\n' | "$program" trace); status=$?
-is "a script that trace doesn't take: status" 2 $status
-is "a script that trace doesn't take: text" "refused 0 unbuilt" "$text"
+is "trace with a collection: status" 0 $status
+is "trace with a collection: text" $'report 1\norder\ndid 1 ok\nend' "$text"
+
+text=$("$program" run <"$top/examples/follows.weave"); status=$?
+is "run with a program: status" 0 $status
+text=$({ cat "$top/examples/follows.weave"; printf '%s\n' "$text"; } | "$program" check); status=$?
+is "the report of run with a program: status" 0 $status
+is "the report of run with a program: text" yes "$text"
+
+text=$("$program" load 7 200 <&-); status=$?
+is "load: status" 0 $status
+is "load: first line" "load 7 200" "${text%%$'\n'*}"
+is "load: last line" "check yes" "${text##*$'\n'}"
+is "load again" "$text" "$("$program" load 7 200 <&-)"
+
+text=$("$program" load 7 0); status=$?
+is "load of nothing: status" 5 $status
+is "load of nothing: text" "" "$text"
 
 text=$("$program" trace more <"$steps"); status=$?
 is "a word after trace: status" 5 $status
