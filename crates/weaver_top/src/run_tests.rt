@@ -107,7 +107,7 @@ fn scripts_that_are_driven(rt: HostRuntime) -> Result<(), Fail> {
 
 // A phase: a transaction and a program, of two sessions at two gatekeepers.
 fn add_phase(text: &mut Vec<u8>, number: u32) -> Result<(), AllocError> {
-    let (session, gate, other) = (number % 8, number % 3, (number + 1) % 3);
+    let (session, gate, other) = (number % 8, number % 3, number.wrapping_add(1) % 3);
     let lines = format!(in *text.allocator();
         "phase\ntx t{number} {session} {gate}\nset v k x{number}\nlink v e{number} w\nend\nprog p{number} 9 {other} reach v w\n"
     )?;
