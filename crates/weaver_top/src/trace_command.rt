@@ -82,7 +82,7 @@ pub(crate) fn traced(alloc: Global, core: &mut Core) -> Result<Items<StepAnswer>
         ≡ (trace_of core.old.script (steps_of core.old.script.steps)).answers) }
 {
     let count = steps_of(core.script()).len();
-    let mut answers = Items::new(alloc);
+    let mut answers = Items::from_vec(Vec::with_capacity(alloc, count)?);
     for index in 0..count {
         let step = steps_of(core.script())[index];
         let answer = core.step(alloc, &step)?;
