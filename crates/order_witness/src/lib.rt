@@ -25,19 +25,11 @@
 
 mod bits;
 mod by_number;
-#[cfg(test)]
-mod cases;
-#[cfg(test)]
-mod clause_tests;
-#[cfg(test)]
-mod conflict_tests;
 mod conflicts;
 mod heads;
 mod judge;
 mod latest;
 mod listing;
-#[cfg(test)]
-mod long_tests;
 mod marks;
 mod numbers;
 mod order;
@@ -46,24 +38,14 @@ mod pairs;
 mod places;
 mod precedence;
 mod printed;
-#[cfg(test)]
-mod program_tests;
 mod records;
 mod refusals;
 mod relation;
 mod replay;
 mod replies;
 mod rising;
-#[cfg(test)]
-mod slow;
-#[cfg(test)]
-mod tables;
-#[cfg(test)]
-mod tests;
 mod trial;
 mod turns;
-#[cfg(test)]
-mod walk_tests;
 mod words;
 
 pub use judge::{Judged, has_numbered_operations, judge_report};

@@ -12,7 +12,5 @@ mod looking;
 mod lower_laws;
 mod readying;
 mod stepping;
-#[cfg(test)]
-mod tests;
 
 pub use answering::drive;

@@ -20,8 +20,6 @@ mod shards;
 mod staying;
 mod stepper;
 mod stepping;
-#[cfg(test)]
-mod tests;
 mod visiting;
 mod walks;
 

@@ -9,28 +9,18 @@
 
 mod answer;
 mod check_command;
-#[cfg(test)]
-mod check_tests;
 mod command;
 mod execution;
 mod load_command;
 mod load_laws;
-#[cfg(test)]
-mod load_tests;
 mod lower_laws;
 mod pace;
 mod phases;
 mod run_command;
-#[cfg(test)]
-mod run_tests;
 mod status;
 mod summary;
-#[cfg(test)]
-mod tests;
 mod top_call;
 mod trace_command;
-#[cfg(test)]
-mod trace_tests;
 
 pub use command::Command;
 pub use execution::execute;

@@ -1,11 +1,11 @@
 ghost use Rattle.std.specs.Prelude.{◌<◌};
 
-use crate::Status;
-use crate::tests::{FIRST, HONEST, Outside, STALLS, UNREADABLE, call, gives};
+use crate::top_tests::{FIRST, HONEST, Outside, STALLS, UNREADABLE, call, gives};
 use std::alloc::{AllocError, Global};
 use std::sync::Wait;
 use std::test::Fail;
 use std::thread::Threads;
+use weaver_top::Status;
 
 // Two transactions of two sessions at two gatekeepers.
 const TWO: &str =

@@ -1,12 +1,12 @@
 ghost use Rattle.std.specs.Prelude.{◌+◌, ◌<◌};
 
-use crate::{NoPace, Status, weave};
 use std::alloc::{AllocError, Global};
 use std::process::ExitCode;
 use std::sync::Wait;
 use std::test::Fail;
 use std::thread::Threads;
 use weave_io::{MemorySink, MemorySource};
+use weaver_top::{NoPace, Status, weave};
 
 pub(crate) const FIRST: &[u8] =
     b"weaver 1 1 1\ntx t1 0 0\ncreate v\nset v color red\nend\ntx t2 0 0\nget v\nend\n";

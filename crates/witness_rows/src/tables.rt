@@ -2,7 +2,7 @@
 
 use crate::cases::{Asked, Line, report, script};
 use crate::slow::slow_judge;
-use crate::{Clause, Judged, has_numbered_operations, judge_report};
+use order_witness::{Clause, Judged, has_numbered_operations, judge_report};
 use program_defs::Script;
 use report_rules::Report;
 use std::alloc::Global;

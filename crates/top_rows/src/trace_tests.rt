@@ -1,11 +1,11 @@
 //! Worked lists of steps, whole: the script with its steps, and the report that `trace` writes. `check` says of each that
 //! it is right.
-use crate::Status;
-use crate::tests::{HONEST, call, gives};
+use crate::top_tests::{HONEST, call, gives};
 use std::alloc::{AllocError, Global};
 use std::sync::Wait;
 use std::test::Fail;
 use std::thread::Threads;
+use weaver_top::Status;
 
 // How transactions are judged.
 const VERDICTS: [(&str, &str); 9] = [

@@ -1,10 +1,10 @@
 //! Scripts that are run whole: the script, and the report that `run` writes. `check` says of each that it is right.
-use crate::Status;
-use crate::tests::{HONEST, call, gives};
+use crate::top_tests::{HONEST, call, gives};
 use std::alloc::{AllocError, Global};
 use std::sync::Wait;
 use std::test::Fail;
 use std::thread::Threads;
+use weaver_top::Status;
 
 // Scripts, and their reports.
 const RUNS: [(&str, &str); 9] = [

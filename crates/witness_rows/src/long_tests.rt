@@ -3,8 +3,8 @@ ghost use Rattle.std.specs.Prelude.{◌<◌};
 
 use crate::cases::{Do, Read, Told, letter, reply_state, request, script_of};
 use crate::tables::judge;
-use crate::{Clause, Judged};
 use graph_ops::Reason;
+use order_witness::{Clause, Judged};
 use program_defs::Script;
 use report_rules::{Pair, Reply, Report};
 use std::alloc::Global;

@@ -3,8 +3,8 @@
 use crate::cases::letter;
 use crate::program_tests::{WRONG_PAIR, asked, change, told};
 use crate::tables::judge;
-use crate::{Clause, Judged};
 use graph_ops::Op;
+use order_witness::{Clause, Judged};
 use program_defs::{Answer, Program, Request};
 use std::alloc::Global;
 use std::process::Abort;

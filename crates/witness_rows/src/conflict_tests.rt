@@ -8,7 +8,7 @@ ghost use Rattle.std.specs.Prelude.{◌<◌};
 
 use crate::cases::{Asked, Do, Line, Read, Told, letter, reply_state, request, script_of};
 use crate::tables::{Row, assert_rows, judge};
-use crate::{Clause, Judged};
+use order_witness::{Clause, Judged};
 use program_defs::Script;
 use report_rules::{Pair, Reply, Report};
 use std::alloc::Global;

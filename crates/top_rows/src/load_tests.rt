@@ -1,7 +1,6 @@
 ghost use Rattle.std.specs.Prelude.{◌<◌, ◌≤◌};
 
-use crate::Status;
-use crate::tests::{HONEST, Outside, call, gives};
+use crate::top_tests::{HONEST, Outside, call, gives};
 use load_maker::make;
 use std::alloc::{AllocError, Global};
 use std::sync::Wait;
@@ -9,6 +8,7 @@ use std::test::Fail;
 use std::thread::Threads;
 use weave_script::print_script;
 use weave_text::number;
+use weaver_top::Status;
 
 // Command lines that ask for nothing.
 const NO_WORDS: [&[&str]; 9] = [

@@ -1,10 +1,10 @@
 //! Each clause at each kind of place that it has, with later clauses broken too.
 
-use crate::Clause;
 use crate::cases::{Asked, Do, Line, Read, Told};
+use crate::judge_tests::{AFTER, APART, BEGUN, KEYED, MADE, MISSING, READER, THREE, TWO, UNBEGUN};
 use crate::tables::{Row, assert_rows};
-use crate::tests::{AFTER, APART, BEGUN, KEYED, MADE, MISSING, READER, THREE, TWO, UNBEGUN};
 use graph_ops::Reason;
+use order_witness::Clause;
 
 const WRONG: Line = (1, 1, 0, [0, 1, 0], Told::Commit(9, &[(7, Read::Set)]));
 

@@ -1,8 +1,8 @@
 //! A plain, slow judge for reports of a few requests: each fact by itself, precedence by looking for a way, and each
 //! graph from the start.
 
-use crate::{Clause, Judged};
 use graph_ops::{Got, Graph, Op, TxFault};
+use order_witness::{Clause, Judged};
 use program_defs::{Answer, Program, Request, Script, Work, ask, ask_with_visits};
 use report_rules::{Reply, ReplyState, Report};
 use std::alloc::Global;

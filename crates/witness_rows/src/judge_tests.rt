@@ -1,8 +1,8 @@
 use crate::cases::{Asked, Do, Line, Read, Told, letter, report, request, script, script_of};
 use crate::slow::slow_judge;
 use crate::tables::{Row, assert_rows, judge};
-use crate::{Clause, Judged, has_order, order_of};
 use graph_ops::{Op, Reason};
+use order_witness::{Clause, Judged, has_order, order_of};
 use program_defs::{Program, Request, Script, Work};
 use report_rules::{Pair, Reply, ReplyState, Report};
 use std::alloc::Global;

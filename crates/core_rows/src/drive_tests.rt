@@ -2,7 +2,6 @@
 ghost use Rattle.std.specs.Prelude.{IsTrue};
 ghost use Rattle.step_rules.specs.IsCore.{IsStepOf};
 
-use crate::drive;
 use graph_ops::Op;
 use order_witness::{Judged, has_numbered_operations, judge_report};
 use program_defs::{Program, Request, Script, Step, Work};
@@ -10,6 +9,7 @@ use report_rules::{ReplyState, Report};
 use std::alloc::Global;
 use std::process::Abort;
 use weave_data::{Items, Name};
+use weave_drive::drive;
 use weaver_core::Core;
 
 fn name(rt: &impl Abort, text: &str) -> Name {

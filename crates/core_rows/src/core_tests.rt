@@ -2,13 +2,13 @@
 ghost use Rattle.std.specs.Prelude.{IsTrue};
 ghost use Rattle.step_rules.specs.IsCore.{IsStepOf};
 
-use crate::Core;
 use graph_ops::Op;
 use program_defs::{Answer, Program, Request, Script, Step, Work};
 use report_rules::{Pair, ReplyState, Report, StepAnswer};
 use std::alloc::Global;
 use std::process::Abort;
 use weave_data::{Items, Name};
+use weaver_core::Core;
 
 fn name(rt: &impl Abort, text: &str) -> Name {
     Name::parse(text.as_bytes()).expect(rt, "no name")

@@ -1,4 +1,4 @@
-use Rattle.order_witness.proofs.slow.+precedes.Given as goal
+use Rattle.witness_rows.proofs.slow.+precedes.Given as goal
 
 -- the steps that are left become fewer
 abbrev pub decreases-precedes : goal.decreases-precedes
