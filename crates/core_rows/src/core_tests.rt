@@ -316,12 +316,12 @@ fn a_program(rt: HostRuntime) {
     assert!(rt; report.pairs.as_slice().is_empty());
 }
 
-// How many versions of a vertex the shard keeps.
+// How many versions of a vertex shard 0 keeps.
 fn kept_of(rt: &impl Abort, core: &Core, v: &str) -> usize {
-    match core.machines.shards.shards.get(0) {
-        Some(shard) => shard.kept(name(rt, v)),
-        None => 0,
+    if core.script().shards == 0 {
+        panic!(rt; "no shard");
     }
+    core.kept(0, name(rt, v))
 }
 
 // The number of the message that the shard processes next on the channel of gatekeeper 0.

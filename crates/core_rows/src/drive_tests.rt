@@ -4,12 +4,13 @@ ghost use Rattle.step_rules.specs.IsCore.{IsStepOf};
 
 use graph_ops::Op;
 use order_witness::{Judged, has_numbered_operations, judge_report};
-use program_defs::{Program, Request, Script, Step, Work};
-use report_rules::{ReplyState, Report};
+use program_defs::{Answer, Program, Request, Script, Step, Work};
+use report_rules::{Reply, ReplyState, Report, StepAnswer};
 use std::alloc::Global;
 use std::process::Abort;
 use weave_data::{Items, Name};
 use weave_drive::drive;
+use weave_report::print_report;
 use weaver_core::Core;
 
 fn name(rt: &impl Abort, text: &str) -> Name {
@@ -191,7 +192,7 @@ fn is_step_of(script: &Script, step: &Step) -> bool
     }
 }
 
-// The core after these steps, whatever they answer.
+// The core after these steps, each of which is done.
 fn left_by(rt: &impl Abort, alloc: Global, script: Script, steps: &[Step]) -> Core {
     if !script.is_within_limits() {
         panic!(rt; "not within the limits");
@@ -201,7 +202,8 @@ fn left_by(rt: &impl Abort, alloc: Global, script: Script, steps: &[Step]) -> Co
         if !is_step_of(core.script(), step) {
             panic!(rt; "no step of the script");
         }
-        core.step(alloc, step).expect(rt, "no memory");
+        let answer = core.step(alloc, step).expect(rt, "no memory");
+        assert!(rt; matches!(answer, StepAnswer::Ok));
     }
     core
 }
@@ -251,7 +253,37 @@ fn begun_requests(report: &Report) -> usize {
         .count()
 }
 
-// Whether what one report says stays in the other: each stamp, and the pairs first.
+// Whether two answers of a program are alike; of lists the lengths are compared.
+fn is_same_answer(old: &Answer, new: &Answer) -> bool {
+    match (old, new) {
+        (Answer::Shown(a), Answer::Shown(b)) => a.is_some() == b.is_some(),
+        (Answer::Reached(a), Answer::Reached(b)) => a == b,
+        (Answer::Found(a), Answer::Found(b)) => a.as_slice().len() == b.as_slice().len(),
+        (Answer::Walk(a), Answer::Walk(b)) => a.is_some() == b.is_some(),
+        _ => false,
+    }
+}
+
+// Whether a verdict or an answer stays; what is not final may change.
+fn state_stays(old: &ReplyState, new: &ReplyState) -> bool {
+    match (old, new) {
+        (ReplyState::Committed { number: a, .. }, ReplyState::Committed { number: b, .. }) => {
+            a == b
+        }
+        (ReplyState::Conflict { newer: a, .. }, ReplyState::Conflict { newer: b, .. }) => a == b,
+        (ReplyState::Refused { op: a, .. }, ReplyState::Refused { op: b, .. }) => a == b,
+        (ReplyState::Finished(a), ReplyState::Finished(b)) => is_same_answer(a, b),
+        (ReplyState::Unbegun | ReplyState::Begun, _) => true,
+        _ => false,
+    }
+}
+
+// Whether what one report says of a request stays in the other.
+fn reply_stays(old: &Reply, new: &Reply) -> bool {
+    (old.stamp.is_none() || old.stamp == new.stamp) && state_stays(&old.state, &new.state)
+}
+
+// Whether what one report says stays in the other: each stamp, verdict and answer, and the pairs first.
 fn stays(before: &Report, after: &Report) -> bool {
     for (old, new) in before
         .replies
@@ -259,7 +291,7 @@ fn stays(before: &Report, after: &Report) -> bool {
         .iter()
         .zip(after.replies.as_slice())
     {
-        if old.stamp.is_some() && old.stamp != new.stamp {
+        if !reply_stays(old, new) {
             return false;
         }
     }
@@ -274,7 +306,17 @@ fn stays(before: &Report, after: &Report) -> bool {
 // The core is left by the steps and driven: requests below the bound have their replies, what the report said stays,
 // and then all have.
 fn driven(rt: &impl Abort, alloc: Global, steps: &[Step], upto: u32) {
-    let mut core = left_by(rt, alloc, chains(rt, alloc), steps);
+    driven_on(
+        rt,
+        alloc,
+        left_by(rt, alloc, chains(rt, alloc), steps),
+        upto,
+    );
+}
+
+// So it is with a core of this script.
+fn driven_on(rt: &impl Abort, alloc: Global, left: Core, upto: u32) {
+    let mut core = left;
     let before = right_report(rt, alloc, &core);
     drive_to(rt, alloc, &mut core, upto);
     let between = right_report(rt, alloc, &core);
@@ -322,6 +364,18 @@ fn epoch(gate: u32, epoch: u64) -> Step {
     Step::Epoch { gate, epoch }
 }
 
+fn say(gate: u32) -> Step {
+    Step::Say { gate }
+}
+
+fn hear(gate: u32, notice: u64) -> Step {
+    Step::Hear { gate, notice }
+}
+
+fn reply(request: u32) -> Step {
+    Step::Reply { request }
+}
+
 // No step was done, and no request above the bound begins.
 #[test]
 fn from_the_start(rt: HostRuntime) {
@@ -355,7 +409,7 @@ fn flights_at_each_gatekeeper(rt: HostRuntime) {
     driven(&rt, alloc, &steps, 3);
 }
 
-// Messages that wait for others, which have not arrived.
+// Messages that wait for others, which have not arrived. The vertex a is kept by shard 1, b by shard 2.
 #[test]
 fn messages_not_delivered(rt: HostRuntime) {
     let alloc = rt.alloc();
@@ -363,24 +417,102 @@ fn messages_not_delivered(rt: HostRuntime) {
         begin(0),
         judge(0),
         send(0),
-        nop(0, 0),
         nop(0, 1),
+        nop(0, 2),
         begin(3),
         judge(2),
         send(2),
-        deliver(2, 0, 1),
         deliver(2, 1, 1),
         deliver(2, 2, 1),
-        deliver(2, 3, 1),
-        deliver(0, 0, 2),
         deliver(0, 1, 2),
-        apply(0, 2),
-        apply(1, 2),
-        apply(2, 2),
-        apply(3, 2),
+        deliver(0, 2, 2),
         begin(1),
     ];
     driven(&rt, alloc, &steps, 3);
+}
+
+// The steps that finish the program p2 at gatekeeper 2: it finds no vertex a.
+const FINISHED: [Step; 11] = [
+    Step::Begin { request: 2 },
+    Step::Say { gate: 2 },
+    Step::Hear { gate: 0, notice: 1 },
+    Step::Hear { gate: 1, notice: 1 },
+    Step::Nop { gate: 0, shard: 1 },
+    Step::Nop { gate: 1, shard: 1 },
+    Step::Nop { gate: 2, shard: 1 },
+    Step::Deliver {
+        gate: 0,
+        shard: 1,
+        number: 1,
+    },
+    Step::Deliver {
+        gate: 1,
+        shard: 1,
+        number: 1,
+    },
+    Step::Deliver {
+        gate: 2,
+        shard: 1,
+        number: 1,
+    },
+    Step::Visit { request: 2 },
+];
+
+// Whether the head of a gatekeeper's channel waits in a shard.
+fn waits(rt: &impl Abort, alloc: Global, core: &mut Core, shard: u32, gate: u32) -> bool {
+    let step = apply(shard, gate);
+    if !is_step_of(core.script(), &step) {
+        panic!(rt; "no step of the script");
+    }
+    let answer = core.step(alloc, &step).expect(rt, "no memory");
+    matches!(answer, StepAnswer::Waits { .. })
+}
+
+// The transactions t0, t1, t3, t4 and t7 are sent, and some of their messages come: at shard 1 the head of gatekeeper 1
+// waits for a message of gatekeeper 2, and at shard 2 the head of gatekeeper 2 waits for one of gatekeeper 1.
+fn with_waiting_heads(rt: &impl Abort, alloc: Global) -> Core {
+    let mut steps = Vec::from_slice(alloc, &FINISHED).expect(rt, "no memory");
+    let sent = [
+        reply(2),
+        begin(0),
+        judge(0),
+        send(0),
+        begin(1),
+        judge(1),
+        send(1),
+        reply(1),
+        begin(3),
+        judge(2),
+        send(2),
+        begin(4),
+        judge(1),
+        send(1),
+        begin(7),
+        judge(2),
+        send(2),
+    ];
+    let come = [
+        apply(1, 1),
+        deliver(1, 1, 2),
+        deliver(0, 2, 1),
+        apply(2, 0),
+        deliver(2, 2, 1),
+        apply(2, 2),
+        deliver(2, 2, 2),
+    ];
+    steps.extend_from_slice(&sent).expect(rt, "no memory");
+    steps.extend_from_slice(&come).expect(rt, "no memory");
+    left_by(rt, alloc, chains(rt, alloc), steps.as_slice())
+}
+
+// The heads of two channels wait for each other's gatekeepers, each in another shard, and a program is finished.
+#[test]
+fn heads_that_wait_for_each_other(rt: HostRuntime) {
+    let alloc = rt.alloc();
+    let mut core = with_waiting_heads(&rt, alloc);
+    assert!(rt; waits(&rt, alloc, &mut core, 1, 1));
+    assert!(rt; waits(&rt, alloc, &mut core, 2, 2));
+    driven_on(&rt, alloc, core, 5);
 }
 
 // Epochs that were raised at some gatekeepers alone, before and after a program's begin.
@@ -402,7 +534,7 @@ fn epochs_apart(rt: HostRuntime) {
     driven(&rt, alloc, &steps, 6);
 }
 
-// Programs that have read some of their vertices, with writes between.
+// A program that has read its start, a, and not yet b, and one that has read nothing, with a write in flight.
 #[test]
 fn programs_half_read(rt: HostRuntime) {
     let alloc = rt.alloc();
@@ -412,25 +544,98 @@ fn programs_half_read(rt: HostRuntime) {
         send(0),
         begin(5),
         begin(6),
-        nop(0, 0),
-        nop(1, 0),
-        nop(2, 0),
+        say(0),
+        hear(1, 1),
+        hear(2, 1),
         nop(0, 1),
         nop(1, 1),
         nop(2, 1),
-        deliver(0, 0, 1),
-        deliver(0, 0, 2),
-        deliver(1, 0, 1),
-        deliver(2, 0, 1),
-        apply(0, 0),
-        apply(0, 0),
-        apply(0, 1),
-        apply(0, 2),
+        deliver(0, 1, 1),
+        apply(1, 0),
+        deliver(0, 1, 2),
+        deliver(1, 1, 1),
+        deliver(2, 1, 1),
         visit(5),
-        visit(6),
         begin(3),
         judge(2),
-        visit(5),
     ];
     driven(&rt, alloc, &steps, 5);
+}
+
+// v is created, and then changed and shown, in fifty phases of two requests, at two gatekeepers in turn.
+fn changed_and_shown(rt: &impl Abort, alloc: Global) -> Script {
+    let mut all = Items::new(alloc);
+    add(
+        rt,
+        &mut all,
+        "t",
+        0,
+        0,
+        change(rt, alloc, &[create(rt, "v")]),
+    );
+    for phase in 0..50u8 {
+        let gate = u32::from(phase % 2);
+        let (tx, program) = (two_digits(rt, b't', phase), two_digits(rt, b'p', phase));
+        add_named(
+            rt,
+            &mut all,
+            tx,
+            0,
+            gate,
+            change(rt, alloc, &[set(rt, "v")]),
+        );
+        add_named(rt, &mut all, program, 0, gate, show(rt, "v"));
+    }
+    Script {
+        gates: 2,
+        shards: 1,
+        requests: all,
+        phases: Items::new(alloc),
+        steps: None,
+    }
+}
+
+// A letter with two digits.
+fn two_digits(rt: &impl Abort, letter: u8, number: u8) -> Name {
+    Name::parse(&[letter, b'0' + number / 10 % 10, b'0' + number % 10]).expect(rt, "no name")
+}
+
+// The shard drops old versions.
+fn collect(rt: &impl Abort, alloc: Global, core: &mut Core) {
+    let step = Step::Collect { shard: 0 };
+    if !is_step_of(core.script(), &step) {
+        panic!(rt; "no step of the script");
+    }
+    core.step(alloc, &step).expect(rt, "no memory");
+}
+
+// How many versions of v are kept.
+fn kept(rt: &impl Abort, core: &Core) -> usize {
+    if core.script().shards == 0 {
+        panic!(rt; "no shard");
+    }
+    core.kept(0, name(rt, "v"))
+}
+
+// The text of the report, which is right.
+fn text_of(rt: &impl Abort, alloc: Global, core: &Core) -> Vec<u8> {
+    let report = right_report(rt, alloc, core);
+    print_report(alloc, core.script(), &report).expect(rt, "no memory")
+}
+
+// However often v changes, at most four versions of it are kept at the end of a phase, where a run without collections
+// keeps all 51. The report is the same.
+#[test]
+fn fifty_phases_with_collections(rt: HostRuntime) {
+    let alloc = rt.alloc();
+    let mut core = left_by(&rt, alloc, changed_and_shown(&rt, alloc), &[]);
+    let mut other = left_by(&rt, alloc, changed_and_shown(&rt, alloc), &[]);
+    for phase in 0..50u32 {
+        drive_to(&rt, alloc, &mut core, 2 * phase + 3);
+        drive_to(&rt, alloc, &mut other, 2 * phase + 3);
+        collect(&rt, alloc, &mut core);
+        assert!(rt; kept(&rt, &core) <= 4);
+    }
+    assert_eq!(rt; kept(&rt, &other), 51);
+    assert!(rt; text_of(&rt, alloc, &core) == text_of(&rt, alloc, &other));
 }

@@ -7,7 +7,7 @@ ghost use Rattle.program_defs.specs.declared.script.Request.{Request};
 ghost use Rattle.program_defs.specs.declared.script.Step.TheVariants as step;
 ghost use Rattle.report_rules.specs.Lookups.{request_at};
 ghost use Rattle.weave_entries.specs.OracleReplay.{settled_entry};
-ghost use Rattle.weave_entries.specs.ShardReplay.{arrived_at, processed_count};
+ghost use Rattle.weave_entries.specs.ShardReplay.{arrived_at, kept_of, processed_count};
 ghost use Rattle.weave_entries.specs.declared.oracle_log.OracleEntry.{OracleEntry};
 ghost use Rattle.weave_account.specs.Account.{shard_log};
 ghost use Rattle.weave_account.specs.Report.{MatchesAccount};
@@ -409,6 +409,16 @@ impl Machines {
     {
         let _ = script;
         self.shards.next_number(shard, gate)
+    }
+
+    /// How many versions of a vertex a shard keeps.
+    pub(crate) fn kept(&self, script: &Script, shard: u32, v: Name) -> usize
+        requires are { AreOf script.now self.now }
+        requires shard { shard < script.now.shards }
+        ensures { result ≡ kept_of v (shard_log self.now.state.account shard) }
+    {
+        let _ = script;
+        self.shards.kept(shard, v)
     }
 
     /// The stamp that was begun last in a session.

@@ -1,7 +1,7 @@
 //! The shards of a core, by their numbers.
 ghost use Rattle.std.specs.Prelude.{◌≡◌, ℕ, ◌+◌, ◌<◌, ◌≤◌, [], length, replicate, is_some, None, IfErr, IfOk, IsTrue, OnErr, OnOk};
 ghost use Rattle.std.specs.Option.{ForSome};
-ghost use Rattle.weave_entries.specs.ShardReplay.{arrived_at, bound_of, head_of, processed_count, waits_at};
+ghost use Rattle.weave_entries.specs.ShardReplay.{arrived_at, bound_of, head_of, kept_of, processed_count, waits_at};
 ghost use Rattle.weave_entries.specs.ShardRules.{IsTakable, PassesAt};
 ghost use Rattle.weave_entries.specs.declared.shard_log.ShardDeed.TheVariants as deed;
 ghost use Rattle.shard_node.specs.Shards.{IsRightlyUnapplied};
@@ -25,7 +25,7 @@ use weave_entries::laws::{kept_updates_are_read_like_all, oracle_entries_are_a_j
 #[derive(Drop)]
 pub(crate) struct Shards {
     gates: u32,
-    pub(crate) shards: Vec<Shard>,
+    shards: Vec<Shard>,
 }
 
 impl Model for Shards {
@@ -84,6 +84,14 @@ impl Shards {
         ensures arrived { (n : ℕ) → 1 ≤ n → n < result → IsTrue (is_some (arrived_at gate n (log_at self.now shard))) }
     {
         self.shards[shard as usize].next_number(gate)
+    }
+
+    /// How many versions of a vertex a shard keeps.
+    pub(crate) fn kept(&self, shard: u32, v: Name) -> usize
+        requires { shard < length self.now.logs }
+        ensures { result ≡ kept_of v (log_at self.now shard) }
+    {
+        self.shards[shard as usize].kept(v)
     }
 
     /// A shard processes the head of a gatekeeper's channel, if it does not wait.

@@ -7,7 +7,7 @@ ghost use Rattle.report_rules.specs.Lookups.{request_at};
 ghost use Rattle.report_rules.specs.PrintedOrder.{IsPrintedOrder};
 ghost use Rattle.report_rules.specs.RightReport.{replies_clause};
 ghost use Rattle.order_witness.specs.Begun.{NonePrecedesItself};
-ghost use Rattle.weave_entries.specs.ShardReplay.{arrived_at, processed_count};
+ghost use Rattle.weave_entries.specs.ShardReplay.{arrived_at, kept_of, processed_count};
 ghost use Rattle.weave_account.specs.Account.{shard_log};
 ghost use Rattle.weave_account.specs.Report.{IsReportOfAccount};
 ghost use Rattle.step_rules.specs.CoreState.{start_state};
@@ -34,7 +34,7 @@ use weave_data::{Items, Name};
 #[derive(Drop)]
 pub struct Core {
     script: Script,
-    pub(crate) machines: Machines,
+    machines: Machines,
     // What is kept of each request that is a program: its walk, and then its answer.
     walks: Vec<Option<Walk>>,
     // For each entry of the oracle the vertex of the visit that asked for it, if one did. It may end before the oracle's log.
@@ -128,6 +128,14 @@ impl Core {
             → IsTrue (is_some (arrived_at gate n (shard_log self.now.state.account shard))) }
     {
         self.machines.next_message(&self.script, shard, gate)
+    }
+
+    /// How many versions of a vertex the shard keeps: those that no collection has dropped.
+    pub fn kept(&self, shard: u32, v: Name) -> usize
+        requires { shard < self.now.script.shards }
+        ensures { result ≡ kept_of v (shard_log self.now.state.account shard) }
+    {
+        self.machines.kept(&self.script, shard, v)
     }
 
     /// The report of the account, without answers of steps. It costs its own size and the printed order. The one error is out of memory.
