@@ -25,7 +25,7 @@ pub fn draw_ops(
         ≡ operations_of gets.old count (words_from words.old)) }
     ensures gets { IfOk result (λ ops. gets.new ≡ gets.old + count_by is_get ops) }
 {
-    let mut ops = Vec::new(alloc);
+    let mut ops = Vec::with_capacity(alloc, count as usize)?;
     for _ in 0..count {
         ops.push(draw_op(words, gets))?;
     }

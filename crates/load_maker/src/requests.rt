@@ -33,7 +33,7 @@ pub fn draw_requests(
     ensures { IfOk result (λ requests. (requests, words_from words.new)
         ≡ drawn_list request_of size (words_from words.old)) }
 {
-    let mut requests = Vec::new(alloc);
+    let mut requests = Vec::with_capacity(alloc, size as usize)?;
     let mut counts = Counts {
         programs: 0,
         gets: 0,

@@ -20,7 +20,7 @@ pub fn draw_steps(
     ensures { IfOk result (λ steps. (steps, words_from words.new)
         ≡ drawn_list (λ _ words. step_of size words) count (words_from words.old)) }
 {
-    let mut steps = Vec::new(alloc);
+    let mut steps = Vec::with_capacity(alloc, count as usize)?;
     for _ in 0..count {
         steps.push(draw_step(words, size))?;
     }

@@ -10,8 +10,8 @@ use Rattle.load_maker.proofs.ops.draw_ops.Goals as goal
 
 pub loop-init : goal.loop-init
 loop-init c = record {
-  drawn = no_items (λ ops words. operation_of (c.args.gets.now + count_by is_get ops) words) (words_from c.args.words.now) c.new-ops.ensures.items;
-  gets = no_gets c.args.gets.now c.new-ops.result.items c.new-ops.ensures.items;
+  drawn = no_items (λ ops words. operation_of (c.args.gets.now + count_by is_get ops) words) (words_from c.args.words.now) c.in_ok-ops.ensures.items;
+  gets = no_gets c.args.gets.now c.in_ok-ops.ops.items c.in_ok-ops.ensures.items;
 }
 
 pub loop-preserved : goal.loop-preserved

@@ -10,9 +10,9 @@ use Rattle.load_maker.proofs.requests.draw_requests.Goals as goal
 
 pub loop-number-init : goal.loop-number-init
 loop-number-init c = record {
-  drawn = no_items request_of (words_from c.args.words.now) c.new-requests.ensures.items;
-  programs = counted_none (λ (r : Request). cond (is_look r.work) 1 0) c.new-requests.result.items c.new-requests.ensures.items;
-  gets = counted_none (λ (r : Request). gets_of_work r.work) c.new-requests.result.items c.new-requests.ensures.items;
+  drawn = no_items request_of (words_from c.args.words.now) c.in_ok-requests.ensures.items;
+  programs = counted_none (λ (r : Request). cond (is_look r.work) 1 0) c.in_ok-requests.requests.items c.in_ok-requests.ensures.items;
+  gets = counted_none (λ (r : Request). gets_of_work r.work) c.in_ok-requests.requests.items c.in_ok-requests.ensures.items;
 }
 
 pub loop-number-preserved : goal.loop-number-preserved

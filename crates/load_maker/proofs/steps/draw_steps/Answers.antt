@@ -6,7 +6,7 @@ use Rattle.load_maker.proofs.DrawnValues.{no_items, one_item_more}
 use Rattle.load_maker.proofs.steps.draw_steps.Goals as goal
 
 pub loop-init : goal.loop-init
-loop-init c = no_items (λ _ words. step_of c.args.size words) (words_from c.args.words.now) c.new-steps.ensures.items
+loop-init c = no_items (λ _ words. step_of c.args.size words) (words_from c.args.words.now) c.in_ok-steps.ensures.items
 
 pub loop-preserved : goal.loop-preserved
 loop-preserved c =
