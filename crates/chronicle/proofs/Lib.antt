@@ -1,4 +1,6 @@
+pub mod Frames
 pub mod Logs
+pub mod Authors
 pub mod Tables
 pub mod Entering
 pub mod Leaving

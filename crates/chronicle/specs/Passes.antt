@@ -1,10 +1,12 @@
 -- What a contract reads of a pass and of a note.
-use Rattle.std.specs.Prelude.{◌≡◌, ℕ, ◌<◌, List, [], ◌∷◌, map, slice_index_or, All, Contains}
+use Rattle.std.specs.Prelude.{◌≡◌, ℕ, ◌<◌, List, [], ◌∷◌, map, slice_index_or, All, Contains, vec_len, vec_capacity}
 use Rattle.chronicle.specs.declared.pass.Pass.{Pass}
 use Rattle.chronicle.specs.declared.note.Note.{Note}
+use Rattle.chronicle.specs.declared.open.Unopened.{Unopened}
 use Rattle.chronicle.specs.Logs.{Log, entries_of}
-use Rattle.chronicle.specs.Seats.{spent, resting}
-use Rattle.chronicle.specs.Locks.{Lock}
+use Rattle.chronicle.specs.Seats.{spent, resting, unopened}
+use Rattle.chronicle.specs.Frames.{name_of_table}
+use Rattle.chronicle.specs.Locks.{Lock, name_of}
 
 module _ {E : Type 0} where
   abbrev pub number_of : Pass E → ℕ
@@ -24,6 +26,15 @@ module _ {E : Type 0} where
     pub view_is : p.badge.views ≡ resting lock.frame lock.start (seen p) (p.number ∷ []) ∷ []
     pub low : p.number < lock.passes
 
+  -- these are the parts of this lock, which is still to be opened
+  pub record IsUnopened {M : Type 0} (lock : Lock E) (u : Unopened M E) : Type 0 where
+    pub table_is : u.seat.table_id ≡ lock.table
+    pub view_is : u.seat.me ≡ (unopened lock.passes, [])
+    pub passes_is : u.passes ≡ lock.passes
+    pub none_made : u.made.items ≡ []
+    pub len : vec_len u.made ≡ 0
+    pub room : vec_capacity u.made ≡ u.passes
+
   -- these are all passes of the lock, each in no hold
   pub record AreAll (lock : Lock E) (ps : List (Pass E)) : Type 0 where
     pub ready : All (IsReady lock) ps
@@ -33,7 +44,10 @@ module _ {E : Type 0} where
   abbrev pub noted : Note E → Log E
   noted n = (slice_index_or n.badge.views 0 spent).seen
 
+  -- the name of the lock of which the note is
+  abbrev pub lock_noted : Note E → List ℕ
+  lock_noted n = name_of_table n.badge.table_id
+
   -- the note is of this lock
-  pub record IsNote (lock : Lock E) (n : Note E) : Type 0 where
-    pub table_is : n.badge.table_id ≡ lock.table
-    pub view_is : n.badge.views ≡ resting lock.frame lock.start (noted n) [] ∷ []
+  abbrev pub IsNote : Lock E → Note E → Type 0
+  IsNote lock n = lock_noted n ≡ name_of lock

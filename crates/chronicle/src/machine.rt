@@ -1,14 +1,15 @@
-//! What lies behind the lock.
+//! What a lock is around.
 
-/// A value with a log. In its frame, its state is what a replay of the log gives: the value's own type sees to that.
+/// A value with a log. Its frame and the replay of its log give its state: the value's own type keeps that.
 pub trait Machine {
-    /// What stands in the log beside the author's number.
+    /// An entry of the log, without its author's number.
     type Entry;
 
     ghost use Rattle.std.specs.Prelude.{ℕ, List};
+    ghost use Rattle.chronicle.specs.Frames.{Frame};
 
-    // Numbers that no holder changes.
-    ghost frame: { Self → List ℕ };
+    // What no holder changes: lists of numbers. It has the names of the locks of which the machine keeps notes.
+    ghost frame: { Self → Frame };
 
     // The entries so far, each with its author's number.
     ghost log: { Self → List (ℕ × Self.Entry) };

@@ -1,9 +1,5 @@
-//! What was seen, put down and compared.
-ghost use Rattle.std.specs.Prelude.{◌≡◌};
-ghost use mathlib.Core.List.{IsPrefix};
-ghost use Rattle.chronicle.specs.Logs.{longer};
-ghost use Rattle.chronicle.specs.Locks.{lock_of};
-ghost use Rattle.chronicle.specs.Passes.{IsReady, IsNote, number_of, seen, own, noted};
+//! Notes of what was seen, and how they are compared.
+ghost use Rattle.chronicle.specs.Seats.{AreBare};
 
 use crate::chronicle::Chronicle;
 use crate::machine::Machine;
@@ -14,14 +10,23 @@ use crate::view::View;
 use atomic_table::Badge;
 use std::mem;
 
-/// What somebody has seen of a log. It has no author's number, and may lie behind another lock.
+/// What a pass had seen of a log when the note was made or last compared. It has no author, and a machine may keep it.
 #[derive(Drop)]
 pub struct Note<E> {
+    // So that a note has a size: values without bytes can't be reached by their index in a slice.
+    pub(crate) byte: u8,
     pub(crate) badge: Badge<View<E>>,
+    ghost bare: { AreBare badge.views },
 }
 
 impl<M: Machine> Chronicle<M> {
-    /// A note that has seen what the pass has.
+    ghost use Rattle.std.specs.Prelude.{◌≡◌, ◌⊎◌};
+    ghost use mathlib.Core.List.{IsPrefix};
+    ghost use Rattle.chronicle.specs.Logs.{longer};
+    ghost use Rattle.chronicle.specs.Locks.{lock_of};
+    ghost use Rattle.chronicle.specs.Passes.{IsReady, IsNote, number_of, seen, own, noted};
+
+    /// A note of what the pass has seen.
     pub fn note(&self, pass: &mut Pass<M::Entry>) -> Note<M::Entry>
         requires { IsReady (lock_of self.now) pass.old }
         ensures ready { IsReady (lock_of self.now) pass.new }
@@ -34,11 +39,12 @@ impl<M: Machine> Chronicle<M> {
         let copy = self.table.shared.split_seat::<Copies>(&mut seat);
         pass.badge = seat.into_badge();
         Note {
+            byte: 0,
             badge: copy.into_badge(),
         }
     }
 
-    /// Afterwards both have seen the longer of the two lists.
+    /// Compares a pass and a note of this lock. Both have then seen the longer of the two lists, which is one of them.
     pub fn meet(&self, pass: &mut Pass<M::Entry>, note: &mut Note<M::Entry>)
         requires pass { IsReady (lock_of self.now) pass.old }
         requires note { IsNote (lock_of self.now) note.old }
@@ -47,6 +53,7 @@ impl<M: Machine> Chronicle<M> {
         ensures own { own pass.new ≡ own pass.old }
         ensures note { IsNote (lock_of self.now) note.new }
         ensures longer { seen pass.new ≡ longer (seen pass.old) (noted note.old) }
+        ensures either { (seen pass.new ≡ seen pass.old) ⊎ (seen pass.new ≡ noted note.old) }
         ensures pass_before { IsPrefix (seen pass.old) (seen pass.new) }
         ensures note_before { IsPrefix (noted note.old) (seen pass.new) }
         ensures one { noted note.new ≡ seen pass.new }

@@ -1,8 +1,8 @@
-//! How a lock is made, and how its machine comes in.
+//! How a lock is made and opened, and how its machine is put in.
 ghost use Rattle.std.specs.Prelude.{◌≡◌, ◌<◌, [], ◌∷◌, None, All, IfOk, map, vec_len};
 ghost use Rattle.std.specs.List.{range_with_len};
-ghost use Rattle.chronicle.specs.Locks.{lock_of, BeginsAs, IsFilled, IsVacant};
-ghost use Rattle.chronicle.specs.Passes.{IsReady, number_of, seen};
+ghost use Rattle.chronicle.specs.Locks.{lock_of, name_of, BeginsAs, IsFilled, IsVacant};
+ghost use Rattle.chronicle.specs.Passes.{IsReady, IsUnopened, number_of, seen};
 ghost use Rattle.chronicle.specs.Seats.{unopened, opened};
 
 use crate::chronicle::Chronicle;
@@ -16,9 +16,17 @@ use std::alloc::{AllocError, Global};
 use std::marker::Brand;
 use std::snapshot::Snapshot;
 
-/// The empty place of a machine, for `fill`. Nobody gets into a lock whose place was dropped.
+/// The empty place of a machine, for `fill`. Nobody can enter a lock whose place was dropped.
 #[derive(Drop)]
 pub struct Vacant<M: Machine> {
+    pub(crate) seat: Seat<Option<M>, View<M::Entry>>,
+}
+
+/// What `open` needs of a lock that `reserve` made: its empty place, and room for its passes.
+#[derive(Drop)]
+pub struct Unopened<M: Machine> {
+    pub(crate) passes: u32,
+    pub(crate) made: Vec<Pass<M::Entry>>,
     pub(crate) seat: Seat<Option<M>, View<M::Entry>>,
 }
 
@@ -37,8 +45,64 @@ fn open<M: Machine, N: Machine<Entry = M::Entry>, J: Opening<M::Entry>>(
 }
 
 impl<M: Machine> Chronicle<M> {
-    /// A lock with so many passes, for a machine with the frame and the log of `like`. Nobody gets in before `fill`.
-    /// The passes have the numbers 0, 1, 2 and so on, and have seen the whole log.
+    /// A lock for this many passes, which is still to be opened. It has its name, so that the frames of other machines
+    /// can list it, and no frame yet.
+    pub fn reserve(alloc: Global, passes: u32) -> Result<(Chronicle<M>, Unopened<M>), AllocError>
+        requires { 0 < passes }
+        ensures passes { IfOk result (λ r. (lock_of r.0).passes ≡ passes) }
+        ensures unopened { IfOk result (λ r. IsUnopened (lock_of r.0) r.1) }
+    {
+        let made = Vec::with_capacity(alloc, passes as usize)?;
+        let (table, seat) = Table::vacant(alloc, &[UNOPENED], 1, &passes)?;
+        let chronicle = Chronicle {
+            table,
+            opened: Snapshot::of(&seat),
+            filled: Badge::blank(),
+        };
+        Ok((chronicle, Unopened { passes, made, seat }))
+    }
+
+    /// Opens the lock for a machine with the frame and the log of `like`. Nobody can enter before `fill`.
+    /// The passes are numbered 0, 1, 2 and so on, and have seen the whole log. It takes no memory.
+    pub fn open<N: Machine<Entry = M::Entry>>(
+        &mut self,
+        unopened: Unopened<M>,
+        like: &N,
+    ) -> (Vec<Pass<M::Entry>>, Vacant<M>)
+        requires { IsUnopened (lock_of self.old) unopened }
+        ensures name { name_of (lock_of self.new) ≡ name_of (lock_of self.old) }
+        ensures lock { BeginsAs (lock_of self.new) (lock_of self.old).passes (N.frame like.now) (N.log like.now) }
+        ensures count { vec_len result.0 ≡ (lock_of self.old).passes }
+        ensures numbers { map number_of result.0.items ≡ range_with_len 0 (lock_of self.old).passes }
+        ensures ready { All (IsReady (lock_of self.new)) result.0.items }
+        ensures seen { All (λ p. seen p ≡ (lock_of self.new).start) result.0.items }
+        ensures vacant { IsVacant (lock_of self.new) result.1 }
+    {
+        let Unopened {
+            passes,
+            mut made,
+            mut seat,
+        } = unopened;
+        open::<M, N, Brand>(&self.table.shared, &mut seat, like);
+        self.opened = Snapshot::of(&seat);
+        for number in 0..passes {
+            let badge = self
+                .table
+                .shared
+                .split_seat::<Deals>(&mut seat)
+                .into_badge();
+            let before = Snapshot::of(&badge);
+            made.push_reserved(Pass {
+                number,
+                badge,
+                before,
+            });
+        }
+        (made, Vacant { seat })
+    }
+
+    /// `reserve` and `open` in a row: a lock with this many passes, for a machine with the frame and the log of `like`.
+    /// Nobody can enter before `fill`. The passes are numbered 0, 1, 2 and so on, and have seen the whole log.
     pub fn new<N: Machine<Entry = M::Entry>>(
         alloc: Global,
         like: &N,
@@ -52,28 +116,12 @@ impl<M: Machine> Chronicle<M> {
         ensures seen { IfOk result (λ r. All (λ p. seen p ≡ (lock_of r.0).start) r.1.items) }
         ensures vacant { IfOk result (λ r. IsVacant (lock_of r.0) r.2) }
     {
-        let mut made = Vec::with_capacity(alloc, passes as usize)?;
-        let (table, mut seat) = Table::vacant(alloc, &[UNOPENED], 1, &passes)?;
-        open::<M, N, Brand>(&table.shared, &mut seat, like);
-        let opened = Snapshot::of(&seat);
-        for number in 0..passes {
-            let badge = table.shared.split_seat::<Deals>(&mut seat).into_badge();
-            let before = Snapshot::of(&badge);
-            made.push_reserved(Pass {
-                number,
-                badge,
-                before,
-            });
-        }
-        let chronicle = Chronicle {
-            table,
-            opened,
-            filled: Badge::blank(),
-        };
-        Ok((chronicle, made, Vacant { seat }))
+        let (mut chronicle, unopened) = Chronicle::reserve(alloc, passes)?;
+        let (made, vacant) = chronicle.open(unopened, like);
+        Ok((chronicle, made, vacant))
     }
 
-    /// Puts the machine in, and opens the lock to its passes.
+    /// Puts the machine in. From then on the passes can enter.
     pub fn fill(&mut self, vacant: Vacant<M>, machine: M)
         requires vacant { IsVacant (lock_of self.old) vacant }
         requires frame { M.frame machine ≡ (lock_of self.old).frame }

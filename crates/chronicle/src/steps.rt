@@ -1,4 +1,4 @@
-// What each kind of step does to the view of the seat that makes it, and what it tells.
+// What each kind of step does to the view of the seat that makes it, and what the seat learns.
 use crate::machine::Machine;
 use crate::view::View;
 use atomic_table::{Join, Play, Split};
@@ -15,7 +15,7 @@ impl<E> Split<View<E>> for Deals {
     ghost right = { dealt };
 }
 
-// A seat of no author sees what another has seen.
+// A new seat without an author has seen the same.
 pub(crate) struct Copies;
 
 impl<E> Split<View<E>> for Copies {
@@ -65,8 +65,9 @@ impl<M: Machine> Play<Option<M>, View<M::Entry>> for Leaves {
 // The frame and the log that a lock begins with.
 pub(crate) trait Opening<E> {
     ghost use Rattle.std.specs.Prelude.{ℕ, List};
+    ghost use Rattle.chronicle.specs.Frames.{Frame};
 
-    ghost frame: { List ℕ };
+    ghost frame: { Frame };
 
     ghost log: { List (ℕ × E) };
 }

@@ -1,4 +1,4 @@
-// What a seat at the table knows. No value of these types is made: a clause reads a `LinkedList` as a list.
+// What a seat at the table knows. No value of these types is ever made: clauses read a `LinkedList` as a list.
 use std::collections::LinkedList;
 
 /// An author's number, and the entries of the log that are its own.
@@ -10,7 +10,7 @@ pub(crate) struct Author<E> {
 pub(crate) struct View<E> {
     /// False once the seat was joined to another.
     pub(crate) live: bool,
-    pub(crate) frame: LinkedList<u64>,
+    pub(crate) frame: LinkedList<LinkedList<u64>>,
     /// The log that the lock began with.
     pub(crate) start: LinkedList<(u32, E)>,
     /// As much of the log as the seat has seen.

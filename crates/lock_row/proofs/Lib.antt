@@ -1,0 +1,5 @@
+pub mod Lists
+pub mod Meetings
+pub mod Hands
+pub mod Notings
+pub mod Openings

@@ -1,0 +1,52 @@
+-- Lists, place by place.
+use Rattle.std.proofs.Common.{◌≡◌, ◌≢◌, ℕ, zero, suc, ◌+◌, ◌<◌, ◌≤◌, List, [], ◌∷◌, ◌++◌, length, map, get_or, take, drop, refl, sym, ap, ◌∙◌, subst, arith}
+use Rattle.std.proofs.lemmas.List.{get_or_push}
+use Rattle.std.proofs.Math.Seq.{take-append_seam}
+
+-- an element of a list
+pub one_of : {A : Type 0} (xs : List A) (k : ℕ) → k < length xs → A
+one_of [] k l = absurd (omega arith)
+one_of (x ∷ xs) k l = x
+
+-- what was written through a reference to all elements is the list
+pub written : {A : Type 0} (n : ℕ) (new old : List A) → length new ≡ n → take n (new ++ drop (length new) old) ≡ new
+written {A} n new old e = subst (λ (k : ℕ). take k (new ++ drop (length new) old) ≡ new) e (take-append_seam new (drop (length new) old))
+
+-- the last of a longer list
+pub last : {A : Type 0} (xs : List A) (x d : A) (k : ℕ) → k ≡ length xs → get_or (xs ++ x ∷ []) k d ≡ x
+last xs x d k e = get_or_push xs x d k (sym e)
+
+-- lists whose elements have the same image at each place have the same images
+pub mapped_alike : {A B C : Type 0} (f : A → C) (g : B → C) (xs : List A) (ys : List B) → length ys ≡ length xs
+    → ((k : ℕ) (a : A) (b : B) → k < length xs → g (get_or ys k b) ≡ f (get_or xs k a)) → map g ys ≡ map f xs
+mapped_alike f g [] [] e same = refl
+mapped_alike f g [] (y ∷ ys) e same = absurd (omega arith)
+mapped_alike f g (x ∷ xs) [] e same = absurd (omega arith)
+mapped_alike {A} {B} {C} f g (x ∷ xs) (y ∷ ys) e same =
+    let first : g y ≡ f x = same zero x y (omega arith) in
+    let rest : map g ys ≡ map f xs = mapped_alike f g xs ys (omega arith) (λ k a b l. same (suc k) a b (omega arith)) in
+    λ i. first i ∷ rest i
+
+module _ {A : Type 0} where
+  abbrev head_or : A → List A → A
+  head_or d [] = d
+  head_or d (x ∷ xs) = x
+
+  none_left : (k : ℕ) (x : A) (ys : List A) → x ∷ ys ≡ drop k [] → ⊥
+  none_left zero x ys e = let n : length (x ∷ ys) ≡ length {A = A} [] = ap (λ (l : List A). length l) e in absurd (omega arith)
+  none_left (suc k) x ys e = let n : length (x ∷ ys) ≡ length {A = A} [] = ap (λ (l : List A). length l) e in absurd (omega arith)
+
+  -- the first of what is left is at the place that was reached
+  pub first_left : (xs : List A) (k : ℕ) (x d : A) (ys : List A) → x ∷ ys ≡ drop k xs → get_or xs k d ≡ x
+  first_left [] k x d ys e = absurd (none_left k x ys e)
+  first_left (z ∷ zs) zero x d ys e = ap (head_or d) (sym e)
+  first_left (z ∷ zs) (suc k) x d ys e = first_left zs k x d ys e
+
+  rest_left : (xs : List A) (k : ℕ) (x : A) (ys : List A) → x ∷ ys ≡ drop k xs → ys ≡ drop (suc k) xs
+  rest_left [] k x ys e = absurd (none_left k x ys e)
+  rest_left (z ∷ zs) zero x ys e = ap (drop 1) e
+  rest_left (z ∷ zs) (suc k) x ys e = rest_left zs k x ys e
+
+  pub next_left : (xs : List A) (k : ℕ) (x : A) (ys : List A) → x ∷ ys ≡ drop k xs → ys ≡ drop (k + 1) xs
+  next_left xs k x ys e = let n : suc k ≡ k + 1 = omega arith in
+      subst (λ (i : ℕ). ys ≡ drop i xs) n (rest_left xs k x ys e)

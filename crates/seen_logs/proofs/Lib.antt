@@ -1,0 +1,15 @@
+pub mod Listed
+pub mod Updates
+pub mod Going
+pub mod Within
+pub mod OfAccount
+pub mod Placed
+pub mod Asking
+pub mod KnownWithin
+pub mod MakesAccount
+pub mod Onward
+pub mod Closing
+pub mod Noting
+pub mod Having
+pub mod Reading
+pub mod Examples

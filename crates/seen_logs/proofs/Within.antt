@@ -1,0 +1,56 @@
+-- When more was seen, and what beginnings of logs keep.
+use Rattle.std.proofs.Common.{ℕ, List, [], ◌++◌, sym, ap, subst, ◌∙◌, append_assoc}
+use Rattle.std.proofs.lemmas.List.{append-nil}
+use Rattle.proof_base.proofs.Entries.{each_before}
+use Rattle.weave_entries.specs.declared.gate_log.GateEntry.{GateEntry}
+use Rattle.weave_entries.specs.GateRules.{HearsAs, HearsNoMore}
+use Rattle.weave_account.specs.declared.account.Account.{Account}
+use Rattle.weave_account.specs.GoesOn.{GoesOn, IsBeginningOf}
+use Rattle.seen_logs.specs.Seen.{IsWithin, without_sessions}
+
+-- a list begins itself
+pub whole : {A : Type 0} (xs : List A) → IsBeginningOf xs xs
+whole xs = ([], sym (append-nil xs))
+
+-- the beginning of a beginning is one
+pub onward : {A : Type 0} (xs ys zs : List A) → IsBeginningOf xs ys → IsBeginningOf ys zs → IsBeginningOf xs zs
+onward xs ys zs first second = (first.0 ++ second.0, second.1 ∙ ap (λ l. l ++ second.0) first.1 ∙ append_assoc xs first.0 second.0)
+
+-- what was seen is within itself
+pub itself : (seen : Account) → IsWithin seen seen
+itself seen = record { gates = λ home. whole _; store = whole _; oracle = whole _; shards = λ shard. whole _ }
+
+-- and within what is seen later
+pub all-later : (seen next last : Account) → IsWithin seen next → IsWithin next last → IsWithin seen last
+all-later seen next last first second = record {
+  gates = λ home. onward _ _ _ (first.gates home) (second.gates home);
+  store = onward _ _ _ first.store second.store;
+  oracle = onward _ _ _ first.oracle second.oracle;
+  shards = λ shard. onward _ _ _ (first.shards shard) (second.shards shard);
+}
+
+-- an account that goes on has seen more
+pub of-account : (account next : Account) → GoesOn account next → IsWithin account next
+of-account account next on = record { gates = on.gates; store = on.store; oracle = on.oracle; shards = on.shards }
+
+-- an account without its sessions has seen the same
+pub same-logs : (account : Account) → IsWithin account (without_sessions account) × IsWithin (without_sessions account) account
+same-logs account =
+    let on = itself account in (
+      record { gates = on.gates; store = on.store; oracle = on.oracle; shards = on.shards },
+      record {
+        gates = on.gates;
+        store = on.store;
+        oracle = on.oracle;
+        shards = on.shards;
+      },
+    )
+
+-- a rule of logs that each beginning keeps holds of this beginning
+pub of-beginning : {E : Type 0} (P : List E → Type 0) → ((log rest : List E) → P (log ++ rest) → P log)
+    → (log next : List E) → IsBeginningOf log next → P next → P log
+of-beginning P before log next on holds = before log on.0 (subst P on.1 holds)
+
+-- what a gatekeeper heard in the beginning of its log
+pub hears-before : (home : ℕ) (log rest : List GateEntry) → HearsNoMore home (log ++ rest) → HearsNoMore home log
+hears-before home log rest hears = each_before (λ before (one : GateEntry). HearsAs home before one.deed) log rest hears

@@ -1,0 +1,5 @@
+pub mod References
+pub mod Seen
+pub mod Closed
+pub mod FollowsScript
+pub mod LowerLaws
