@@ -328,52 +328,26 @@ fn driven_on(rt: &impl Abort, alloc: Global, left: Core, upto: u32) {
     assert!(rt; stays(&between, &after));
 }
 
-fn begin(request: u32) -> Step {
-    Step::Begin { request }
+// A step, written as in a script but with numbers.
+macro_rules! step {
+    (begin $request:literal) => { Step::Begin { request: $request } };
+    (judge $gate:literal) => { Step::Judge { gate: $gate } };
+    (send $gate:literal) => { Step::Send { gate: $gate } };
+    (nop $gate:literal $shard:literal) => { Step::Nop { gate: $gate, shard: $shard } };
+    (deliver $gate:literal $shard:literal $number:literal) => {
+        Step::Deliver { gate: $gate, shard: $shard, number: $number }
+    };
+    (apply $shard:literal $gate:literal) => { Step::Apply { shard: $shard, gate: $gate } };
+    (visit $request:literal) => { Step::Visit { request: $request } };
+    (epoch $gate:literal $epoch:literal) => { Step::Epoch { gate: $gate, epoch: $epoch } };
+    (say $gate:literal) => { Step::Say { gate: $gate } };
+    (hear $gate:literal $notice:literal) => { Step::Hear { gate: $gate, notice: $notice } };
+    (reply $request:literal) => { Step::Reply { request: $request } };
 }
 
-fn judge(gate: u32) -> Step {
-    Step::Judge { gate }
-}
-
-fn send(gate: u32) -> Step {
-    Step::Send { gate }
-}
-
-fn nop(gate: u32, shard: u32) -> Step {
-    Step::Nop { gate, shard }
-}
-
-fn deliver(gate: u32, shard: u32, number: u64) -> Step {
-    Step::Deliver {
-        gate,
-        shard,
-        number,
-    }
-}
-
-fn apply(shard: u32, gate: u32) -> Step {
-    Step::Apply { shard, gate }
-}
-
-fn visit(request: u32) -> Step {
-    Step::Visit { request }
-}
-
-fn epoch(gate: u32, epoch: u64) -> Step {
-    Step::Epoch { gate, epoch }
-}
-
-fn say(gate: u32) -> Step {
-    Step::Say { gate }
-}
-
-fn hear(gate: u32, notice: u64) -> Step {
-    Step::Hear { gate, notice }
-}
-
-fn reply(request: u32) -> Step {
-    Step::Reply { request }
+// Steps, one after another.
+macro_rules! steps {
+    ($($name:ident $($number:literal)*);*) => { [$(step!($name $($number)*)),*] };
 }
 
 // No step was done, and no request above the bound begins.
@@ -405,62 +379,30 @@ fn phases_and_at_once(rt: HostRuntime) {
 #[test]
 fn flights_at_each_gatekeeper(rt: HostRuntime) {
     let alloc = rt.alloc();
-    let steps = [begin(0), begin(1), judge(1), begin(3)];
-    driven(&rt, alloc, &steps, 3);
+    const STEPS: [Step; 4] = steps![begin 0; begin 1; judge 1; begin 3];
+    driven(&rt, alloc, &STEPS, 3);
 }
 
 // Messages that wait for others, which have not arrived. The vertex a is kept by shard 1, b by shard 2.
 #[test]
 fn messages_not_delivered(rt: HostRuntime) {
     let alloc = rt.alloc();
-    let steps = [
-        begin(0),
-        judge(0),
-        send(0),
-        nop(0, 1),
-        nop(0, 2),
-        begin(3),
-        judge(2),
-        send(2),
-        deliver(2, 1, 1),
-        deliver(2, 2, 1),
-        deliver(0, 1, 2),
-        deliver(0, 2, 2),
-        begin(1),
+    const STEPS: [Step; 13] = steps![
+        begin 0; judge 0; send 0; nop 0 1; nop 0 2; begin 3; judge 2; send 2; deliver 2 1 1;
+        deliver 2 2 1; deliver 0 1 2; deliver 0 2 2; begin 1
     ];
-    driven(&rt, alloc, &steps, 3);
+    driven(&rt, alloc, &STEPS, 3);
 }
 
-// The steps that finish the program p2 at gatekeeper 2: it finds no vertex a.
-const FINISHED: [Step; 11] = [
-    Step::Begin { request: 2 },
-    Step::Say { gate: 2 },
-    Step::Hear { gate: 0, notice: 1 },
-    Step::Hear { gate: 1, notice: 1 },
-    Step::Nop { gate: 0, shard: 1 },
-    Step::Nop { gate: 1, shard: 1 },
-    Step::Nop { gate: 2, shard: 1 },
-    Step::Deliver {
-        gate: 0,
-        shard: 1,
-        number: 1,
-    },
-    Step::Deliver {
-        gate: 1,
-        shard: 1,
-        number: 1,
-    },
-    Step::Deliver {
-        gate: 2,
-        shard: 1,
-        number: 1,
-    },
-    Step::Visit { request: 2 },
+// The program p2 at gatekeeper 2 is finished: it finds no vertex a.
+const FINISHED: [Step; 12] = steps![
+    begin 2; say 2; hear 0 1; hear 1 1; nop 0 1; nop 1 1; nop 2 1; deliver 0 1 1;
+    deliver 1 1 1; deliver 2 1 1; visit 2; reply 2
 ];
 
 // Whether the head of a gatekeeper's channel waits in a shard.
 fn waits(rt: &impl Abort, alloc: Global, core: &mut Core, shard: u32, gate: u32) -> bool {
-    let step = apply(shard, gate);
+    let step = Step::Apply { shard, gate };
     if !is_step_of(core.script(), &step) {
         panic!(rt; "no step of the script");
     }
@@ -468,40 +410,18 @@ fn waits(rt: &impl Abort, alloc: Global, core: &mut Core, shard: u32, gate: u32)
     matches!(answer, StepAnswer::Waits { .. })
 }
 
-// The transactions t0, t1, t3, t4 and t7 are sent, and some of their messages come: at shard 1 the head of gatekeeper 1
-// waits for a message of gatekeeper 2, and at shard 2 the head of gatekeeper 2 waits for one of gatekeeper 1.
+// Then the transactions t0, t1, t3, t4 and t7 are sent, and some of their messages come: at shard 1 the head of
+// gatekeeper 1 waits for a message of gatekeeper 2, and at shard 2 the head of gatekeeper 2 for one of gatekeeper 1.
+const WAITING: [Step; 23] = steps![
+    begin 0; judge 0; send 0; begin 1; judge 1; send 1; reply 1; begin 3; judge 2; send 2;
+    begin 4; judge 1; send 1; begin 7; judge 2; send 2; apply 1 1; deliver 1 1 2;
+    deliver 0 2 1; apply 2 0; deliver 2 2 1; apply 2 2; deliver 2 2 2
+];
+
+// The core after the steps of both lists.
 fn with_waiting_heads(rt: &impl Abort, alloc: Global) -> Core {
     let mut steps = Vec::from_slice(alloc, &FINISHED).expect(rt, "no memory");
-    let sent = [
-        reply(2),
-        begin(0),
-        judge(0),
-        send(0),
-        begin(1),
-        judge(1),
-        send(1),
-        reply(1),
-        begin(3),
-        judge(2),
-        send(2),
-        begin(4),
-        judge(1),
-        send(1),
-        begin(7),
-        judge(2),
-        send(2),
-    ];
-    let come = [
-        apply(1, 1),
-        deliver(1, 1, 2),
-        deliver(0, 2, 1),
-        apply(2, 0),
-        deliver(2, 2, 1),
-        apply(2, 2),
-        deliver(2, 2, 2),
-    ];
-    steps.extend_from_slice(&sent).expect(rt, "no memory");
-    steps.extend_from_slice(&come).expect(rt, "no memory");
+    steps.extend_from_slice(&WAITING).expect(rt, "no memory");
     left_by(rt, alloc, chains(rt, alloc), steps.as_slice())
 }
 
@@ -519,47 +439,23 @@ fn heads_that_wait_for_each_other(rt: HostRuntime) {
 #[test]
 fn epochs_apart(rt: HostRuntime) {
     let alloc = rt.alloc();
-    let steps = [
-        epoch(0, 3),
-        begin(0),
-        epoch(2, 7),
-        judge(0),
-        send(0),
-        begin(2),
-        begin(5),
-        epoch(0, 9),
-        begin(6),
-        begin(1),
+    const STEPS: [Step; 10] = steps![
+        epoch 0 3; begin 0; epoch 2 7; judge 0; send 0; begin 2; begin 5; epoch 0 9; begin 6;
+        begin 1
     ];
-    driven(&rt, alloc, &steps, 6);
+    driven(&rt, alloc, &STEPS, 6);
 }
 
 // A program that has read its start, a, and not yet b, and one that has read nothing, with a write in flight.
 #[test]
 fn programs_half_read(rt: HostRuntime) {
     let alloc = rt.alloc();
-    let steps = [
-        begin(0),
-        judge(0),
-        send(0),
-        begin(5),
-        begin(6),
-        say(0),
-        hear(1, 1),
-        hear(2, 1),
-        nop(0, 1),
-        nop(1, 1),
-        nop(2, 1),
-        deliver(0, 1, 1),
-        apply(1, 0),
-        deliver(0, 1, 2),
-        deliver(1, 1, 1),
-        deliver(2, 1, 1),
-        visit(5),
-        begin(3),
-        judge(2),
+    const STEPS: [Step; 19] = steps![
+        begin 0; judge 0; send 0; begin 5; begin 6; say 0; hear 1 1; hear 2 1; nop 0 1; nop 1 1;
+        nop 2 1; deliver 0 1 1; apply 1 0; deliver 0 1 2; deliver 1 1 1; deliver 2 1 1; visit 5;
+        begin 3; judge 2
     ];
-    driven(&rt, alloc, &steps, 5);
+    driven(&rt, alloc, &STEPS, 5);
 }
 
 // v is created, and then changed and shown, in fifty phases of two requests, at two gatekeepers in turn.
