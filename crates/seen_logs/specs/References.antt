@@ -37,7 +37,8 @@ use Rattle.weave_account.specs.Store.{IsRightVerdict}
 
 -- Gatekeepers
 
--- a program is finished after its visits: what it read was seen, and some program reads no more over these states
+-- A program is finished after visits of its own: they were seen, and some program reads no more over the states that they
+-- read. Which program, and that these are all its visits, is not said here.
 pub record EndsAsSeen (seen : Account) (r : ℕ) : Type 0 where
   pub program : Program
   pub reads : List (Name × State)
