@@ -1,0 +1,9 @@
+pub mod Lists
+pub mod Entries
+pub mod Accounts
+pub mod Meeting
+pub mod Adding
+pub mod Calls
+pub mod Fetching
+pub mod Crossing
+pub mod Starting

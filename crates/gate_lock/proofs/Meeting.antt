@@ -1,0 +1,299 @@
+-- What the notes have seen after they met the passes.
+use Rattle.std.proofs.Common.{◌≡◌, ◌≢◌, ◌⊎◌, inl, inr, ℕ, ◌<◌, ◌≤◌, List, [], ◌∷◌, ◌++◌, length, map, get_or, refl, sym, ap, ◌∙◌, subst, arith}
+use Rattle.std.proofs.lemmas.Bool.{cases_lt}
+use Rattle.std.proofs.lemmas.List.{append-nil, get_or_past, length-append, length-map, get_or-map}
+use mathlib.Core.List.{IsPrefix}
+use Rattle.weave_entries.specs.declared.gate_log.GateDeed.{GateDeed}
+use Rattle.weave_entries.specs.declared.gate_log.GateEntry.{GateEntry}
+use Rattle.weave_entries.specs.declared.shard_log.ShardDeed.{ShardDeed}
+use Rattle.weave_entries.specs.declared.store_log.StoreDeed.{StoreDeed}
+use Rattle.weave_account.specs.Account.{gate_log}
+use Rattle.weave_account.specs.GoesOn.{IsBeginningOf}
+use Rattle.gatekeeper.specs.Gates.{GateView}
+use Rattle.seen_logs.specs.References.{GateRefersAs}
+use Rattle.seen_logs.specs.Seen.{AreLegal, IsWithin}
+use Rattle.chronicle.specs.declared.chronicle.Chronicle.{Chronicle}
+use Rattle.chronicle.specs.declared.pass.Pass.{Pass}
+use Rattle.chronicle.specs.declared.note.Note.{Note}
+use Rattle.chronicle.specs.Frames.{Frame}
+use Rattle.chronicle.specs.Logs.{Log}
+use Rattle.chronicle.specs.Locks.{Lock, lock_of, name_of}
+use Rattle.chronicle.specs.Passes.{seen, noted, lock_noted}
+use Rattle.lock_row.specs.Rows.{names_of}
+use Rattle.lock_row.specs.Meetings.{AllMet, CanMeet, HaveMet}
+use Rattle.lock_row.proofs.Lists.{one_of}
+use Rattle.gate_lock.specs.declared.notes.GateNotes.{GateNotes}
+use Rattle.gate_lock.specs.Frames.{AreReadyBut, gate_frame}
+use Rattle.gate_lock.specs.LowerLaws.{LowerLaws}
+use Rattle.gate_lock.specs.Notes.{IsKept, NotedView, frame_of, seen_by_passes, seen_of}
+use Rattle.gate_lock.proofs.Accounts.{at_home, grows, legal_now, same_account}
+use Rattle.gate_lock.proofs.Lists.{append_parts}
+
+-- what was seen of a log at a place: by the pass, by the note, and by both after they met
+pub record Met {E : Type 0} (before after note later : Log E) : Type 0 where
+  pub note_on : IsPrefix note later
+  pub pass_on : IsPrefix before later
+  pub one : later ≡ after
+  pub either : (later ≡ before) ⊎ (later ≡ note)
+
+met_of : {E : Type 0} (lock : Lock E) (p q : Pass E) (n m : Note E) → HaveMet lock p q n m → Met (seen p) (seen q) (noted n) (noted m)
+met_of {E} lock p q n m h = record {
+  note_on = subst (λ (l : Log E). IsPrefix (noted n) l) (sym h.one) h.note_before;
+  pass_on = subst (λ (l : Log E). IsPrefix (seen p) l) (sym h.one) h.pass_before;
+  one = h.one;
+  either = elim h.either [ inl is ↦ inl (h.one ∙ is) | inr is ↦ inr (h.one ∙ is) ];
+}
+
+module _ {M E : Type 0} (locks : List (Chronicle M E)) (before after : List (Pass E)) (notes later : List (Note E)) (except : ℕ)
+    (met : AllMet locks before after notes later except) (before_long : length before ≡ length locks) (after_long : length after ≡ length locks)
+    (notes_long : length notes ≡ length locks) (later_long : length later ≡ length locks) where
+  none_past : {A : Type 0} (f : A → Log E) (xs : List A) (k : ℕ) → length xs ≡ length locks → length locks ≤ k → get_or (map f xs) k [] ≡ []
+  none_past f xs k long past = get_or_past (map f xs) k [] (omega (arith, length-map xs f, long, past))
+
+  -- at each place but one, and past the last
+  pub met_at : (k : ℕ) → (k < length locks → k ≢ except)
+      → Met (get_or (map seen before) k []) (get_or (map seen after) k []) (get_or (map noted notes) k []) (get_or (map noted later) k [])
+  met_at k other =
+      let P : Log E × Log E × Log E × Log E → Type 0 = λ z. Met z.0 z.1 z.2 z.3 in
+      elim (cases_lt k (length locks)) [
+        | inl low ↦
+            let c = one_of locks k low in
+            let p = one_of before k (omega (arith, low, before_long)) in
+            let n = one_of notes k (omega (arith, low, notes_long)) in
+            let a : get_or (map seen before) k [] ≡ seen (get_or before k p) = get_or-map seen before k p [] (omega (arith, low, before_long)) in
+            let b : get_or (map seen after) k [] ≡ seen (get_or after k p) = get_or-map seen after k p [] (omega (arith, low, after_long)) in
+            let d : get_or (map noted notes) k [] ≡ noted (get_or notes k n) = get_or-map noted notes k n [] (omega (arith, low, notes_long)) in
+            let e : get_or (map noted later) k [] ≡ noted (get_or later k n) = get_or-map noted later k n [] (omega (arith, low, later_long)) in
+            subst P (λ i. (sym a i, sym b i, sym d i, sym e i)) (met_of _ _ _ _ _ (met k c p n low (other low)))
+        | inr past ↦
+            let a : get_or (map seen before) k [] ≡ [] = none_past seen before k before_long past in
+            let b : get_or (map seen after) k [] ≡ [] = none_past seen after k after_long past in
+            let d : get_or (map noted notes) k [] ≡ [] = none_past noted notes k notes_long past in
+            let e : get_or (map noted later) k [] ≡ [] = none_past noted later k later_long past in
+            subst P (λ i. (sym a i, sym b i, sym d i, sym e i))
+            (record { note_on = ([], refl); pass_on = ([], refl); one = refl; either = inl refl })
+      ]
+
+-- what the frame says: the numbers, and of which locks the notes are
+pub record IsFramed (gate : GateView) (notes : GateNotes) (home gates shards : ℕ) (gate_names : List (List ℕ)) (store_name : List ℕ)
+    (shard_names : List (List ℕ)) : Type 0 where
+  pub home_is : gate.home ≡ home
+  pub gates_are : gate.gates ≡ gates
+  pub shards_are : gate.shards ≡ shards
+  pub gate_notes : map lock_noted notes.gates.items ≡ gate_names
+  pub store_note : lock_noted notes.store ≡ store_name
+  pub shard_notes : map lock_noted notes.shards.items ≡ shard_names
+
+abbrev head_of : List (List ℕ) → List ℕ
+head_of [] = []
+head_of (x ∷ xs) = x
+
+abbrev tail_of : List (List ℕ) → List (List ℕ)
+tail_of [] = []
+tail_of (x ∷ xs) = xs
+
+pub framed : (gate : GateView) (notes : GateNotes) (home gates shards : ℕ) (gate_names : List (List ℕ)) (store_name : List ℕ) (shard_names : List (List ℕ))
+    → length notes.gates.items ≡ gate.gates → length gate_names ≡ gates
+    → frame_of gate notes ≡ gate_frame home gates shards gate_names store_name shard_names
+    → IsFramed gate notes home gates shards gate_names store_name shard_names
+framed gate notes home gates shards gate_names store_name shard_names noted_all named is =
+    let number : (k : ℕ) → get_or (gate.home ∷ gate.gates ∷ gate.shards ∷ []) k 0 ≡ get_or (home ∷ gates ∷ shards ∷ []) k 0 = λ k. ap
+    (λ (f : Frame). get_or (head_of f) k 0) is in
+    let names : map lock_noted notes.gates.items ++ lock_noted notes.store ∷ map lock_noted notes.shards.items ≡ gate_names ++ store_name ∷
+    shard_names = ap tail_of is in
+    let many : gate.gates ≡ gates = number 1 in
+    let long : length (map lock_noted notes.gates.items) ≡ length gate_names = omega
+    (arith, length-map notes.gates.items lock_noted, noted_all, named, many) in
+    let parts = append_parts (map lock_noted notes.gates.items) gate_names (lock_noted notes.store ∷ map lock_noted notes.shards.items)
+    (store_name ∷ shard_names) long names in
+    record {
+      home_is = number 0;
+      gates_are = many;
+      shards_are = number 2;
+      gate_notes = parts.0;
+      store_note = ap head_of parts.1;
+      shard_notes = ap tail_of parts.1;
+    }
+
+-- notes of the names of a row can meet passes of its locks
+pub can_meet : {M E : Type 0} (locks : List (Chronicle M E)) (notes : List (Note E)) (passes : List (Pass E)) (except : ℕ)
+    → map lock_noted notes ≡ names_of locks → AreReadyBut except locks passes → CanMeet locks passes notes except
+can_meet {M} {E} locks notes passes except named ready k c p n low other =
+    let N : Chronicle M E → List ℕ = λ x. name_of (lock_of x) in
+    let long : length notes ≡ length locks = omega (arith, length-map notes lock_noted, length-map locks N, ap (λ (l : List (List ℕ)). length l) named) in (
+      ready k c p low other,
+      sym (get_or-map lock_noted notes k n [] (omega (arith, low, long))) ∙ (ap (λ (l : List (List ℕ)). get_or l k []) named ∙ get_or-map N locks
+          k c [] low),
+    )
+
+-- as many notes as locks
+pub as_many : {M E : Type 0} (locks : List (Chronicle M E)) (notes : List (Note E)) → map lock_noted notes ≡ names_of locks → length notes ≡ length locks
+as_many {M} {E} locks notes named =
+    let N : Chronicle M E → List ℕ = λ x. name_of (lock_of x) in
+    omega (arith, length-map notes lock_noted, length-map locks N, ap (λ (l : List (List ℕ)). length l) named)
+
+-- The gatekeeper's notes
+
+-- the notes have met the passes
+pub record AreMet {G S H : Type 0} (gate : GateView) (old new : GateNotes) (gate_locks : List (Chronicle G GateDeed))
+    (gates gates_now : List (Pass GateDeed))
+    (store_lock : Chronicle S StoreDeed) (store store_now : Pass StoreDeed) (shard_locks : List (Chronicle H ShardDeed))
+    (shards shards_now : List (Pass ShardDeed)) : Type 0 where
+  pub gate_count : gate.gates ≡ length gate_locks
+  pub shard_count : gate.shards ≡ length shard_locks
+  pub gate_passes : length gates ≡ length gate_locks
+  pub gate_passes_now : length gates_now ≡ length gates
+  pub shard_passes : length shards ≡ length shard_locks
+  pub shard_passes_now : length shards_now ≡ length shards
+  pub gate_notes : length new.gates.items ≡ length old.gates.items
+  pub shard_notes : length new.shards.items ≡ length old.shards.items
+  pub gates_met : AllMet gate_locks gates gates_now old.gates.items new.gates.items gate.home
+  pub store_met : HaveMet (lock_of store_lock) store store_now old.store new.store
+  pub shards_met : AllMet shard_locks shards shards_now old.shards.items new.shards.items (length shard_locks)
+
+module _ {G S H : Type 0} (gate : GateView) (old new : GateNotes) (gate_locks : List (Chronicle G GateDeed)) (gates gates_now : List (Pass GateDeed))
+    (store_lock : Chronicle S StoreDeed) (store store_now : Pass StoreDeed) (shard_locks : List (Chronicle H ShardDeed))
+    (shards shards_now : List (Pass ShardDeed))
+    (kept : IsKept gate old) (met : AreMet gate old new gate_locks gates gates_now store_lock store store_now shard_locks shards shards_now) where
+  at_gate : (k : ℕ) → k ≢ gate.home
+      → Met (get_or (map seen gates) k []) (get_or (map seen gates_now) k []) (get_or (map noted old.gates.items) k [])
+      (get_or (map noted new.gates.items) k [])
+  at_gate k other =
+      let noted_all : length old.gates.items ≡ length gate_locks = omega (arith, kept.gates, met.gate_count) in
+      met_at gate_locks gates gates_now old.gates.items new.gates.items gate.home met.gates_met met.gate_passes
+      (omega (arith, met.gate_passes, met.gate_passes_now)) noted_all (omega (arith, met.gate_notes, noted_all)) k (λ low. other)
+
+  at_store : Met (seen store) (seen store_now) (noted old.store) (noted new.store)
+  at_store = met_of _ _ _ _ _ met.store_met
+
+  at_shard : (k : ℕ) → Met (get_or (map seen shards) k []) (get_or (map seen shards_now) k []) (get_or (map noted old.shards.items) k [])
+      (get_or (map noted new.shards.items) k [])
+  at_shard k =
+      let noted_all : length old.shards.items ≡ length shard_locks = omega (arith, kept.shards, met.shard_count) in
+      met_at shard_locks shards shards_now old.shards.items new.shards.items (length shard_locks) met.shards_met met.shard_passes
+      (omega (arith, met.shard_passes, met.shard_passes_now)) noted_all (omega (arith, met.shard_notes, noted_all)) k (λ low e. omega (arith, low, e))
+
+  low_old : gate.home < length (map noted old.gates.items)
+  low_old = omega (arith, length-map old.gates.items noted, kept.gates, kept.home)
+
+  low_new : gate.home < length (map noted new.gates.items)
+  low_new = omega (arith, length-map new.gates.items noted, met.gate_notes, kept.gates, kept.home)
+
+  low_passes : gate.home < length (map seen gates)
+  low_passes = omega (arith, length-map gates seen, met.gate_passes, met.gate_count, kept.home)
+
+  -- the notes have seen no less than they had
+  pub notes_on : IsWithin (seen_of gate old) (seen_of gate new)
+  notes_on = grows gate.home gate.log gate.log (map noted old.gates.items) (map noted new.gates.items) (noted old.store) (noted new.store)
+      (map noted old.shards.items) (map noted new.shards.items) low_old low_new ([], sym (append-nil gate.log)) (λ k other. (at_gate k other).note_on)
+      at_store.note_on (λ k. (at_shard k).note_on)
+
+  -- and no less than the passes had
+  pub passes_on : (own : List GateEntry) → IsBeginningOf own gate.log → IsWithin (seen_by_passes gate.home own gates store shards) (seen_of gate new)
+  passes_on own on = grows gate.home own gate.log (map seen gates) (map noted new.gates.items) (seen store) (noted new.store)
+      (map seen shards) (map noted new.shards.items) low_passes low_new on (λ k other. (at_gate k other).pass_on)
+      at_store.pass_on (λ k. (at_shard k).pass_on)
+
+  -- they have seen what the passes have
+  pub one_account : seen_of gate new ≡ seen_by_passes gate.home gate.log gates_now store_now shards_now
+  one_account = same_account gate.home gate.log (map noted new.gates.items) (map seen gates_now) (noted new.store) (seen store_now)
+      (map noted new.shards.items) (map seen shards_now) low_new
+      (omega (
+        arith,
+        length-map new.gates.items noted,
+        length-map gates_now seen,
+        met.gate_notes,
+        kept.gates,
+        met.gate_count,
+        met.gate_passes,
+        met.gate_passes_now,
+      ))
+      (omega (
+        arith,
+        length-map new.shards.items noted,
+        length-map shards_now seen,
+        met.shard_notes,
+        kept.shards,
+        met.shard_count,
+        met.shard_passes,
+        met.shard_passes_now,
+      ))
+      (λ k other. (at_gate k other).one) at_store.one (λ k. (at_shard k).one)
+
+  module _ (laws : LowerLaws) (legal : AreLegal gate.gates gate.shards (seen_by_passes gate.home [] gates store shards)) where
+    legal_on : AreLegal gate.gates gate.shards (seen_of gate new)
+    legal_on = legal_now gate.gates gate.shards gate.home gate.log (map noted old.gates.items) (map seen gates) (map noted new.gates.items)
+        (noted old.store) (seen store) (noted new.store) (map noted old.shards.items) (map seen shards) (map noted new.shards.items) low_old low_new
+        kept.legal legal (λ k other. (at_gate k other).either) at_store.either (λ k. (at_shard k).either)
+
+    -- nothing is new in the own log
+    none_new : (before : List GateEntry) (entry : GateEntry) (rest : List GateEntry) → gate_log (seen_of gate new) gate.home ≡ before ++ entry ∷ rest
+        → length (gate_log (seen_of gate old) gate.home) ≤ length before → GateRefersAs (seen_of gate new) gate.shards before entry.author entry.deed
+    none_new before entry rest at more =
+        let was : gate_log (seen_of gate old) gate.home ≡ gate.log = at_home gate.home gate.log (map noted old.gates.items) (noted old.store)
+        (map noted old.shards.items) low_old in
+        let is : gate_log (seen_of gate new) gate.home ≡ gate.log = at_home gate.home gate.log (map noted new.gates.items) (noted new.store)
+        (map noted new.shards.items) low_new in
+        let L : List GateEntry → ℕ = λ l. length l in
+        absurd (omega (arith, more, ap L was, ap L is, ap L at, length-append before (entry ∷ rest)))
+
+    pub kept_met : IsKept gate new
+    kept_met = record {
+      home = kept.home;
+      gates = met.gate_notes ∙ kept.gates;
+      shards = met.shard_notes ∙ kept.shards;
+      legal = legal_on;
+      refers = laws.notes gate.gates gate.shards (seen_of gate old) (seen_of gate new) notes_on.gates notes_on.store notes_on.shards legal_on.shard_logs
+          gate.home kept.refers none_new;
+    }
+
+-- The frame of a gatekeeper in a hold
+
+abbrev seen_as : GateView → GateNotes → NotedView
+seen_as gate notes = record { gate = gate; notes = notes }
+
+-- of a gatekeeper that contracts see as `now`
+pub at_locks : {G S H : Type 0} (gate : GateView) (notes : GateNotes) (now : NotedView) (home : ℕ)
+    (gate_locks : List (Chronicle G GateDeed)) (store_lock : Chronicle S StoreDeed) (shard_locks : List (Chronicle H ShardDeed))
+    → IsKept gate notes → seen_as gate notes ≡ now
+    → frame_of now.gate now.notes
+    ≡ gate_frame home (length gate_locks) (length shard_locks) (names_of gate_locks) (name_of (lock_of store_lock)) (names_of shard_locks)
+    → IsFramed gate notes home (length gate_locks) (length shard_locks) (names_of gate_locks) (name_of (lock_of store_lock))
+    (names_of shard_locks)
+at_locks {G} {S} {H} gate notes now home gate_locks store_lock shard_locks kept view is =
+    framed gate notes home (length gate_locks) (length shard_locks) (names_of gate_locks) (name_of (lock_of store_lock))
+    (names_of shard_locks) kept.gates (length-map gate_locks (λ (x : Chronicle G GateDeed). name_of (lock_of x)))
+    (ap (λ (v : NotedView). frame_of v.gate v.notes) view ∙ is)
+
+-- the frame stays if the names do
+pub frame_still : (gate : GateView) (old new : GateNotes) → map lock_noted new.gates.items ≡ map lock_noted old.gates.items
+    → lock_noted new.store ≡ lock_noted old.store → map lock_noted new.shards.items ≡ map lock_noted old.shards.items → frame_of gate new ≡
+    frame_of gate old
+frame_still gate old new gates_are store_is shards_are = λ i. gate_frame gate.home gate.gates gate.shards (gates_are i) (store_is i) (shards_are i)
+
+-- what the frame says and what was met, in one
+pub are_met : {G S H : Type 0} (gate : GateView) (old new : GateNotes) (home : ℕ) (gate_locks : List (Chronicle G GateDeed))
+    (gates gates_now : List (Pass GateDeed))
+    (store_lock : Chronicle S StoreDeed) (store store_now : Pass StoreDeed) (shard_locks : List (Chronicle H ShardDeed))
+    (shards shards_now : List (Pass ShardDeed))
+    → IsFramed gate old home (length gate_locks) (length shard_locks) (names_of gate_locks) (name_of (lock_of store_lock)) (names_of shard_locks)
+    → length gates ≡ length gate_locks → length gates_now ≡ length gates → length shards ≡ length shard_locks → length shards_now ≡ length shards
+    → length new.gates.items ≡ length old.gates.items → length new.shards.items ≡ length old.shards.items
+    → AllMet gate_locks gates gates_now old.gates.items new.gates.items home → HaveMet (lock_of store_lock) store store_now old.store new.store
+    → AllMet shard_locks shards shards_now old.shards.items new.shards.items (length shard_locks)
+    → AreMet gate old new gate_locks gates gates_now store_lock store store_now shard_locks shards shards_now
+are_met gate old new home gate_locks gates gates_now store_lock store store_now shard_locks shards shards_now f gate_passes gate_passes_now
+    shard_passes shard_passes_now
+    gate_notes shard_notes gates_met store_met shards_met = record {
+      gate_count = f.gates_are;
+      shard_count = f.shards_are;
+      gate_passes = gate_passes;
+      gate_passes_now = gate_passes_now;
+      shard_passes = shard_passes;
+      shard_passes_now = shard_passes_now;
+      gate_notes = gate_notes;
+      shard_notes = shard_notes;
+      gates_met = subst (λ (h : ℕ). AllMet gate_locks gates gates_now old.gates.items new.gates.items h) (sym f.home_is) gates_met;
+      store_met = store_met;
+      shards_met = shards_met;
+    }
