@@ -1,0 +1,4 @@
+pub mod Notes
+pub mod Settling
+pub mod Judging
+pub mod Crossing

@@ -1,0 +1,194 @@
+-- What the oracle's entries speak of was begun, and stays so when it is asked.
+use Rattle.std.proofs.Common.{◌≡◌, ◌⊎◌, ℕ, ◌≤◌, List, [], ◌∷◌, ◌++◌, length, map, Contains, Option, None, Some, inl, inr, refl, sym, ap, ◌∙◌, subst}
+use Rattle.std.specs.Prelude.{slice_get}
+use Rattle.std.specs.List.{cons_option, filter_map}
+use Rattle.std.specs.Option.{option_map}
+use Rattle.std.proofs.lemmas.List.{length-map, map-append}
+use Rattle.std.proofs.lemmas.List.Elements.{Contains-append_cases}
+use Rattle.proof_base.proofs.Images.{get-has}
+use Rattle.proof_base.proofs.Members.{cut_at, flat_has, has_cut, has_none, has_read, has_head, has_tail, map_has}
+use Rattle.vector_stamp.specs.declared.clock.Stamp.{Stamp}
+use Rattle.vector_stamp.specs.Coherence.{AreCoherent}
+use Rattle.vector_stamp.specs.Precedence.{Given}
+use Rattle.vector_stamp.specs.Settling.{SettledEntry}
+use Rattle.order_graph.specs.Building.{ends_of}
+use Rattle.weave_entries.specs.declared.gate_log.GateEntry.{GateEntry}
+use Rattle.weave_entries.specs.declared.oracle_log.OracleEntry.{OracleEntry}
+use Rattle.weave_entries.specs.declared.oracle_log.OracleDeed.{OracleDeed}
+use Rattle.weave_entries.specs.declared.oracle_log.OracleDeed.TheVariants.{Settled}
+use Rattle.weave_entries.specs.OracleReplay.{oracle_entry, pairs_of_entry, pairs_of_log, settled_by, settled_entry}
+use Rattle.weave_entries.specs.OracleRules.{IsOracleLog}
+use Rattle.weave_entries.specs.GateRules.{IsGateLog}
+use Rattle.weave_entries.specs.ShardRules.{IsShardLog}
+use Rattle.weave_account.specs.declared.account.Account.{Account}
+use Rattle.weave_account.specs.Account.{IsBegunStamp, begun_stamps, gate_log, shard_log}
+use Rattle.seen_logs.specs.References.{OracleRefersAs}
+use Rattle.seen_logs.specs.Seen.{GatesGoOn, OracleRefersWithin}
+use Rattle.oracle_lock.specs.Entries.{oracle_entries, oracle_pairs}
+use Rattle.weave_entries.specs.declared.gate_log.GateDeed.{GateDeed}
+use Rattle.chronicle.specs.declared.note.Note.{Note}
+use Rattle.chronicle.specs.Passes.{lock_noted, noted}
+use Rattle.oracle_lock.specs.Entries.{gate_entries}
+use Rattle.oracle_lock.specs.Seen.{gates_noted, of_gates, oracle_seen, AreGateLogs, OracleIsKept}
+
+-- a log that went behind its lock and came back
+pub pairs_back : (log : List OracleEntry) → oracle_entries (oracle_pairs log) ≡ log
+pairs_back [] = refl
+pairs_back (entry ∷ log) = ap (λ (l : List OracleEntry). entry ∷ l) (pairs_back log)
+
+-- Pairs
+
+-- what a list gives is given by one of its elements
+filter_map-from : {A B : Type 0} (f : A → Option B) (xs : List A) (y : B) → Contains (filter_map f xs) y → (x : A) × (f x ≡ Some y)
+filter_map-from f [] y h = absurd (has_none y h)
+filter_map-from {A} {B} f (x ∷ xs) y h = at (f x) refl (filter_map-from f xs y) h
+  where
+    at : (o : Option B) → f x ≡ o → (Contains (filter_map f xs) y → (x : A) × (f x ≡ Some y))
+        → Contains (cons_option o (filter_map f xs)) y → (x : A) × (f x ≡ Some y)
+    at None e rest h = rest h
+    at (Some z) e rest h =
+        elim (has_read z (filter_map f xs) y h) [
+          | inl same ↦ (x, e ∙ ap Some same)
+          | inr more ↦ rest more
+        ]
+
+of-event : (earlier : List Stamp) (later : Stamp) (place : ℕ) (pair : Given) (o : Option Stamp) → slice_get earlier place ≡ o
+    → option_map (λ (event : Stamp). (event, later)) o ≡ Some pair → Contains earlier pair.0 × (later ≡ pair.1)
+of-event earlier later place pair None e is = cc
+of-event earlier later place pair (Some event) e is =
+    let same : (event, later) ≡ pair = cc in (
+      subst (λ (s : Stamp). Contains earlier s) (ap (λ (g : Given). g.0) same) (get-has earlier place event e),
+      ap (λ (g : Given). g.1) same,
+    )
+
+-- a pair of an entry is of its events
+pair-of : (entry : SettledEntry) (pair : Given) → Contains (pairs_of_entry entry) pair → Contains entry.earlier pair.0 × (entry.later ≡ pair.1)
+pair-of entry pair h =
+    let from = filter_map-from (λ (place : ℕ). option_map (λ (event : Stamp). (event, entry.later)) (slice_get entry.earlier place)) entry.places pair h in
+    of-event entry.earlier entry.later from.0 pair (slice_get entry.earlier from.0) refl from.1
+
+-- Entries
+
+-- the events of an entry
+abbrev events_of : SettledEntry → List Stamp
+events_of entry = entry.later ∷ entry.earlier
+
+told : (gates : List (List GateEntry)) (log : List OracleEntry) (author : ℕ) (deed : OracleDeed) → OracleRefersAs (oracle_seen gates log) deed
+    → (event : Stamp) → Contains (events_of (settled_by author deed)) event → IsBegunStamp (of_gates gates) event
+told gates log author (Settled earlier later places) refers event h = refers event h
+
+tell : (gates : List (List GateEntry)) (log : List OracleEntry) (author : ℕ) (deed : OracleDeed)
+    → ((event : Stamp) → Contains (events_of (settled_by author deed)) event → IsBegunStamp (of_gates gates) event)
+    → OracleRefersAs (oracle_seen gates log) deed
+tell gates log author (Settled earlier later places) begun = λ event h. begun event h
+
+-- each event of an entry was begun
+entry-begun : (gates : List (List GateEntry)) (log : List OracleEntry) → OracleRefersWithin (oracle_seen gates log) → (entry : OracleEntry)
+    → Contains log entry → (event : Stamp) → Contains (events_of (settled_entry entry)) event → IsBegunStamp (of_gates gates) event
+entry-begun gates log refers entry h event has =
+    let cut = cut_at log entry h in
+    told gates log entry.author entry.deed (refers cut.before entry cut.after cut.is) event has
+
+module _ (no_others : (pairs : List Given) (stamp : Stamp) → Contains (ends_of pairs) stamp
+    → (pair : Given) × Contains pairs pair × ((pair.0 ≡ stamp) ⊎ (pair.1 ≡ stamp))) where
+  -- and so was each event that the pairs join
+  pub known-begun : (gates : List (List GateEntry)) (log : List OracleEntry) → OracleRefersWithin (oracle_seen gates log) → (event : Stamp)
+      → Contains (ends_of (pairs_of_log log)) event → IsBegunStamp (of_gates gates) event
+  known-begun gates log refers event h =
+      let pair = no_others (pairs_of_log log) event h in
+      let entry = flat_has (λ (e : OracleEntry). pairs_of_entry (settled_entry e)) log pair.0 pair.1 in
+      let of = pair-of (settled_entry entry.0) pair.0 entry.2 in
+      entry-begun gates log refers entry.0 entry.1 event
+      (elim pair.2 [
+        | inl first ↦ has_tail (settled_entry entry.0).later (settled_entry entry.0).earlier event
+            (subst (λ (s : Stamp). Contains (settled_entry entry.0).earlier s) first of.0)
+        | inr second ↦ subst (λ (s : Stamp). Contains (events_of (settled_entry entry.0)) s) (of.1 ∙ second)
+            (has_head (settled_entry entry.0).later (settled_entry entry.0).earlier)
+      ])
+
+  -- with others that were begun they are coherent
+  pub known-coherent : ((shards : ℕ) (seen : Account) → length seen.gates ≤ 8 → ((home : ℕ) → IsGateLog home shards (gate_log seen home))
+      → AreCoherent (begun_stamps seen))
+      → ((stamps others : List Stamp) → AreCoherent others → ((stamp : Stamp) → Contains stamps stamp → Contains others stamp)
+      → AreCoherent stamps)
+      → (shards : ℕ) (gates : List (List GateEntry)) (log : List OracleEntry) (events : List Stamp) → OracleIsKept shards gates log
+      → length gates ≤ 8 → ((event : Stamp) → Contains events event → IsBegunStamp (of_gates gates) event)
+      → AreCoherent (events ++ ends_of (pairs_of_log log))
+  known-coherent coherent part shards gates log events kept few begun =
+      part (events ++ ends_of (pairs_of_log log)) (begun_stamps (of_gates gates)) (coherent shards (of_gates gates) few kept.legal.gate_logs)
+      (λ event h. elim (Contains-append_cases events (ends_of (pairs_of_log log)) event h) [
+        | inl one ↦ begun event one
+        | inr known ↦ known-begun gates log kept.refers event known
+      ])
+
+-- The log goes on
+
+module _ (back : (entry : OracleEntry) → oracle_entry (settled_entry entry) ≡ entry) where
+  entries-back : (log : List OracleEntry) → map oracle_entry (map settled_entry log) ≡ log
+  entries-back [] = refl
+  entries-back (entry ∷ log) = λ i. back entry i ∷ entries-back log i
+
+  -- what a judge's log says of the oracle's
+  pub log-is : (before after : List OracleEntry) (entries : List SettledEntry)
+      → map settled_entry after ≡ map settled_entry before ++ entries → after ≡ before ++ map oracle_entry entries
+  log-is before after entries e = sym (entries-back after) ∙ (ap (λ (l : List SettledEntry). map oracle_entry l) e
+      ∙ (map-append oracle_entry (map settled_entry before) entries
+      ∙ ap (λ (l : List OracleEntry). l ++ map oracle_entry entries) (entries-back before)))
+
+  pub log-keeps : (shards : ℕ) (gates : List (List GateEntry)) (before after : List OracleEntry) (entries : List SettledEntry)
+      → OracleIsKept shards gates before → map settled_entry after ≡ map settled_entry before ++ entries → IsOracleLog after
+      → ((entry : SettledEntry) (event : Stamp) → Contains entries entry → Contains (entry.later ∷ entry.earlier) event
+      → IsBegunStamp (of_gates gates) event)
+      → OracleIsKept shards gates after
+  log-keeps shards gates before after entries kept e right begun = record {
+    refers = λ front entry rest at. tell gates after entry.author entry.deed (λ event h. begun-in entry event h
+        (Contains-append_cases before (map oracle_entry entries) entry
+        (subst (λ (l : List OracleEntry). Contains l entry) (sym at ∙ log-is before after entries e) (has_cut front entry rest))));
+    legal = record {
+      gate_logs = kept.legal.gate_logs;
+      hears = kept.legal.hears;
+      store_log = kept.legal.store_log;
+      oracle_log = right;
+      shard_logs = kept.legal.shard_logs;
+    };
+  }
+    where
+      begun-in : (entry : OracleEntry) (event : Stamp) → Contains (events_of (settled_entry entry)) event
+          → Contains before entry ⊎ Contains (map oracle_entry entries) entry → IsBegunStamp (of_gates gates) event
+      begun-in entry event h (inl old) = entry-begun gates before kept.refers entry old event h
+      begun-in entry event h (inr new) =
+          let from = map_has oracle_entry entries entry new in
+          begun from.0 event from.1 (subst (λ (one : OracleEntry). Contains (events_of (settled_entry one)) event) (sym from.2) h)
+
+-- More is seen
+
+-- with more of the gatekeepers' logs all is still seen
+pub notes-keep : ((seen next : Account) → GatesGoOn seen next → (deed : OracleDeed) → OracleRefersAs seen deed → OracleRefersAs next deed)
+    → (shards : ℕ) (gates more : List (List GateEntry)) (log : List OracleEntry) → OracleIsKept shards gates log
+    → GatesGoOn (of_gates gates) (of_gates more) → length more ≡ length gates → AreGateLogs shards more → OracleIsKept shards more log
+notes-keep stays shards gates more log kept on long legal = record {
+  refers = λ front entry rest at. stays (oracle_seen gates log) (oracle_seen more log) on entry.deed (kept.refers front entry rest at);
+  legal = record {
+    gate_logs = legal.rules;
+    hears = legal.hears;
+    store_log = kept.legal.store_log;
+    oracle_log = kept.legal.oracle_log;
+    shard_logs = subst (λ (n : ℕ). (shard : ℕ) → IsShardLog n (shard_log (oracle_seen gates log) shard)) (sym long) kept.legal.shard_logs;
+  };
+}
+
+-- so it is after notes and passes have met
+pub meeting-keeps : ((seen next : Account) → GatesGoOn seen next → (deed : OracleDeed) → OracleRefersAs seen deed → OracleRefersAs next deed)
+    → (shards its : ℕ) (notes later : List (Note GateDeed)) (before after : List (List GateEntry)) (log : List OracleEntry)
+    → OracleIsKept shards (gates_noted notes) log → shards ≡ its → map lock_noted later ≡ map lock_noted notes
+    → GatesGoOn (of_gates (gates_noted notes)) (of_gates (gates_noted later)) → gates_noted later ≡ after
+    → ((n : ℕ) → AreGateLogs n (gates_noted notes) → AreGateLogs n before → AreGateLogs n after) → AreGateLogs its before
+    → OracleIsKept shards (gates_noted later) log
+meeting-keeps stays shards its notes later before after log kept same named on one legal mine =
+    let as_noted : Note GateDeed → List GateEntry = λ note. gate_entries (noted note) in
+    let many : length later ≡ length notes = sym (length-map later lock_noted) ∙ (ap (λ (l : List (List ℕ)). length l) named ∙ length-map notes lock_noted) in
+    let long : length (gates_noted later) ≡ length (gates_noted notes) = length-map later as_noted ∙ (many ∙ sym (length-map notes as_noted)) in
+    let theirs : AreGateLogs shards (gates_noted notes) = record { rules = kept.legal.gate_logs; hears = kept.legal.hears } in
+    notes-keep stays shards (gates_noted notes) (gates_noted later) log kept on long
+    (subst (λ (l : List (List GateEntry)). AreGateLogs shards l) (sym one)
+    (legal shards theirs (subst (λ (n : ℕ). AreGateLogs n before) (sym same) mine)))

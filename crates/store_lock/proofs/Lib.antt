@@ -1,0 +1,5 @@
+pub mod Keeping
+pub mod Begun
+pub mod Verdicts
+pub mod Committing
+pub mod Crossing

@@ -1,0 +1,4 @@
+pub mod Entries
+pub mod Seen
+pub mod Judged
+pub mod VerdictLaws

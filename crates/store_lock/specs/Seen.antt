@@ -1,0 +1,26 @@
+-- What the store with its notes has seen, and what it keeps of that.
+use Rattle.std.specs.Prelude.{ℕ, List, [], length}
+use Rattle.weave_entries.specs.declared.gate_log.GateEntry.{GateEntry}
+use Rattle.weave_entries.specs.declared.gate_log.GateDeed.{GateDeed}
+use Rattle.weave_entries.specs.declared.oracle_log.OracleDeed.{OracleDeed}
+use Rattle.weave_entries.specs.declared.oracle_log.OracleEntry.{OracleEntry}
+use Rattle.weave_entries.specs.declared.store_log.StoreEntry.{StoreEntry}
+use Rattle.weave_account.specs.declared.account.Account.{Account}
+use Rattle.seen_logs.specs.Seen.{AreLegal, StoreRefersWithin}
+use Rattle.chronicle.specs.declared.note.Note.{Note}
+
+-- what the store has seen: its own log, and these logs of gatekeepers and of the oracle
+abbrev pub store_seen : List (List GateEntry) → List OracleEntry → List StoreEntry → Account
+store_seen gates oracle log = record { gates = gates; store = log; oracle = oracle; shards = []; sessions = [] }
+
+-- a store with notes: its log, the number of shards, the notes of gatekeepers' locks, and that of the oracle's
+pub record StoreView : Type 0 where
+  pub store : List StoreEntry
+  pub shards : ℕ
+  pub gates : List (Note GateDeed)
+  pub oracle : Note OracleDeed
+
+-- all that the store's entries refer to was seen, and each list that was seen is legal
+pub record StoreIsKept (shards : ℕ) (gates : List (List GateEntry)) (oracle : List OracleEntry) (log : List StoreEntry) : Type 0 where
+  pub refers : StoreRefersWithin (store_seen gates oracle log)
+  pub legal : AreLegal (length gates) shards (store_seen gates oracle log)
