@@ -1,5 +1,5 @@
 -- Each entry of a log that has grown is of the start or of a pass.
-use Rattle.std.proofs.Common.{◌≡◌, ◌⊎◌, inl, inr, ℕ, ◌<◌, Bool, true, false, cond, eqb, eq-eqb, List, [], ◌∷◌, ◌++◌, get_or, refl, subst}
+use Rattle.std.proofs.Common.{◌≡◌, ◌⊎◌, inl, inr, ℕ, ◌<◌, Bool, true, false, cond, eqb, eq-eqb, [], ◌∷◌, get_or, refl, subst}
 use Rattle.std.specs.List.{All, Contains}
 use Rattle.std.proofs.lemmas.List.Elements.{All-nil, All-cons, All-head, All-tail, All-append, All-contains, All-weaker, All-contains_itself, Contains-get_or, Contains-append_right}
 use Rattle.chronicle.specs.Logs.{Log, entries_of, IsGrown}

@@ -1,5 +1,5 @@
 -- One note more.
-use Rattle.std.proofs.Common.{◌≡◌, ◌≢◌, ℕ, ◌+◌, ◌<◌, ◌≤◌, List, [], ◌∷◌, ◌++◌, length, map, get_or, set, refl, sym, ap, ◌∙◌, subst, arith}
+use Rattle.std.proofs.Common.{◌≡◌, ℕ, ◌+◌, ◌<◌, ◌≤◌, List, [], ◌∷◌, ◌++◌, length, map, get_or, set, sym, ap, ◌∙◌, subst, arith}
 use Rattle.std.proofs.lemmas.List.{get_or_append_left, get_or-set_same, get_or-set_other}
 use mathlib.Core.Logic.{dite}
 use native.Mathlib.Decide.{ℕ_discrete}
@@ -9,7 +9,7 @@ use Rattle.chronicle.specs.declared.note.Note.{Note}
 use Rattle.chronicle.specs.Locks.{lock_of, name_of}
 use Rattle.chronicle.specs.Passes.{lock_noted}
 use Rattle.lock_row.specs.Rows.{names_of}
-use Rattle.lock_row.specs.Notings.{HasNoted, HaveNoted, Stays, AllStay}
+use Rattle.lock_row.specs.Notings.{HasNoted, Stays, AllStay}
 use Rattle.lock_row.proofs.Lists.{last, mapped_alike, one_of}
 
 module _ {M E : Type 0} (locks : List (Chronicle M E)) (before : List (Pass E)) where

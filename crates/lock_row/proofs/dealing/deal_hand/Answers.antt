@@ -1,4 +1,4 @@
-use Rattle.std.proofs.Common.{rules, arith, ◌≡◌, ℕ, ◌<◌, ◌+◌, List, [], ◌∷◌, ◌++◌, Vec, length, length-set, get_or, set, sym, ap, ◌∙◌, subst}
+use Rattle.std.proofs.Common.{rules, arith, ◌<◌, ◌+◌, List, Vec, length, length-set, get_or, sym, ◌∙◌, subst}
 use Rattle.std.proofs.lemmas.List.{get_or-set_other}
 use Rattle.std.specs.Global.{Global}
 use Rattle.chronicle.specs.declared.chronicle.Chronicle.{Chronicle}
@@ -6,7 +6,7 @@ use Rattle.chronicle.specs.declared.pass.Pass.{Pass}
 use Rattle.chronicle.specs.Locks.{lock_of}
 use Rattle.lock_row.specs.Hands.{IsNew, AreFirst}
 use Rattle.lock_row.proofs.Lists.{one_of}
-use Rattle.lock_row.proofs.Hands.{LeftSoFar, DealtSoFar, first_popped, left_more, dealt_more}
+use Rattle.lock_row.proofs.Hands.{DealtSoFar, first_popped, left_more, dealt_more}
 use Rattle.lock_row.proofs.dealing.deal_hand.Goals as goal
 
 pub loop-place-init : goal.loop-place-init

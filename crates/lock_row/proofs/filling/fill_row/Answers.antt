@@ -1,9 +1,7 @@
-use Rattle.std.proofs.Common.{rules, arith, ◌≡◌, ℕ, ◌<◌, ◌+◌, List, length-set, length, get_or, set, sym, ap, ◌∙◌, subst}
+use Rattle.std.proofs.Common.{arith, ◌≡◌, ◌<◌, length-set, length, get_or, sym, ap, ◌∙◌, subst}
 use Rattle.std.proofs.lemmas.List.{get_or_default}
 use Rattle.chronicle.specs.declared.chronicle.Chronicle.{Chronicle}
-use Rattle.chronicle.specs.declared.open.Vacant.{Vacant}
 use Rattle.chronicle.specs.Locks.{Lock, lock_of, IsVacant}
-use Rattle.lock_row.specs.Openings.{Fits}
 use Rattle.lock_row.proofs.Lists.{first_left, next_left}
 use Rattle.lock_row.proofs.Openings.{one_row_more, one_row_names, filled_more}
 use Rattle.lock_row.proofs.filling.fill_row.Goals as goal

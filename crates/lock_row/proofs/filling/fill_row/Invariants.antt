@@ -1,6 +1,6 @@
 use Rattle.std.specs.Vec.Iter.{into_iter_items, into_iter_len}
-use Rattle.std.proofs.Common.{◌≡◌, ◌≤◌, ◌<◌, ◌+◌, ℕ, length, get_or, drop}
-use Rattle.chronicle.specs.Locks.{lock_of, IsFilled}
+use Rattle.std.proofs.Common.{◌≡◌, ◌<◌, ◌+◌, ℕ, length, get_or, drop}
+use Rattle.chronicle.specs.Locks.{IsFilled}
 use Rattle.lock_row.specs.Openings.{AreOneRow}
 use Rattle.lock_row.proofs.filling.fill_row.Given as goal
 

@@ -1,5 +1,4 @@
-use Rattle.std.proofs.Common.{rules, arith, ◌≡◌, ◌≢◌, ℕ, ◌<◌, ◌+◌, List, length, get_or, sym, ap, ◌∙◌, subst}
-use mathlib.Core.List.{IsPrefix}
+use Rattle.std.proofs.Common.{rules, arith, ℕ, ◌<◌, ◌+◌, List, length, sym, subst}
 use Rattle.chronicle.specs.declared.pass.Pass.{Pass}
 use Rattle.chronicle.specs.declared.note.Note.{Note}
 use Rattle.lock_row.proofs.Meetings.{MetSoFar, met_one, met_past, met_now, met_names}

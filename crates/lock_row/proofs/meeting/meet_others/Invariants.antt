@@ -1,9 +1,4 @@
-use Rattle.std.proofs.Common.{◌≡◌, ◌≢◌, ℕ, ◌<◌, ◌≤◌, List, length, get_or}
-use Rattle.chronicle.specs.declared.chronicle.Chronicle.{Chronicle}
-use Rattle.chronicle.specs.declared.pass.Pass.{Pass}
-use Rattle.chronicle.specs.declared.note.Note.{Note}
-use Rattle.chronicle.specs.Locks.{lock_of}
-use Rattle.lock_row.specs.Meetings.{HaveMet}
+use Rattle.std.proofs.Common.{◌≡◌, length}
 use Rattle.lock_row.proofs.Meetings.{MetSoFar}
 use Rattle.lock_row.proofs.meeting.meet_others.Given as goal
 

@@ -1,4 +1,3 @@
-use Rattle.std.proofs.Common.{rules, sym, subst}
 use Rattle.lock_row.proofs.Hands.{first_all}
 use Rattle.lock_row.proofs.opening.open_beside.Goals as goal
 

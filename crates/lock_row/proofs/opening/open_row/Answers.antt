@@ -10,7 +10,7 @@ use Rattle.chronicle.specs.Passes.{IsUnopened}
 use Rattle.lock_row.specs.Rows.{names_of}
 use Rattle.lock_row.specs.Hands.{AreFirst}
 use Rattle.lock_row.proofs.Lists.{one_of, first_left, next_left}
-use Rattle.lock_row.proofs.Openings.{IsOpened, OpenedSoFar, opened_more, same_names}
+use Rattle.lock_row.proofs.Openings.{OpenedSoFar, opened_more, same_names}
 use Rattle.lock_row.proofs.opening.open_row.Goals as goal
 
 pub open_beside-made-requires : goal.open_beside-made-requires

@@ -1,7 +1,6 @@
-use Rattle.std.proofs.Common.{rules, ◌≡◌, List, ℕ, map, ap, sym, ◌∙◌}
+use Rattle.std.proofs.Common.{map, ap, ◌∙◌}
 use Rattle.chronicle.specs.Locks.{lock_of}
 use Rattle.chronicle.specs.Passes.{lock_noted}
-use Rattle.lock_row.specs.Rows.{names_of}
 use Rattle.lock_row.proofs.Meetings.{can_meet}
 use Rattle.lock_row.proofs.tests.add_at.Goals as goal
 

@@ -1,13 +1,13 @@
-use Rattle.std.proofs.Common.{rules, arith, ◌≡◌, ℕ, ◌<◌, List, length, map, get_or, sym, ap, ◌∙◌, subst}
+use Rattle.std.proofs.Common.{arith, ◌≡◌, ℕ, ◌<◌, List, length, get_or, sym, ap, ◌∙◌, subst}
 use Rattle.chronicle.specs.declared.chronicle.Chronicle.{Chronicle}
 use Rattle.chronicle.specs.declared.pass.Pass.{Pass}
-use Rattle.chronicle.specs.Locks.{Lock, lock_of}
+use Rattle.chronicle.specs.Locks.{Lock}
 use Rattle.chronicle.specs.Passes.{IsReady}
 use Rattle.lock_row.specs.declared.tests.Empty.{Empty}
 use Rattle.lock_row.specs.declared.tests.Noted.{Noted}
 use Rattle.lock_row.specs.Rows.{names_of, AreReady}
 use Rattle.lock_row.specs.Hands.{HavePasses}
-use Rattle.lock_row.proofs.Lists.{one_of, written}
+use Rattle.lock_row.proofs.Lists.{written}
 use Rattle.lock_row.proofs.tests.row_of_three.Goals as goal
 
 Row : Type 0
