@@ -1,0 +1,201 @@
+//! A shard with its notes.
+ghost use Rattle.std.specs.Prelude.{◌≡◌, ◌+◌, ◌<◌, ◌≤◌, List, [], is_some, IfOk, IfErr, OnOk, OnErr, length, if◌then◌else◌};
+ghost use Rattle.weave_entries.specs.declared.shard_log.ShardEntry.{ShardEntry};
+ghost use Rattle.weave_entries.specs.ShardReplay.{arrived_at, bound_of, processed_count};
+ghost use Rattle.weave_entries.specs.ShardRules.{IsShardLog, IsTakable};
+ghost use Rattle.shard_node.specs.Shards.{AddsEntry, IsNext, IsRightlyUnapplied};
+ghost use Rattle.weave_account.specs.GoesOn.{IsBeginningOf};
+ghost use Rattle.seen_logs.specs.References.{ArrivesAsSeen};
+ghost use Rattle.seen_logs.specs.Seen.{AreLegal, IsWithin};
+ghost use Rattle.chronicle.specs.Locks.{lock_of, name_of};
+ghost use Rattle.chronicle.specs.Passes.{IsReady};
+ghost use Rattle.lock_row.specs.Rows.{names_of, AreReady};
+ghost use Rattle.lock_row.specs.Meetings.{AllMet, HaveMet};
+ghost use Rattle.shard_lock.specs.Frames.{shard_frame};
+ghost use Rattle.shard_lock.specs.Notes.{frame_of, seen_of, seen_by_passes, IsKept};
+
+use crate::lower_laws::the_crates_below_keep_their_laws;
+use crate::notes::ShardNotes;
+use chronicle::{Chronicle, Machine, Pass};
+use shard_node::{ApplyFault, Shard};
+use shard_queue::Arrival;
+use std::alloc::{AllocError, Global};
+use std::marker::Model;
+use weave_entries::{GateDeed, Message, OracleDeed, ShardDeed, StoreDeed};
+
+/// A shard with its notes. All that its log refers to was seen: in that log, or by a note.
+#[derive(Drop)]
+pub struct NotedShard {
+    shard: Shard,
+    // The number of shards.
+    shards: u32,
+    notes: ShardNotes,
+}
+
+impl Model for NotedShard {
+    ghost use Rattle.shard_lock.specs.Notes.{NotedView, IsKept};
+
+    ghost Value = { NotedView };
+
+    ghost view = { λ n. record { shard = n.shard; shards = n.shards; notes = n.notes } };
+
+    ghost invariant = { λ n. IsKept n.shard n.shards n.notes };
+}
+
+impl Machine for NotedShard {
+    type Entry = ShardDeed;
+
+    ghost use Rattle.std.specs.Prelude.{map};
+    ghost use Rattle.shard_lock.specs.Entries.{shard_pair};
+    ghost use Rattle.shard_lock.specs.Notes.{frame_of};
+
+    ghost frame = { λ n. frame_of n.shard n.shards n.notes };
+
+    ghost log = { λ n. map shard_pair n.shard.log };
+}
+
+impl NotedShard {
+    /// A shard, one of so many, with these notes, which have seen all that its log refers to.
+    pub fn new(shard: Shard, shards: u32, notes: ShardNotes) -> NotedShard
+        requires { IsKept shard shards notes }
+        ensures shard { result.shard ≡ shard }
+        ensures shards { result.shards ≡ shards }
+        ensures notes { result.notes ≡ notes }
+    {
+        NotedShard {
+            shard,
+            shards,
+            notes,
+        }
+    }
+
+    /// The shard, without its notes.
+    pub fn into_shard(self) -> Shard
+        ensures { result ≡ self.shard }
+    {
+        let NotedShard { shard, .. } = self;
+        shard
+    }
+
+    /// What it keeps: all that its log refers to was seen, and each list that was seen is legal.
+    pub fn shows_what_it_keeps(&self)
+        ensures { IsKept self.now.shard self.now.shards self.now.notes }
+    {
+        let _shard = &self.shard;
+    }
+
+    /// The notes meet passes of their locks. They have then seen what the passes have, and no less than both had.
+    pub fn meet<G, S, O>(
+        &mut self,
+        gate_locks: &[Chronicle<G>],
+        gates: &mut [Pass<GateDeed>],
+        store_lock: &Chronicle<S>,
+        store: &mut Pass<StoreDeed>,
+        oracle_lock: &Chronicle<O>,
+        oracle: &mut Pass<OracleDeed>,
+    )
+    where
+        G: Machine<Entry = GateDeed>,
+        S: Machine<Entry = StoreDeed>,
+        O: Machine<Entry = OracleDeed>,
+        requires frame { frame_of self.old.shard self.old.shards self.old.notes
+            ≡ shard_frame self.old.shard.number self.old.shard.gates self.old.shards
+            (name_of (lock_of store_lock.now)) (name_of (lock_of oracle_lock.now)) (names_of gate_locks.now) }
+        requires gate_passes { length gates.old ≡ length gate_locks.now }
+        requires gates { AreReady gate_locks.now gates.old }
+        requires store { IsReady (lock_of store_lock.now) store.old }
+        requires oracle { IsReady (lock_of oracle_lock.now) oracle.old }
+        requires legal { AreLegal self.old.shard.gates self.old.shards
+            (seen_by_passes self.old.shard.number [] gates.old store.old oracle.old) }
+        ensures shard { self.new.shard ≡ self.old.shard }
+        ensures shards { self.new.shards ≡ self.old.shards }
+        ensures frame { frame_of self.new.shard self.new.shards self.new.notes
+            ≡ frame_of self.old.shard self.old.shards self.old.notes }
+        ensures gates { AllMet gate_locks.now gates.old gates.new self.old.notes.gates.items
+            self.new.notes.gates.items (length gate_locks.now) }
+        ensures store { HaveMet (lock_of store_lock.now) store.old store.new self.old.notes.store
+            self.new.notes.store }
+        ensures oracle { HaveMet (lock_of oracle_lock.now) oracle.old oracle.new self.old.notes.oracle
+            self.new.notes.oracle }
+        ensures gate_passes { length gates.new ≡ length gates.old }
+        ensures same { seen_of self.new.shard self.new.notes
+            ≡ seen_by_passes self.new.shard.number self.new.shard.log gates.new store.new oracle.new }
+        ensures before { IsWithin (seen_of self.old.shard self.old.notes) (seen_of self.new.shard self.new.notes) }
+        ensures passes_before { (own : List ShardEntry) → IsBeginningOf own self.new.shard.log
+            → IsWithin (seen_by_passes self.new.shard.number own gates.old store.old oracle.old)
+            (seen_of self.new.shard self.new.notes) }
+    {
+        the_crates_below_keep_their_laws();
+        self.notes
+            .meet(gate_locks, gates, store_lock, store, oracle_lock, oracle);
+    }
+
+    /// Takes in a message from a gatekeeper, as the shard does. Its sending was seen, and the judgement of which it was
+    /// made.
+    pub fn arrive(
+        &mut self,
+        alloc: Global,
+        author: u32,
+        gate: u32,
+        number: u64,
+        message: Message,
+    ) -> Result<Arrival, AllocError>
+        requires gate { gate < self.old.shard.gates }
+        requires number { 1 ≤ number }
+        requires message { IsTakable message }
+        requires seen { ArrivesAsSeen (seen_of self.old.shard self.old.notes) self.old.shards
+            self.old.shard.number gate number message }
+        ensures shards { self.new.shards ≡ self.old.shards }
+        ensures notes { self.new.notes ≡ self.old.notes }
+        ensures answer { IfOk result (λ arrival. arrival
+            ≡ (if is_some (arrived_at gate number self.old.shard.log) then Arrival.Repeat else Arrival.Kept)) }
+        ensures kept { IfOk result (λ arrival. arrival ≡ Arrival.Kept
+            → AddsEntry self.old.shard self.new.shard author (ShardDeed.Arrived gate number message)) }
+        ensures repeat { IfOk result (λ arrival. arrival ≡ Arrival.Repeat → self.new.shard ≡ self.old.shard) }
+        ensures refused { OnErr result (self.new.shard ≡ self.old.shard) }
+    {
+        the_crates_below_keep_their_laws();
+        let arrived = self.shard.arrive(alloc, author, gate, number, message);
+        shows_rules(&self.shard);
+        arrived
+    }
+
+    /// Processes the head of a gatekeeper's channel, as the shard does. Its operations pass, since what was seen has
+    /// the judgement of which it was made.
+    pub fn apply(&mut self, alloc: Global, author: u32, gate: u32) -> Result<(), ApplyFault>
+        requires { gate < self.old.shard.gates }
+        ensures shards { self.new.shards ≡ self.old.shards }
+        ensures notes { self.new.notes ≡ self.old.notes }
+        ensures next { OnOk result (IsNext gate self.old.shard.log) }
+        ensures entry { OnOk result (AddsEntry self.old.shard self.new.shard author
+            (ShardDeed.Applied gate (processed_count gate self.old.shard.log + 1))) }
+        ensures refused { IfErr result (λ fault. IsRightlyUnapplied gate self.old.shard.log fault) }
+        ensures unchanged { OnErr result (self.new.shard ≡ self.old.shard) }
+    {
+        the_crates_below_keep_their_laws();
+        let applied = self.shard.apply(alloc, author, gate);
+        shows_rules(&self.shard);
+        applied
+    }
+
+    /// Drops old versions, as the shard does.
+    pub fn collect(&mut self, author: u32) -> Result<(), AllocError>
+        ensures shards { self.new.shards ≡ self.old.shards }
+        ensures notes { self.new.notes ≡ self.old.notes }
+        ensures entry { OnOk result (AddsEntry self.old.shard self.new.shard author
+            (ShardDeed.Collected (bound_of self.old.shard.gates self.old.shard.log))) }
+        ensures unchanged { OnErr result (self.new.shard ≡ self.old.shard) }
+    {
+        the_crates_below_keep_their_laws();
+        let collected = self.shard.collect(author);
+        shows_rules(&self.shard);
+        collected
+    }
+}
+
+// The shard's log keeps the rules.
+fn shows_rules(shard: &Shard)
+    ensures { IsShardLog shard.now.gates shard.now.log }
+{
+    let _log = shard.log();
+}
