@@ -20,7 +20,7 @@ use weave_entries::{GateDeed, OracleDeed, Verdict};
 #[derive(Drop)]
 pub struct NotedOracle {
     oracle: Oracle,
-    // To so many shards the gatekeepers send.
+    // The number of shards, to which the gatekeepers send.
     shards: u32,
     gates: Vec<Note<GateDeed>>,
 }
@@ -92,7 +92,7 @@ impl NotedOracle {
     }
 
     /// What the type keeps: all that the entries refer to was seen.
-    pub fn show_kept(&self)
+    pub fn shows_what_it_keeps(&self)
         ensures { OracleIsKept self.now.shards (gates_noted self.now.gates) self.now.oracle }
     {
         let _ = &self.oracle;

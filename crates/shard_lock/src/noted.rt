@@ -55,7 +55,7 @@ impl Machine for NotedShard {
 }
 
 impl NotedShard {
-    /// A shard, one of so many, with these notes, which have seen all that its log refers to.
+    /// A shard, one of this many, with these notes, which have seen all that its log refers to.
     pub fn new(shard: Shard, shards: u32, notes: ShardNotes) -> NotedShard
         requires { IsKept shard shards notes }
         ensures shard { result.shard ≡ shard }

@@ -68,7 +68,7 @@ pub(crate) fn judge_over<R: Wait, G: Machine<Entry = GateDeed>>(
     let state = held.state();
     state.meet(gates, passes);
     let judged = state.judge(store, alloc, author, request, stamp, ops);
-    state.show_kept();
+    state.shows_what_it_keeps();
     held.leave(pass);
     judged
 }

@@ -23,7 +23,7 @@ use weave_entries::{GateDeed, OracleDeed, StoreDeed, Verdict};
 #[derive(Drop)]
 pub struct NotedStore {
     pub(crate) store: Store,
-    // To so many shards the gatekeepers send.
+    // The number of shards, to which the gatekeepers send.
     pub(crate) shards: u32,
     pub(crate) gates: Vec<Note<GateDeed>>,
     pub(crate) oracle: Note<OracleDeed>,
@@ -111,7 +111,7 @@ impl NotedStore {
     }
 
     /// What the type keeps: all that the judgements refer to was seen.
-    pub fn show_kept(&self)
+    pub fn shows_what_it_keeps(&self)
         ensures { StoreIsKept self.now.shards (gates_noted self.now.gates) (oracle_entries (noted self.now.oracle))
             self.now.store }
     {
