@@ -1,9 +1,9 @@
 -- In an account no two visits asked for one pair, so an account is what a hand may have seen.
-use Rattle.std.proofs.Common.{◌≡◌, ◌≢◌, ℕ, ◌<◌, List, [], ◌∷◌, ◌++◌, length, map, Contains, IsTrue, AllPairs, inl, inr, refl, sym, ap, subst, ◌∙◌, arith}
+use Rattle.std.proofs.Common.{◌≡◌, ◌≢◌, ℕ, ◌<◌, List, [], ◌∷◌, ◌++◌, length, map, Contains, IsTrue, AllPairs, inl, inr, refl, sym, ap, subst, ◌∙◌}
 use Rattle.std.specs.List.{filter}
 use Rattle.std.proofs.lemmas.Bool.{cases_order}
 use Rattle.std.proofs.lemmas.Bool.Decides.{eqb_tells}
-use Rattle.std.proofs.lemmas.List.{length-append, map-append}
+use Rattle.std.proofs.lemmas.List.{map-append}
 use Rattle.std.proofs.lemmas.List.Concat.{flat_map-append}
 use Rattle.std.proofs.lemmas.List.Elements.{Contains-append_right, filter-append}
 use Rattle.proof_base.proofs.Members.{flat_has, has_cut, has_filter, has_flat, has_head, has_map}
@@ -23,7 +23,7 @@ use Rattle.weave_account.specs.IsAccount.{IsAccount}
 use Rattle.weave_account.specs.Oracle.{marked_in, seen_last}
 use Rattle.weave_account.specs.Shards.{IsRightVisit}
 use Rattle.seen_logs.specs.LowerLaws.{LowerLaws}
-use Rattle.seen_logs.specs.Seen.{HasAsked, IsOwn, IsSeenByHand, visit_entry, without_sessions}
+use Rattle.seen_logs.specs.Seen.{HasAsked, IsSeenByHand, visit_entry, without_sessions}
 use Rattle.seen_logs.proofs.Going.{asked-stays, gate-stays, oracle-stays, shard-stays, store-stays}
 use Rattle.seen_logs.proofs.Listed.{list-there}
 use Rattle.seen_logs.proofs.OfAccount.{gate-refers, last-before, oracle-refers, shard-refers, store-refers}
@@ -157,14 +157,6 @@ module _ (laws : LowerLaws) (script : Script) (account : Account) (limits : IsWi
       (without_sessions account) shard before visit → IsAt shard before visit
   of-asked number shard before visit asked = record { after = asked.after; at = asked.at; marked = asked.marked }
 
-  -- no entry was made since the end of a log
-  none-since : (number shard : ℕ) (before : List ShardEntry) (entry : ShardEntry) (after : List ShardEntry)
-      → shard_log account shard ≡ before ++ entry ∷ after → ¬ IsOwn number (shard_log account shard) before entry.author
-  none-since number shard before entry after at own =
-      let many = ap length at ∙ length-append before (entry ∷ after) in
-      let long = own.1 in
-      omega (arith, many, long)
-
   -- an account without its sessions is what each hand has seen that starts with it
   pub hand-sees : (number : ℕ) → IsSeenByHand script.shards number (without_sessions account) (without_sessions account)
   hand-sees number =
@@ -185,7 +177,6 @@ module _ (laws : LowerLaws) (script : Script) (account : Account) (limits : IsWi
         shard_entries = λ shard before entry after at mine.
             shard-stays laws account logs on.gates on.store on.oracle script.shards shard before entry.author entry.deed
             (shard-refers laws script account limits is legal shard before entry after at);
-        own_visits = λ shard before entry after at own. absurd (none-since number shard before entry after at own);
         asks_once = λ shard other before rest a b asked_a asked_b stamps lasts.
             once shard other before rest a b (of-asked number shard before a asked_a) (of-asked number other rest b asked_b) stamps lasts;
       }

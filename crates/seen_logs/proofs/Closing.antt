@@ -1,7 +1,6 @@
 -- At the end all entries refer to what is in the logs, and no two visits asked for one pair, since it is so of what each
 -- of the hands has seen.
-use Rattle.std.proofs.Common.{◌≡◌, ◌≢◌, ℕ, ◌<◌, ◌≤◌, List, ◌∷◌, ◌++◌, length, Contains, IsTrue, inl, inr, refl, sym, ap, subst, ◌∙◌, arith}
-use Rattle.std.proofs.lemmas.List.{length-append}
+use Rattle.std.proofs.Common.{◌≡◌, ◌≢◌, ℕ, ◌<◌, ◌≤◌, List, ◌∷◌, ◌++◌, length, Contains, IsTrue, inl, inr, refl, sym, ap, subst, arith}
 use Rattle.proof_base.proofs.Members.{flat_has, has_flat}
 use Rattle.proof_base.proofs.Ordered.{pairs_cases}
 use Rattle.vector_stamp.specs.Order.{id_of}
@@ -150,7 +149,7 @@ module _ {gates shards hands : ℕ} {start : Account} {seen_by : ℕ → Account
       let on = of.within visit.author is-of.known in
       let place = earlier-place (shard_log (seen_by visit.author) shard) (shard_log closed shard) (on.shards shard) before
       (visit_entry visit) after at is-of.less in
-      (of.seen visit.author is-of.known).own_visits shard before (visit_entry visit) place.0 place.1 is-of.own
+      of.own_visits visit.author is-of.known shard before (visit_entry visit) place.0 place.1 is-of.own
 
   -- what a hand began since the start is among all
   pub since-begun : (number : ℕ) → number < hands → (home : ℕ) (begun : Begun)
@@ -221,10 +220,6 @@ module _ {gates shards hands : ℕ} {start : Account} {seen_by : ℕ → Account
         store_entries = λ before entry after at mine. store-entry before entry after at;
         oracle_entries = λ before entry after at mine. oracle-entry before entry after at;
         shard_entries = λ shard before entry after at mine. shard-entry shard before entry after at;
-        own_visits = λ shard before entry after at own. absurd (
-            let many = ap length at ∙ length-append before (entry ∷ after) in
-            let long = own.1 in
-            omega (arith, many, long));
         asks_once = λ shard other before rest a b asked_a asked_b stamps lasts.
             once shard other before rest a b asked_a.after asked_b.after asked_a.at asked_b.at asked_a.marked asked_b.marked stamps lasts;
       }

@@ -1,12 +1,13 @@
--- A worked run, seen whole by the hand that made it: a transaction creates v at gatekeeper 0 and is sent to shard 0. A
+-- Logs that the hand has seen whole that made them: a transaction creates v at gatekeeper 0 and is sent to shard 0. A
 -- program begins at gatekeeper 1, reads v, for which the oracle puts the transaction before it, and is finished. All that
--- the entries refer to was seen. Then each kind of entry once with a reference that was not seen.
+-- the entries refer to was seen. The shard isn't ready for the visit: a run of machines is in `ExampleRun`. Then each
+-- kind of entry once with a reference that was not seen.
 use Rattle.std.proofs.Common.{◌≡◌, ℕ, zero, suc, ◌≤◌, Bool, true, false, Option, List, [], ◌∷◌, ◌++◌, length, Contains, IsTrue, Some, None, inl, inr, refl, sym, ap, subst, ◌∙◌, arith}
 use Rattle.std.specs.Prelude.{codes, cond, not}
 use Rattle.std.specs.Map.{keys_of}
 use Rattle.std.specs.List.{find}
 use Rattle.std.proofs.lemmas.List.{length-append}
-use Rattle.proof_base.proofs.Entries.{each_none, each_push}
+use Rattle.proof_base.proofs.Entries.{each_none}
 use Rattle.proof_base.proofs.Members.{has_head, has_none, has_read, has_tail, only}
 use Rattle.weave_data.specs.declared.name.Name.{Name}
 use Rattle.weave_data.specs.Names.{same_name}
@@ -32,7 +33,6 @@ use Rattle.weave_entries.specs.declared.shard_log.ShardDeed.TheVariants.{Arrived
 use Rattle.weave_entries.specs.declared.store_log.StoreEntry.{StoreEntry}
 use Rattle.weave_entries.specs.declared.store_log.StoreDeed.TheVariants.{Judged}
 use Rattle.weave_entries.specs.declared.verdict.Verdict.TheVariants.{Committed, Conflict}
-use Rattle.weave_entries.specs.Logs.{AtEachEntry}
 use Rattle.weave_entries.specs.GateReplay.{Begun, programs_of, ticks_of, txs_of}
 use Rattle.weave_entries.specs.ShardReplay.{Update, Visit, visits_of}
 use Rattle.weave_entries.specs.StoreReplay.{Commit, judged_by}
@@ -40,20 +40,8 @@ use Rattle.weave_account.specs.declared.account.Account.{Account}
 use Rattle.weave_account.specs.Account.{Precedence, begun_stamps, gate_log, shard_log}
 use Rattle.weave_account.specs.Clocks.{IsKnown}
 use Rattle.seen_logs.specs.References.{GateRefersAs, IsAskedAsSeen, OracleRefersAs, ShardRefersAs, StoreRefersAs}
-use Rattle.seen_logs.specs.Seen.{GateRefersWithin, HasAsked, IsOwn, IsSeenByHand, OracleRefersWithin, ShardRefersWithin, StoreRefersWithin, VisitsItsOwn, since, visit_entry}
-
-module _ {E : Type 0} (P : List E → E → Type 0) where
-  one : (a : E) → P [] a → AtEachEntry P (a ∷ [])
-  one a pa = each_push P [] a (each_none P) pa
-
-  two : (a b : E) → P [] a → P (a ∷ []) b → AtEachEntry P (a ∷ b ∷ [])
-  two a b pa pb = each_push P (a ∷ []) b (one a pa) pb
-
-  three : (a b c : E) → P [] a → P (a ∷ []) b → P (a ∷ b ∷ []) c → AtEachEntry P (a ∷ b ∷ c ∷ [])
-  three a b c pa pb pc = each_push P (a ∷ b ∷ []) c (two a b pa pb) pc
-
-  four : (a b c d : E) → P [] a → P (a ∷ []) b → P (a ∷ b ∷ []) c → P (a ∷ b ∷ c ∷ []) d → AtEachEntry P (a ∷ b ∷ c ∷ d ∷ [])
-  four a b c d pa pb pc pd = each_push P (a ∷ b ∷ c ∷ []) d (three a b c pa pb pc) pd
+use Rattle.seen_logs.specs.Seen.{GateRefersWithin, HasAsked, IsOwn, IsSeenByHand, OracleRefersWithin, ShardRefersWithin, StoreRefersWithin, VisitsItsOwn, VisitsOwnPrograms, since, visit_entry}
+use Rattle.seen_logs.proofs.ShortLogs.{four, one, three, two}
 
 -- The run
 
@@ -230,7 +218,6 @@ worked =
       oracle_entries = λ before entry after at mine.
           (oracle before entry after at, one (λ before (entry : OracleEntry). IsAskedAsSeen seen entry) settled asked before entry after at);
       shard_entries = λ shard before entry after at mine. shards shard before entry after at;
-      own_visits = own;
       asks_once = λ shard other before rest a b asked_a asked_b stamps lasts.
           let here = where-asked shard before a asked_a in
           let there = where-asked other rest b asked_b in
@@ -246,12 +233,12 @@ worked =
     begins-shard zero = (shard_log seen 0, refl)
     begins-shard (suc shard) = ([], refl)
 
-    own : (shard : ℕ) → AtEachEntry
-        (λ before (entry : ShardEntry). IsOwn 7 (shard_log unseen shard) before entry.author → VisitsItsOwn 7 unseen seen entry.deed) (shard_log seen shard)
-    own zero =
-        three (λ before (entry : ShardEntry). IsOwn 7 (shard_log unseen 0) before entry.author → VisitsItsOwn 7 unseen seen entry.deed) s1 s2 s3
-        (λ own. tt) (λ own. tt) (λ own. (1, has_head _ []))
-    own (suc shard) = each_none _
+-- and its visit is of its own program
+own : VisitsOwnPrograms 7 unseen seen
+own zero =
+    three (λ before (entry : ShardEntry). IsOwn 7 (shard_log unseen 0) before entry.author → VisitsItsOwn 7 unseen seen entry.deed) s1 s2 s3
+    (λ own. tt) (λ own. tt) (λ own. (1, has_head _ []))
+own (suc shard) = each_none _
 
 -- What was not seen
 

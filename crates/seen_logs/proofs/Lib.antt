@@ -2,6 +2,7 @@ pub mod Listed
 pub mod Updates
 pub mod Going
 pub mod Within
+pub mod Paired
 pub mod OfAccount
 pub mod Placed
 pub mod Asking
@@ -12,4 +13,7 @@ pub mod Closing
 pub mod Noting
 pub mod Having
 pub mod Reading
+pub mod NotBegun
+pub mod ShortLogs
 pub mod Examples
+pub mod ExampleRun

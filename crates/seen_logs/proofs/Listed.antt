@@ -30,6 +30,17 @@ has-on xs ys on x h = subst (λ zs. Contains zs x) (sym on.1) (Contains-append_l
 pub flat-on : {A B : Type 0} (f : A → List B) (xs ys : List A) → IsBeginningOf xs ys → IsBeginningOf (flat_map f xs) (flat_map f ys)
 flat-on f xs ys on = (flat_map f on.0, ap (flat_map f) on.1 ∙ flat_map-append f xs on.0)
 
+-- the images of two lists of lists, put together, if they are alike at each place
+pub flat-alike : {A B : Type 0} (f : List A → List B) → f [] ≡ [] → (xss yss : List (List A))
+    → ((i : ℕ) → f (get_or xss i []) ≡ f (get_or yss i [])) → flat_map f xss ≡ flat_map f yss
+flat-alike f empty [] [] same = refl
+flat-alike f empty [] (ys ∷ yss) same =
+    flat-alike f empty [] yss (λ i. same (suc i)) ∙ ap (λ l. l ++ flat_map f yss) (sym empty ∙ same 0)
+flat-alike f empty (xs ∷ xss) [] same =
+    ap (λ l. l ++ flat_map f xss) (same 0 ∙ empty) ∙ flat-alike f empty xss [] (λ i. same (suc i))
+flat-alike f empty (xs ∷ xss) (ys ∷ yss) same =
+    ap (λ l. l ++ flat_map f xss) (same 0) ∙ ap (λ l. f ys ++ l) (flat-alike f empty xss yss (λ i. same (suc i)))
+
 -- a list that goes on is no shorter
 pub longer : {A : Type 0} (xs ys : List A) → IsBeginningOf xs ys → length xs ≤ length ys
 longer xs ys on = let many = ap length on.1 ∙ length-append xs on.0 in omega (arith, many)

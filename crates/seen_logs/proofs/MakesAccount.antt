@@ -148,14 +148,22 @@ one-asks log author (Arrived home number message) = pairs_none (λ (a b : ℕ ×
 one-asks log author (Applied home number) = pairs_none (λ (a b : ℕ × List Stamp). a ≢ b)
 one-asks log author (Collected bound) = pairs_none (λ (a b : ℕ × List Stamp). a ≢ b)
 
+-- an entry of a log is one that it had
+there : {E : Type 0} (log before : List E) (entry : E) (after : List E) → log ≡ before ++ entry ∷ after → length before < length log
+there log before entry after at = let many = ap length at ∙ length-append before (entry ∷ after) in omega (arith, many)
+
+-- what the shards' entries refer to was seen if a hand answers for all of them
+pub shards-within : LowerLaws → (shards : ℕ) (account : Account) (number : ℕ)
+    → IsSeenByHand shards number (without_sessions account) (without_sessions account) → (shard : ℕ) → ShardRefersWithin shards account shard
+shards-within laws shards account number hand shard before entry after at =
+    let on = (same-logs account).1 in
+    shard-stays laws (without_sessions account) account on.gates on.store on.oracle shards shard before entry.author entry.deed
+    (hand.shard_entries shard before entry after at (inr (there (shard_log account shard) before entry after at)))
+
 module _ (laws : LowerLaws) (script : Script) (account : Account) (number : ℕ) (legal : AreLegal script.gates script.shards account)
     (hand : IsSeenByHand script.shards number (without_sessions account) (without_sessions account)) (follows : FollowsScript script account) where
   logs : Account
   logs = without_sessions account
-
-  -- an entry of a log is one that it had
-  there : {E : Type 0} (log before : List E) (entry : E) (after : List E) → log ≡ before ++ entry ∷ after → length before < length log
-  there log before entry after at = let many = ap length at ∙ length-append before (entry ∷ after) in omega (arith, many)
 
   gates-refer : (home : ℕ) → GateRefersWithin script.shards account home
   gates-refer home before entry after at =
@@ -170,10 +178,7 @@ module _ (laws : LowerLaws) (script : Script) (account : Account) (number : ℕ)
       (hand.store_entries before entry after at (inr (there account.store before entry after at)))
 
   shards-refer : (shard : ℕ) → ShardRefersWithin script.shards account shard
-  shards-refer shard before entry after at =
-      let on = (same-logs account).1 in
-      shard-stays laws (without_sessions account) account on.gates on.store on.oracle script.shards shard before entry.author entry.deed
-      (hand.shard_entries shard before entry after at (inr (there (shard_log account shard) before entry after at)))
+  shards-refer = shards-within laws script.shards account number hand
 
   asked-for : (entry : OracleEntry) → Contains account.oracle entry → IsAskedAsSeen account entry
   asked-for entry h =

@@ -47,7 +47,7 @@ look-of (Change ops) look = absurd cc
 look-of (Look program) look = (program, refl)
 
 -- what is there and passes
-there-and : {A : Type 0} (test : A → Bool) (o : Option A) → IsTrue (is_some_and test o) → (x : A) × (o ≡ Some x) × IsTrue (test x)
+pub there-and : {A : Type 0} (test : A → Bool) (o : Option A) → IsTrue (is_some_and test o) → (x : A) × (o ≡ Some x) × IsTrue (test x)
 there-and test None h = absurd cc
 there-and test (Some x) h = (x, refl, h)
 

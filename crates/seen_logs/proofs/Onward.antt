@@ -1,7 +1,7 @@
 -- What a hand has seen goes on: what it made earlier refers to what was seen then, and so to what is seen now.
 use Rattle.std.proofs.Common.{◌≡◌, ℕ, ◌<◌, ◌≤◌, List, [], ◌∷◌, ◌++◌, length, drop, Contains, ◌⊎◌, inl, inr, refl, sym, ap, subst, ◌∙◌, arith}
 use Rattle.std.proofs.lemmas.Bool.{cases_Bool, cases_order}
-use Rattle.std.proofs.lemmas.List.{drop-append-le}
+use Rattle.std.proofs.lemmas.List.{drop-append-le, length-append}
 use Rattle.proof_base.proofs.Members.{has_head, has_flat, has_none, has_read}
 use Rattle.vector_stamp.specs.declared.clock.Stamp.{Stamp}
 use Rattle.vector_stamp.specs.Precedence.{ByPair, Given, precedes}
@@ -12,6 +12,7 @@ use Rattle.weave_entries.specs.declared.shard_log.ShardEntry.{ShardEntry}
 use Rattle.weave_entries.specs.declared.shard_log.ShardDeed.{ShardDeed}
 use Rattle.weave_entries.specs.declared.shard_log.ShardDeed.TheVariants.{Arrived, Applied, Visited, Collected}
 use Rattle.weave_entries.specs.declared.store_log.StoreEntry.{StoreEntry}
+use Rattle.weave_entries.specs.Logs.{AtEachEntry}
 use Rattle.weave_entries.specs.GateReplay.{program_by, programs_of}
 use Rattle.weave_entries.specs.OracleReplay.{pairs_of_entry, settled_entry}
 use Rattle.weave_entries.specs.OracleRules.{IsOracleLog, IsRightEntry, IsRightFrom}
@@ -23,7 +24,7 @@ use Rattle.weave_account.specs.GoesOn.{IsBeginningOf}
 use Rattle.weave_account.specs.Oracle.{seen_last}
 use Rattle.seen_logs.specs.LowerLaws.{LowerLaws}
 use Rattle.seen_logs.specs.References.{GateRefersAs, IsAskedAsSeen, OracleRefersAs, ShardRefersAs, StoreRefersAs}
-use Rattle.seen_logs.specs.Seen.{AddsAsSeen, AnswersFor, HasAsked, IsOwn, IsSeenByHand, IsWithin, VisitsItsOwn, since, visit_entry}
+use Rattle.seen_logs.specs.Seen.{AddsAsSeen, AnswersFor, HasAsked, IsOwn, IsSeenByHand, IsWithin, VisitsItsOwn, VisitsOwnPrograms, since, visit_entry}
 use Rattle.seen_logs.proofs.Going.{asked-stays, gate-stays, oracle-stays, shard-stays, store-stays}
 use Rattle.seen_logs.proofs.Listed.{flat-on, has-on, longer}
 use Rattle.seen_logs.proofs.Placed.{in-front}
@@ -73,6 +74,23 @@ own-stays number start seen next starts on (Visited r stamp v updates settled) b
 own-stays number start seen next starts on (Arrived home n message) begun = tt
 own-stays number start seen next starts on (Applied home n) begun = tt
 own-stays number start seen next starts on (Collected bound) begun = tt
+
+-- at the start no visit is a hand's own
+pub own-none : (number : ℕ) (start : Account) → VisitsOwnPrograms number start start
+own-none number start shard before entry after at own =
+    absurd (let many = ap length at ∙ length-append before (entry ∷ after) in let long = own.1 in omega (arith, many, long))
+
+-- the visits of a hand that it had made are of its own programs, and so are the new ones
+pub own-on : (number : ℕ) (start seen next : Account) → IsWithin start seen → IsWithin seen next → VisitsOwnPrograms number start seen
+    → ((shard : ℕ) → AtEachEntry (λ before (entry : ShardEntry). IsOwn number (shard_log seen shard) before entry.author
+    → VisitsItsOwn number start next entry.deed) (shard_log next shard)) → VisitsOwnPrograms number start next
+own-on number start seen next starts on old new shard before entry after at own =
+    elim (less-or (length before) (length (shard_log seen shard))) [
+      | inl earlier ↦
+          let place = earlier-place (shard_log seen shard) (shard_log next shard) (on.shards shard) before entry after at earlier in
+          own-stays number start seen next starts on entry.deed (old shard before entry place.0 place.1 own)
+      | inr later ↦ new shard before entry after at (own.0, later)
+    ]
 
 -- a visit that asked is one that had asked if it is within what was seen
 pub asked-before : (number : ℕ) (start seen next : Account) → IsWithin seen next → (shard : ℕ) (before : List ShardEntry) (visit : Visit)
@@ -126,16 +144,6 @@ module _ (laws : LowerLaws) (gates shards number : ℕ) (start seen next : Accou
         | inr new ↦ adds.shard_entries shard before entry after at new
       ]
 
-  own-visit : (shard : ℕ) (before : List ShardEntry) (entry : ShardEntry) (after : List ShardEntry) → shard_log next shard ≡ before ++ entry ∷ after
-      → IsOwn number (shard_log start shard) before entry.author → VisitsItsOwn number start next entry.deed
-  own-visit shard before entry after at own =
-      elim (less-or (length before) (length (shard_log seen shard))) [
-        | inl old ↦
-            let place = earlier-place (shard_log seen shard) (shard_log next shard) (on.shards shard) before entry after at old in
-            own-stays number start seen next hand.starts on entry.deed (hand.own_visits shard before entry place.0 place.1 own)
-        | inr new ↦ adds.own_visits shard before entry after at (own.0, new)
-      ]
-
   once : (shard other : ℕ) (before rest : List ShardEntry) (a b : Visit) → HasAsked number start next shard before a
       → HasAsked number start next other rest b → a.stamp ≡ b.stamp → seen_last before a ≡ seen_last rest b
       → (shard ≡ other) × (length before ≡ length rest)
@@ -159,7 +167,6 @@ module _ (laws : LowerLaws) (gates shards number : ℕ) (start seen next : Accou
         store_entries = store-entry;
         oracle_entries = oracle-entry;
         shard_entries = shard-entry;
-        own_visits = own-visit;
         asks_once = once;
       }
 

@@ -1,5 +1,5 @@
 -- At the end a program has read what the hand has seen that began it, or what was there at the start.
-use Rattle.std.proofs.Common.{◌≡◌, ◌≢◌, ℕ, suc, ◌<◌, ◌≤◌, ◌==◌, Bool, true, false, List, [], ◌∷◌, ◌++◌, length, map, get_or, Contains, IsTrue, AllPairs, inl, inr, refl, sym, ap, subst, ◌∙◌, append_assoc, arith}
+use Rattle.std.proofs.Common.{◌≡◌, ◌≢◌, ℕ, ◌<◌, ◌≤◌, ◌==◌, Bool, true, false, List, [], ◌∷◌, ◌++◌, length, map, Contains, IsTrue, AllPairs, inl, inr, refl, sym, ap, subst, ◌∙◌, append_assoc, arith}
 use Rattle.std.specs.List.{filter, flat_map}
 use Rattle.std.proofs.lemmas.Bool.{cases_order, ne_eqb}
 use Rattle.std.proofs.lemmas.List.{append-nil, length-append}
@@ -27,7 +27,7 @@ use Rattle.seen_logs.specs.Closed.{AreOfHands}
 use Rattle.seen_logs.specs.Seen.{GatesGoOn, ShardsGoOn, since, visit_entry}
 use Rattle.seen_logs.proofs.Asking.{program-begun}
 use Rattle.seen_logs.proofs.Closing.{IsEnd, begun-since, since-begun, since-start}
-use Rattle.seen_logs.proofs.Listed.{drop-has, flat-on, has-on, list-there, longer, place-of}
+use Rattle.seen_logs.proofs.Listed.{drop-has, flat-alike, flat-on, has-on, list-there, longer, place-of}
 use Rattle.seen_logs.proofs.MakesAccount.{one-begin, tx-begun, visit-is}
 use Rattle.seen_logs.proofs.Onward.{earlier-place, since-on}
 use Rattle.seen_logs.proofs.Placed.{list-within, lists-across}
@@ -41,17 +41,6 @@ map-alike : {A B : Type 0} (f g : A → B) (xs : List A) → ((x : A) → Contai
 map-alike f g [] same = refl
 map-alike f g (x ∷ xs) same =
     ap (λ y. y ∷ map f xs) (same x (has_head x xs)) ∙ ap (λ ys. g x ∷ ys) (map-alike f g xs (λ y h. same y (has_tail x xs y h)))
-
--- the images of two lists of lists, put together, if they are alike at each place
-flat-alike : {A B : Type 0} (f : List A → List B) → f [] ≡ [] → (xss yss : List (List A))
-    → ((i : ℕ) → f (get_or xss i []) ≡ f (get_or yss i [])) → flat_map f xss ≡ flat_map f yss
-flat-alike f empty [] [] same = refl
-flat-alike f empty [] (ys ∷ yss) same =
-    flat-alike f empty [] yss (λ i. same (suc i)) ∙ ap (λ l. l ++ flat_map f yss) (sym empty ∙ same 0)
-flat-alike f empty (xs ∷ xss) [] same =
-    ap (λ l. l ++ flat_map f xss) (same 0 ∙ empty) ∙ flat-alike f empty xss [] (λ i. same (suc i))
-flat-alike f empty (xs ∷ xss) (ys ∷ yss) same =
-    ap (λ l. l ++ flat_map f xss) (same 0) ∙ ap (λ l. f ys ++ l) (flat-alike f empty xss yss (λ i. same (suc i)))
 
 -- two tests are one value if the first holds exactly if the second does
 same-test : (a b : Bool) → (IsTrue a → IsTrue b) → (IsTrue b → IsTrue a) → a ≡ b

@@ -7,18 +7,19 @@ use Rattle.weave_entries.specs.declared.store_log.StoreEntry.{StoreEntry}
 use Rattle.weave_entries.specs.Logs.{AtEachEntry}
 use Rattle.weave_account.specs.declared.account.Account.{Account}
 use Rattle.weave_account.specs.Account.{gate_log, shard_log}
-use Rattle.seen_logs.specs.Seen.{IsSeenByHand, IsWithin}
+use Rattle.seen_logs.specs.Seen.{IsSeenByHand, IsWithin, VisitsOwnPrograms}
 
 -- a log had an entry at the start, or one of the hands made it and has seen it
 abbrev pub IsOfHands : {E : Type 0} → ℕ → List E → (ℕ → List E) → List E → ℕ → Type 0
 IsOfHands {E} hands start seen_by before author =
     (length before < length start) ⊎ ((author < hands) × (length before < length (seen_by author)))
 
--- The hands have the numbers from 0. What each of them has seen is within the closed logs, and each entry there was
--- there at the start, or is of a hand, which has seen it.
+-- The hands have the numbers from 0, and each made visits for its own programs alone. What each of them has seen is
+-- within the closed logs, and each entry there was there at the start, or is of a hand, which has seen it.
 pub record AreOfHands (shards hands : ℕ) (start : Account) (seen_by : ℕ → Account) (closed : Account) : Type 0 where
   pub some : 1 ≤ hands
   pub seen : (number : ℕ) → number < hands → IsSeenByHand shards number start (seen_by number)
+  pub own_visits : (number : ℕ) → number < hands → VisitsOwnPrograms number start (seen_by number)
   pub within : (number : ℕ) → number < hands → IsWithin (seen_by number) closed
   pub gate_entries : (home : ℕ) → AtEachEntry (λ before (entry : GateEntry).
       IsOfHands hands (gate_log start home) (λ number. gate_log (seen_by number) home) before entry.author)

@@ -1,16 +1,18 @@
 -- What logs have to keep of a script beside their rules and their references.
-use Rattle.std.specs.Prelude.{◌≡◌, ℕ, length, AllPairs, Contains, IsSomeAnd}
+use Rattle.std.specs.Prelude.{◌≡◌, ℕ, length, AllPairs, Contains, IsSomeAnd, IsTrue, Some}
+use Rattle.program_defs.specs.declared.program.Program.{Program}
 use Rattle.program_defs.specs.declared.script.Request.{Request}
 use Rattle.program_defs.specs.declared.script.Script.{Script}
-use Rattle.program_defs.specs.declared.script.Work.TheVariants.{Change}
+use Rattle.program_defs.specs.declared.script.Work.TheVariants.{Change, Look}
 use Rattle.report_rules.specs.Lookups.{request_at}
 use Rattle.weave_entries.specs.declared.gate_log.GateEntry.{GateEntry}
 use Rattle.weave_entries.specs.Logs.{AtEachEntry}
+use Rattle.weave_entries.specs.GateReplay.{Begun, programs_of}
 use Rattle.weave_entries.specs.StoreReplay.{Judgement, judgements_of}
 use Rattle.weave_account.specs.declared.account.Account.{Account}
-use Rattle.weave_account.specs.Account.{gate_log}
+use Rattle.weave_account.specs.Account.{gate_log, is_ended, reads_of}
 use Rattle.weave_account.specs.Gatekeepers.{BeginEachOnce, BeginsAs}
-use Rattle.weave_account.specs.Programs.{ProgramsClause}
+use Rattle.weave_account.specs.Programs.{ProgramsClause, ReadsInTurn}
 use Rattle.weave_account.specs.Sessions.{SessionsClause}
 use Rattle.weave_account.specs.Store.{InTurn}
 
@@ -28,3 +30,12 @@ pub record FollowsScript (script : Script) (account : Account) : Type 0 where
   pub in_turn : AllPairs (λ (a b : Judgement). InTurn script a.request b.request) (judgements_of account.store)
   pub programs : ProgramsClause script account
   pub sessions : SessionsClause script account
+
+-- What each program that a gatekeeper began has read are the vertices of its list of visits. `programs` follows from
+-- this, since no other program has read anything or has ended.
+abbrev pub BegunProgramsReadInTurn : Script → Account → Type 0
+BegunProgramsReadInTurn script account = (home : ℕ) (begun : Begun)
+    → Contains (programs_of (gate_log account home)) begun
+    → (request : Request) (program : Program) → request_at script begun.request ≡ Some request
+    → request.work ≡ Look program
+    → ReadsInTurn (reads_of account begun.request) program (IsTrue (is_ended account begun.request))

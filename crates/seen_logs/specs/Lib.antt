@@ -1,3 +1,4 @@
+pub mod Entries
 pub mod References
 pub mod Seen
 pub mod Closed

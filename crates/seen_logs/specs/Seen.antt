@@ -92,6 +92,12 @@ VisitsItsOwn number start seen (Visited r stamp v updates settled) =
     (record { author = number; request = r; stamp = stamp })
 VisitsItsOwn number start seen _ = ⊤
 
+-- A hand's visits are of programs that it began itself since the start.
+abbrev pub VisitsOwnPrograms : ℕ → Account → Account → Type 0
+VisitsOwnPrograms number start seen = (shard : ℕ) → AtEachEntry (λ before (entry : ShardEntry).
+    IsOwn number (shard_log start shard) before entry.author → VisitsItsOwn number start seen entry.deed)
+    (shard_log seen shard)
+
 -- a visit as an entry of its shard's log
 abbrev pub visit_entry : Visit → ShardEntry
 visit_entry visit = record {
@@ -108,7 +114,7 @@ pub record HasAsked (number : ℕ) (start seen : Account) (shard : ℕ) (before 
   pub marked : IsTrue visit.settled
 
 -- What a hand, known by its number as an author, has seen since the logs were as at the start. All that the entries
--- refer to for which it answers was seen. Its visits are of its own programs, and no two visits asked for one pair.
+-- refer to for which it answers was seen, and no two visits for which it answers asked for one pair.
 pub record IsSeenByHand (shards number : ℕ) (start seen : Account) : Type 0 where
   pub starts : IsWithin start seen
   pub gate_entries : (home : ℕ) → AtEachEntry (λ before (entry : GateEntry).
@@ -123,16 +129,13 @@ pub record IsSeenByHand (shards number : ℕ) (start seen : Account) : Type 0 wh
   pub shard_entries : (shard : ℕ) → AtEachEntry (λ before (entry : ShardEntry).
       AnswersFor number (shard_log start shard) before entry.author
       → ShardRefersAs seen shards shard before entry.author entry.deed) (shard_log seen shard)
-  pub own_visits : (shard : ℕ) → AtEachEntry (λ before (entry : ShardEntry).
-      IsOwn number (shard_log start shard) before entry.author
-      → VisitsItsOwn number start seen entry.deed) (shard_log seen shard)
   pub asks_once : (shard other : ℕ) (before rest : List ShardEntry) (a b : Visit)
       → HasAsked number start seen shard before a → HasAsked number start seen other rest b
       → a.stamp ≡ b.stamp → seen_last before a ≡ seen_last rest b
       → (shard ≡ other) × (length before ≡ length rest)
 
--- What a hand made since it had seen less refers to what it has seen next. Its visits there are of its own programs,
--- and none asked for the pair of another visit for which it answers.
+-- What a hand made since it had seen less refers to what it has seen next. None of its visits there asked for the pair
+-- of another visit for which it answers.
 pub record AddsAsSeen (shards number : ℕ) (start seen next : Account) : Type 0 where
   pub gate_entries : (home : ℕ) → AtEachEntry (λ before (entry : GateEntry).
       IsOwn number (gate_log seen home) before entry.author
@@ -146,9 +149,6 @@ pub record AddsAsSeen (shards number : ℕ) (start seen next : Account) : Type 0
   pub shard_entries : (shard : ℕ) → AtEachEntry (λ before (entry : ShardEntry).
       IsOwn number (shard_log seen shard) before entry.author
       → ShardRefersAs next shards shard before entry.author entry.deed) (shard_log next shard)
-  pub own_visits : (shard : ℕ) → AtEachEntry (λ before (entry : ShardEntry).
-      IsOwn number (shard_log seen shard) before entry.author
-      → VisitsItsOwn number start next entry.deed) (shard_log next shard)
   pub asks_once : (shard other : ℕ) (before rest : List ShardEntry) (a b : Visit)
       → HasAsked number start next shard before a → HasAsked number start next other rest b
       → length (shard_log seen shard) ≤ length before

@@ -1,5 +1,5 @@
 //! What follows for what was seen of logs, as contracts over the logs alone.
-ghost use Rattle.std.specs.Prelude.{◌≡◌, ℕ, ◌<◌, ◌≤◌, List, [], ◌∷◌, length, Contains};
+ghost use Rattle.std.specs.Prelude.{◌≡◌, ◌≢◌, ℕ, ◌<◌, ◌≤◌, List, [], ◌∷◌, length, Contains, slice_index_or};
 ghost use Rattle.vector_stamp.specs.declared.clock.Clock.{Clock};
 ghost use Rattle.vector_stamp.specs.declared.clock.Stamp.{Stamp};
 ghost use Rattle.program_defs.specs.declared.script.Script.{Script};
@@ -23,15 +23,17 @@ ghost use Rattle.weave_entries.specs.StoreRule.{IsStoreLog};
 ghost use Rattle.weave_account.specs.declared.account.Account.{Account};
 ghost use Rattle.weave_account.specs.Account.{Precedence, gate_log, is_ended, reads_of, shard_log};
 ghost use Rattle.weave_account.specs.Clocks.{IsKnown};
-ghost use Rattle.weave_account.specs.Gatekeepers.{BeginEachOnce};
+ghost use Rattle.weave_account.specs.Gatekeepers.{BeginEachOnce, BeginsAs};
 ghost use Rattle.weave_account.specs.IsAccount.{IsAccount};
 ghost use Rattle.weave_account.specs.GoesOn.{GoesOn, IsBeginningOf};
 ghost use Rattle.weave_account.specs.Oracle.{seen_last};
+ghost use Rattle.weave_account.specs.Programs.{ProgramsClause};
 ghost use Rattle.weave_account.specs.Seen.{HasSeen, HasSeenSent, IsMade};
 ghost use Rattle.seen_logs.specs.Closed.{AreOfHands};
-ghost use Rattle.seen_logs.specs.FollowsScript.{FollowsScript};
+ghost use Rattle.seen_logs.specs.Entries.{account_of_logs, gate_entries, gate_pairs, oracle_entries, oracle_pairs, shard_entries, shard_pairs, store_entries, store_pairs};
+ghost use Rattle.seen_logs.specs.FollowsScript.{BegunProgramsReadInTurn, FollowsScript};
 ghost use Rattle.seen_logs.specs.References.{GateRefersAs, IsAskedAsSeen, OracleRefersAs, ShardRefersAs, StoreRefersAs};
-ghost use Rattle.seen_logs.specs.Seen.{AddsAsSeen, AreLegal, GateRefersWithin, GatesGoOn, HasAsked, IsSeenByHand, IsWithin, OracleRefersWithin, ShardRefersWithin, ShardsGoOn, StoreRefersWithin, since, without_sessions};
+ghost use Rattle.seen_logs.specs.Seen.{AddsAsSeen, AreLegal, GateRefersWithin, GatesGoOn, HasAsked, IsOwn, IsSeenByHand, IsWithin, OracleRefersWithin, ShardRefersWithin, ShardsGoOn, StoreRefersWithin, VisitsItsOwn, VisitsOwnPrograms, since, without_sessions};
 
 use crate::lower_laws::the_crates_below_keep_their_laws;
 use weave_account::laws::store_logs_have_passed;
@@ -95,6 +97,35 @@ pub fn more_is_seen()
     ensures back { (account : Account) → IsWithin (without_sessions account) account }
 {}
 
+/// A log of records is the one that its pairs give back, and a log of pairs is the one that its records give back.
+pub fn entries_come_back()
+    ensures records_of_gate { (log : List GateEntry) → gate_entries (gate_pairs log) ≡ log }
+    ensures pairs_of_gate { (log : List (ℕ × GateDeed)) → gate_pairs (gate_entries log) ≡ log }
+    ensures records_of_store { (log : List StoreEntry) → store_entries (store_pairs log) ≡ log }
+    ensures pairs_of_store { (log : List (ℕ × StoreDeed)) → store_pairs (store_entries log) ≡ log }
+    ensures records_of_oracle { (log : List OracleEntry) → oracle_entries (oracle_pairs log) ≡ log }
+    ensures pairs_of_oracle { (log : List (ℕ × OracleDeed)) → oracle_pairs (oracle_entries log) ≡ log }
+    ensures records_of_shard { (log : List ShardEntry) → shard_entries (shard_pairs log) ≡ log }
+    ensures pairs_of_shard { (log : List (ℕ × ShardDeed)) → shard_pairs (shard_entries log) ≡ log }
+{}
+
+/// An account of what was seen of the logs of locks has just those logs. If each of them goes on, more is seen.
+pub fn accounts_have_logs_of_locks()
+    ensures gate { (gates : List (List (ℕ × GateDeed))) (store : List (ℕ × StoreDeed)) (oracle : List (ℕ × OracleDeed))
+        → (shards : List (List (ℕ × ShardDeed))) (home : ℕ)
+        → gate_log (account_of_logs gates store oracle shards) home ≡ gate_entries (slice_index_or gates home []) }
+    ensures shard { (gates : List (List (ℕ × GateDeed))) (store : List (ℕ × StoreDeed)) (oracle : List (ℕ × OracleDeed))
+        → (shards : List (List (ℕ × ShardDeed))) (shard : ℕ)
+        → shard_log (account_of_logs gates store oracle shards) shard ≡ shard_entries (slice_index_or shards shard []) }
+    ensures more { (gates next_gates : List (List (ℕ × GateDeed))) (store next_store : List (ℕ × StoreDeed))
+        → (oracle next_oracle : List (ℕ × OracleDeed)) (shards next_shards : List (List (ℕ × ShardDeed)))
+        → ((home : ℕ) → IsBeginningOf (slice_index_or gates home []) (slice_index_or next_gates home []))
+        → IsBeginningOf store next_store → IsBeginningOf oracle next_oracle
+        → ((shard : ℕ) → IsBeginningOf (slice_index_or shards shard []) (slice_index_or next_shards shard []))
+        → IsWithin (account_of_logs gates store oracle shards)
+        (account_of_logs next_gates next_store next_oracle next_shards) }
+{}
+
 /// If each log that was seen keeps its rules, so does each beginning of it.
 pub fn beginnings_are_legal()
     ensures { (gates shards : ℕ) (seen next : Account) → IsWithin seen next → AreLegal gates shards next
@@ -144,6 +175,17 @@ pub fn hands_see_more()
 {
     the_crates_below_keep_their_laws();
 }
+
+/// A hand's visits are of its own programs at the start, when it has made none, and later if its new ones are.
+pub fn own_visits_stay()
+    ensures start { (number : ℕ) (start : Account) → VisitsOwnPrograms number start start }
+    ensures on { (number : ℕ) (start seen next : Account) → IsWithin start seen → IsWithin seen next
+        → VisitsOwnPrograms number start seen
+        → ((shard : ℕ) → AtEachEntry (λ before (entry : ShardEntry).
+        IsOwn number (shard_log seen shard) before entry.author → VisitsItsOwn number start next entry.deed)
+        (shard_log next shard))
+        → VisitsOwnPrograms number start next }
+{}
 
 /// If a visit asked for a pair, that update precedes its program by what the hand has seen. So no later visit of that
 /// program has to ask for it again.
@@ -219,6 +261,26 @@ pub fn programs_read_what_was_seen()
         → AreOfHands shards hands start seen_by closed → BeginEachOnce closed
         → (home : ℕ) (begun : Begun) → Contains (begun_in (gate_log start home)) begun
         → reads_of closed begun.request ≡ reads_of start begun.request }
+{
+    the_crates_below_keep_their_laws();
+}
+
+/// If what the shards' entries refer to was seen, a request that was begun as a program at none of the gatekeepers seen
+/// has read nothing.
+pub fn only_begun_programs_read()
+    ensures { (shards : ℕ) (seen : Account) → ((shard : ℕ) → ShardRefersWithin shards seen shard) → (r : ℕ)
+        → ((home : ℕ) (begun : Begun) → Contains (programs_of (gate_log seen home)) begun → begun.request ≢ r)
+        → reads_of seen r ≡ [] }
+{}
+
+/// It is enough that the programs read in turn that a gatekeeper began, if the logs keep their rules, refer to nothing
+/// but themselves, and begin requests as the script has them. No other program has read anything or has ended.
+pub fn begun_programs_are_enough()
+    ensures { (script : Script) (account : Account) (number : ℕ) → AreLegal script.gates script.shards account
+        → IsSeenByHand script.shards number (without_sessions account) (without_sessions account)
+        → ((home : ℕ) → AtEachEntry (λ before (entry : GateEntry). BeginsAs script account home before entry.deed)
+        (gate_log account home))
+        → BegunProgramsReadInTurn script account → ProgramsClause script account }
 {
     the_crates_below_keep_their_laws();
 }
