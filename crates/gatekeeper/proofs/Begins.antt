@@ -1,6 +1,6 @@
 -- A request is begun at a gatekeeper whose fields are what the replay of its log gives.
-use Rattle.std.proofs.Common.{◌≡◌, ℕ, ◌^◌, ◌-◌, ◌<◌, ◌≤◌, false, nat_eq, List, [], length, map, slice_get, is_some, IsTrue, Option, None, Some, inl, inr, refl, sym, ap, subst, ◌∙◌, arith}
-use Rattle.std.specs.Option.{ForSome, option_map}
+use Rattle.std.proofs.Common.{◌≡◌, ℕ, ◌^◌, ◌-◌, ◌<◌, ◌≤◌, false, nat_eq, List, [], length, slice_get, is_some, IsTrue, Option, None, Some, inl, inr, refl, sym, ap, subst, ◌∙◌, arith}
+use Rattle.std.specs.Option.{ForSome, option_map, option_and_then}
 use Rattle.vector_stamp.specs.declared.clock.Clock.{Clock}
 use Rattle.vector_stamp.specs.declared.clock.Stamp.{Stamp}
 use Rattle.vector_stamp.specs.Order.{count_of, HasEightCounts, is_before, stamp_before}
@@ -8,12 +8,14 @@ use Rattle.vector_stamp.specs.Clocks.{clock_after_tick, clock_after_hearing, cou
 use Rattle.shard_queue.specs.Sent.{Channel, sent_as}
 use Rattle.std.proofs.lemmas.Bool.{cases_Bool}
 use Rattle.weave_entries.specs.declared.message.Message.{Message}
-use Rattle.weave_entries.specs.declared.message.Addressed.{Addressed}
 use Rattle.weave_entries.specs.declared.gate_log.GateEntry.{GateEntry}
 use Rattle.weave_entries.specs.GateReplay.{Begun, begun_stamp, clock_of, channel_of}
 use Rattle.weave_entries.specs.GateRules.{IsBegunAt, IsGateLog}
 use Rattle.gatekeeper.specs.declared.begun.Flight.{Flight}
 use Rattle.gatekeeper.specs.Opened.{as_begun}
+use Rattle.gatekeeper.specs.declared.places.Place.{Place}
+use Rattle.gatekeeper.specs.Places.{message_at}
+use Rattle.gatekeeper.proofs.Leading.{lead-found}
 use Rattle.gatekeeper.specs.Gates.{GateView, IsReplayOf}
 
 -- the laws on logs that are premises here
@@ -39,7 +41,7 @@ pub none_flies : (flight : Option Flight) (flies : Option Begun) → option_map 
 none_flies None flies is none = sym is
 none_flies (Some one) flies is none = absurd (cc)
 
-module _ (home shards : ℕ) (clock : Clock) (flight : Option Flight) (running : List ((ℕ × ℕ) × Clock)) (channels : List (Channel Message)) (log : List GateEntry) (kept : IsReplayOf home shards clock flight running channels log) where
+module _ (home shards : ℕ) (clock : Clock) (flight : Option Flight) (running : List ((ℕ × ℕ) × Clock)) (channels : List (Channel Place)) (nops : List Message) (log : List GateEntry) (kept : IsReplayOf home shards clock flight running channels nops log) where
   -- there is room for one more event
   pub own_fits : OwnIsFew → length log < 2 ^ 63 → count_of home clock < 2 ^ 64 - 1
   own_fits own few =
@@ -70,5 +72,6 @@ module _ (home shards : ℕ) (clock : Clock) (flight : Option Flight) (running :
         | inr some ↦ rw some refl
       ])
 
-  pub fetched_at : (view : GateView) (shard number : ℕ) → view.log ≡ log → (channel : Channel Message) → slice_get channels shard ≡ Some channel → (found : Option Message) → found ≡ sent_as number channel.sent → found ≡ sent_as number (channel_of shard view.log)
-  fetched_at view shard number log_is channel at found is = is ∙ ap (sent_as number) (kept.channels_are shard channel at ∙ ap (channel_of shard) (sym log_is))
+  pub fetched_at : (view : GateView) (shard number : ℕ) → view.log ≡ log → (channel : Channel Place) → slice_get channels shard ≡ Some channel → (found : Option Message) → found ≡ option_and_then (message_at nops log) (sent_as number channel.sent) → found ≡ sent_as number (channel_of shard view.log)
+  fetched_at view shard number log_is channel at found is =
+      is ∙ lead-found nops log channel.sent (channel_of shard log) number (kept.channels_are shard channel at) ∙ ap (λ l. sent_as number (channel_of shard l)) (sym log_is)

@@ -1,26 +1,34 @@
--- Messages go to their channels, one after another.
-use Rattle.std.proofs.Common.{◌≡◌, ◌≢◌, ℕ, zero, suc, ◌+◌, ◌<◌, nat_eq, List, [], ◌∷◌, ◌++◌, map, length, get_or, slice_get, slice_set, Some, inl, inr, refl, sym, ap, subst, ◌∙◌, arith}
+-- The places of messages go to their channels, one after another.
+use Rattle.std.proofs.Common.{◌≡◌, ◌≢◌, ℕ, zero, suc, ◌+◌, ◌<◌, nat_eq, List, [], ◌∷◌, ◌++◌, length, get_or, slice_get, slice_set, Some, inl, inr, refl, sym, ap, subst, ◌∙◌, arith}
 use Rattle.std.proofs.lemmas.Bool.{cases_Bool, cases_eq, eqb-true, eq-eqb}
 use Rattle.std.proofs.lemmas.List.{append_assoc, append-nil, length-set, get_or-set_same}
 use Rattle.std.proofs.lemmas.Option.{slice_get_read, slice_get_within, slice_get-get_or, get_or_from_slice_get}
 use Rattle.shard_queue.specs.Sent.{Channel}
-use Rattle.weave_entries.specs.declared.message.Message.{Message}
 use Rattle.weave_entries.specs.declared.message.Addressed.{Addressed}
 use Rattle.weave_entries.specs.GateReplay.{to_shard}
-use Rattle.gatekeeper.specs.Messages.{CanGo, CanAllGo, HasRoomAt, KeepsSent, IsSentOn, AreSent}
+use Rattle.gatekeeper.specs.declared.places.Place.{Place}
+use Rattle.gatekeeper.specs.Places.{places_to}
+use Rattle.gatekeeper.specs.Messages.{CanAllGo, HasRoomAt, KeepsSent, IsSentOn, AreSent}
 
 pub some_is : {A : Type 0} {x y : A} → Some x ≡ Some y → x ≡ y
 some_is is = cc
-
--- the messages of these that go to a shard
-abbrev pub to : ℕ → List Addressed → List Message
-to shard messages = map (λ (addressed : Addressed). addressed.message) (to_shard shard messages)
 
 to_here : (one : Addressed) (rest : List Addressed) (shard : ℕ) → one.shard ≡ shard → to_shard shard (one ∷ rest) ≡ one ∷ to_shard shard rest
 to_here one rest shard is = rw (eq-eqb one.shard shard is) refl
 
 to_other : (one : Addressed) (rest : List Addressed) (shard : ℕ) → (one.shard ≡ shard → ⊥) → to_shard shard (one ∷ rest) ≡ to_shard shard rest
 to_other one rest shard other =
+    elim (cases_Bool (nat_eq one.shard shard)) [
+      | inl same ↦ absurd (other (eqb-true one.shard shard same))
+      | inr differ ↦ rw differ refl
+    ]
+
+-- the places of one more message, to the shard and to another one
+places_here : (entry at : ℕ) (one : Addressed) (rest : List Addressed) (shard : ℕ) → one.shard ≡ shard → places_to shard entry at (one ∷ rest) ≡ record { entry = entry; at = at } ∷ places_to shard entry (at + 1) rest
+places_here entry at one rest shard is = rw (eq-eqb one.shard shard is) refl
+
+places_other : (entry at : ℕ) (one : Addressed) (rest : List Addressed) (shard : ℕ) → (one.shard ≡ shard → ⊥) → places_to shard entry at (one ∷ rest) ≡ places_to shard entry (at + 1) rest
+places_other entry at one rest shard other =
     elim (cases_Bool (nat_eq one.shard shard)) [
       | inl same ↦ absurd (other (eqb-true one.shard shard same))
       | inr differ ↦ rw differ refl
@@ -35,56 +43,53 @@ not_to shard one rest none =
     ]
 
 -- what can be sent can still be sent when a message went to another shard
-can_still : (old new : List (Channel Message)) (shard : ℕ) (message : Message) (rest : List Addressed) → IsSentOn old new shard message → to_shard shard rest ≡ [] → CanAllGo old rest → CanAllGo new rest
-can_still old new shard message [] sent none can = tt
-can_still old new shard message (one ∷ rest) sent none can =
+can_still : (old new : List (Channel Place)) (shard : ℕ) (place : Place) (rest : List Addressed) → IsSentOn old new shard place → to_shard shard rest ≡ [] → CanAllGo old rest → CanAllGo new rest
+can_still old new shard place [] sent none can = tt
+can_still old new shard place (one ∷ rest) sent none can =
     let parts = not_to shard one rest none in
-    let first : CanGo old one.shard one.message.stamp = can.0 in (
-      record { channel = first.channel; at = sent.others one.shard parts.0 ∙ first.at; room = first.room; later = first.later },
+    let first : HasRoomAt old one.shard = can.0 in (
+      record { channel = first.channel; at = sent.others one.shard parts.0 ∙ first.at; room = first.room },
       can.1,
-      can_still old new shard message rest sent parts.1 can.2,
+      can_still old new shard place rest sent parts.1 can.2,
     )
 
--- what stands on the channels, and then what is left to be sent, is what stood there and all that is sent
-pub record GoesOn (old now : List (Channel Message)) (all rest : List Addressed) : Type 0 where
+-- the places on the channels, and then those of what is left to be sent, are those that were there and those of all that is sent
+pub record GoesOn (old now : List (Channel Place)) (entry : ℕ) (all : List Addressed) (at : ℕ) (rest : List Addressed) : Type 0 where
   pub can : CanAllGo now rest
   pub count : length now ≡ length old
-  pub each : (shard : ℕ) (after : Channel Message) → slice_get now shard ≡ Some after → (before : Channel Message) × (slice_get old shard ≡ Some before) × (after.sent ++ to shard rest ≡ before.sent ++ to shard all)
+  pub each : (shard : ℕ) (after : Channel Place) → slice_get now shard ≡ Some after → (before : Channel Place) × (slice_get old shard ≡ Some before) × (after.sent ++ places_to shard entry at rest ≡ before.sent ++ places_to shard entry 0 all)
 
-pub goes-start : (old : List (Channel Message)) (all : List Addressed) → CanAllGo old all → GoesOn old old all all
-goes-start old all can = record { can = can; count = refl; each = λ shard after at. (after, at, refl) }
+pub goes-start : (old : List (Channel Place)) (entry : ℕ) (all : List Addressed) → CanAllGo old all → GoesOn old old entry all 0 all
+goes-start old entry all can = record { can = can; count = refl; each = λ shard after at. (after, at, refl) }
 
-pub goes-step : (old now next : List (Channel Message)) (all : List Addressed) (one : Addressed) (rest : List Addressed) → GoesOn old now all (one ∷ rest) → IsSentOn now next one.shard one.message → GoesOn old next all rest
-goes-step old now next all one rest goes sent =
+pub goes-step : (old now next : List (Channel Place)) (entry : ℕ) (all : List Addressed) (index : ℕ) (one : Addressed) (rest : List Addressed) → GoesOn old now entry all index (one ∷ rest) → IsSentOn now next one.shard (record { entry = entry; at = index }) → GoesOn old next entry all (index + 1) rest
+goes-step old now next entry all index one rest goes sent =
     let can : CanAllGo now (one ∷ rest) = goes.can in
+    let place : Place = record { entry = entry; at = index } in
     record {
-      can = can_still now next one.shard one.message rest sent can.1 can.2;
+      can = can_still now next one.shard place rest sent can.1 can.2;
       count = sent.count ∙ goes.count;
       each = λ shard after at. elim (cases_eq shard one.shard) [
         | inl same ↦
-            let first : CanGo now one.shard one.message.stamp = can.0 in
+            let first : HasRoomAt now one.shard = can.0 in
             let found = sent.here first.channel first.at in
             let was = goes.each shard first.channel (ap (λ n. slice_get now n) same ∙ first.at) in
             let here : found.0 ≡ after = some_is (sym found.1 ∙ ap (λ n. slice_get next n) (sym same) ∙ at) in
-            let grown : after.sent ++ to shard rest ≡ first.channel.sent ++ to shard (one ∷ rest) =
-            ap (λ (c : Channel Message). c.sent ++ to shard rest) (sym here)
-            ∙ ap (λ ms. ms ++ to shard rest) found.2
-            ∙ append_assoc first.channel.sent (one.message ∷ []) (to shard rest)
-            ∙ ap (λ ms. first.channel.sent ++ map (λ (addressed : Addressed). addressed.message) ms) (sym (to_here one rest shard (sym same))) in
+            let grown : after.sent ++ places_to shard entry (index + 1) rest ≡ first.channel.sent ++ places_to shard entry index (one ∷ rest) =
+            ap (λ (c : Channel Place). c.sent ++ places_to shard entry (index + 1) rest) (sym here)
+            ∙ ap (λ ps. ps ++ places_to shard entry (index + 1) rest) found.2
+            ∙ append_assoc first.channel.sent (place ∷ []) (places_to shard entry (index + 1) rest)
+            ∙ ap (λ ps. first.channel.sent ++ ps) (sym (places_here entry index one rest shard (sym same))) in
             (was.0, was.1, grown ∙ was.2)
         | inr other ↦
             let was = goes.each shard after (sym (sent.others shard other) ∙ at) in
-            let less : to shard rest ≡ to shard (one ∷ rest) = ap (map (λ (addressed : Addressed). addressed.message)) (sym (to_other one rest shard (λ e. other (sym e)))) in
-            (was.0, was.1, ap (λ ms. after.sent ++ ms) less ∙ was.2)
+            let less : places_to shard entry (index + 1) rest ≡ places_to shard entry index (one ∷ rest) = sym (places_other entry index one rest shard (λ e. other (sym e))) in
+            (was.0, was.1, ap (λ ps. after.sent ++ ps) less ∙ was.2)
       ];
     }
 
-pub goes-end : (old now : List (Channel Message)) (all : List Addressed) → GoesOn old now all [] → AreSent old now all
-goes-end old now all goes = record { count = goes.count; each = λ shard after at. let was = goes.each shard after at in (was.0, was.1, sym (append-nil after.sent) ∙ was.2) }
-
--- one message that was sent
-pub one_sent : (old now : List (Channel Message)) (one : Addressed) → CanGo old one.shard one.message.stamp → IsSentOn old now one.shard one.message → AreSent old now (one ∷ [])
-one_sent old now one can sent = goes-end old now (one ∷ []) (goes-step old old now (one ∷ []) one [] (goes-start old (one ∷ []) (can, refl, tt)) sent)
+pub goes-end : (old now : List (Channel Place)) (entry : ℕ) (all : List Addressed) (index : ℕ) → GoesOn old now entry all index [] → AreSent old now entry all
+goes-end old now entry all index goes = record { count = goes.count; each = λ shard after at. let was = goes.each shard after at in (was.0, was.1, sym (append-nil after.sent) ∙ was.2) }
 
 -- Places in a list
 
@@ -101,21 +106,21 @@ get_set_other (y ∷ xs) (suc place) (suc other) x differ = get_set_other xs pla
 pub got_is : {A : Type 0} (xs : List A) (place : ℕ) (x y : A) → slice_get xs place ≡ Some x → y ≡ get_or xs place y → y ≡ x
 got_is xs place x y at is = is ∙ get_or_from_slice_get xs place x y at
 
--- the channel with one more message stands in its place
-pub set_sent : (channels : List (Channel Message)) (shard : ℕ) (was now : Channel Message) (message : Message) → shard < length channels → was ≡ get_or channels shard was → now.sent ≡ was.sent ++ message ∷ [] → IsSentOn channels (slice_set channels shard now) shard message
-set_sent channels shard was now message within is sent =
+-- the channel with one more place is set
+pub set_sent : (channels : List (Channel Place)) (shard : ℕ) (was now : Channel Place) (place : Place) → shard < length channels → was ≡ get_or channels shard was → now.sent ≡ was.sent ++ place ∷ [] → IsSentOn channels (slice_set channels shard now) shard place
+set_sent channels shard was now place within is sent =
     record {
       count = length-set channels shard now;
-      here = λ before at. (now, get_set_here channels shard now within, sent ∙ ap (λ (c : Channel Message). c.sent ++ message ∷ []) (got_is channels shard before was at is));
+      here = λ before at. (now, get_set_here channels shard now within, sent ∙ ap (λ (c : Channel Place). c.sent ++ place ∷ []) (got_is channels shard before was at is));
       others = λ other differ. get_set_other channels shard other now differ;
     }
 
 -- Room
 
-pub keeps-refl : (channels : List (Channel Message)) → KeepsSent channels channels
+pub keeps-refl : (channels : List (Channel Place)) → KeepsSent channels channels
 keeps-refl channels = record { count = refl; each = λ shard after at. (after, at, refl, omega arith) }
 
-pub keeps-trans : (old now next : List (Channel Message)) → KeepsSent old now → KeepsSent now next → KeepsSent old next
+pub keeps-trans : (old now next : List (Channel Place)) → KeepsSent old now → KeepsSent now next → KeepsSent old next
 keeps-trans old now next first second =
     record {
       count = second.count ∙ first.count;
@@ -127,7 +132,7 @@ keeps-trans old now next first second =
           (a.0, a.1, b.2 ∙ a.2, omega arith);
     }
 
-pub room_stays : (now next : List (Channel Message)) (shard : ℕ) → KeepsSent now next → HasRoomAt now shard → HasRoomAt next shard
+pub room_stays : (now next : List (Channel Place)) (shard : ℕ) → KeepsSent now next → HasRoomAt now shard → HasRoomAt next shard
 room_stays now next shard keeps had =
     let within = slice_get_within now shard had.channel had.at in
     let same = keeps.count in
@@ -136,10 +141,10 @@ room_stays now next shard keeps had =
     let is : had.channel ≡ was.0 = some_is (sym had.at ∙ was.1) in
     let room = had.room in
     let more = was.3 in
-    let e : had.channel.spare ≡ was.0.spare = ap (λ (c : Channel Message). c.spare) is in
+    let e : had.channel.spare ≡ was.0.spare = ap (λ (c : Channel Place). c.spare) is in
     record { channel = get_or next shard had.channel; at = found; room = omega arith }
 
-pub room_more : (old now next : List (Channel Message)) (count : ℕ) → KeepsSent old now × ((shard : ℕ) → shard < count → HasRoomAt now shard) → KeepsSent now next → HasRoomAt next count → KeepsSent old next × ((shard : ℕ) → shard < count + 1 → HasRoomAt next shard)
+pub room_more : (old now next : List (Channel Place)) (count : ℕ) → KeepsSent old now × ((shard : ℕ) → shard < count → HasRoomAt now shard) → KeepsSent now next → HasRoomAt next count → KeepsSent old next × ((shard : ℕ) → shard < count + 1 → HasRoomAt next shard)
 room_more old now next count so_far keeps here = (
   keeps-trans old now next so_far.0 keeps,
   λ shard below. elim (cases_eq shard count) [

@@ -18,6 +18,10 @@ use Rattle.gatekeeper.specs.declared.begun.Flight.{Flight}
 use Rattle.gatekeeper.specs.Opened.{as_begun}
 use Rattle.gatekeeper.specs.Gates.{HaveBits, IsReplayOf}
 use Rattle.gatekeeper.specs.Running.{same_program, HoldsPrograms}
+use Rattle.gatekeeper.specs.declared.places.Place.{Place}
+use Rattle.gatekeeper.specs.Places.{LeadTo}
+use Rattle.gatekeeper.specs.Messages.{KeepsSent}
+use Rattle.gatekeeper.proofs.Leading.{lead-still}
 use Rattle.proof_base.proofs.Ends.{flat_push}
 use Rattle.proof_base.proofs.Entries.{each_none, each_push}
 use Rattle.proof_base.proofs.Members.{has_none, only}
@@ -47,15 +51,15 @@ pub no_bits : HaveBits []
 no_bits stamp has = absurd (has_none stamp has)
 
 -- each field goes on as the entry says
-pub keeps_on : (home shards : ℕ) (clock : Clock) (flight : Option Flight) (running : List ((ℕ × ℕ) × Clock)) (channels : List (Channel Message)) (log : List GateEntry) (author : ℕ) (deed : GateDeed) (next : Clock) (flying : Option Flight) (run : List ((ℕ × ℕ) × Clock)) (sent : List (Channel Message)) (longer : List GateEntry) → IsReplayOf home shards clock flight running channels log → FitsAs home shards log author deed → HaveBits (stamps_by deed) → longer ≡ log ++ record { author = author; deed = deed } ∷ [] → next ≡ clock_after home clock deed → option_map as_begun flying ≡ flight_after (option_map as_begun flight) author deed → HoldsPrograms run (running_after (running_of log) author deed) → length sent ≡ shards → ((shard : ℕ) (channel : Channel Message) → slice_get sent shard ≡ Some channel → channel.sent ≡ channel_of shard log ++ map (λ (addressed : Addressed). addressed.message) (to_shard shard (messages_by deed))) → IsReplayOf home shards next flying run sent longer
-keeps_on home shards clock flight running channels log author deed next flying run sent longer kept fits bits longer_is next_is flying_is run_is all_sent sent_is =
+pub keeps_on : (home shards : ℕ) (clock : Clock) (flight : Option Flight) (running : List ((ℕ × ℕ) × Clock)) (channels : List (Channel Place)) (nops : List Message) (log : List GateEntry) (author : ℕ) (deed : GateDeed) (next : Clock) (flying : Option Flight) (run : List ((ℕ × ℕ) × Clock)) (sent : List (Channel Place)) (empty : List Message) (longer : List GateEntry) → IsReplayOf home shards clock flight running channels nops log → FitsAs home shards log author deed → HaveBits (stamps_by deed) → longer ≡ log ++ record { author = author; deed = deed } ∷ [] → next ≡ clock_after home clock deed → option_map as_begun flying ≡ flight_after (option_map as_begun flight) author deed → HoldsPrograms run (running_after (running_of log) author deed) → length sent ≡ shards → ((shard : ℕ) (channel : Channel Place) → slice_get sent shard ≡ Some channel → LeadTo empty (log ++ record { author = author; deed = deed } ∷ []) channel.sent (channel_of shard log ++ map (λ (addressed : Addressed). addressed.message) (to_shard shard (messages_by deed)))) → IsReplayOf home shards next flying run sent empty longer
+keeps_on home shards clock flight running channels nops log author deed next flying run sent empty longer kept fits bits longer_is next_is flying_is run_is all_sent sent_is =
     let entry : GateEntry = record { author = author; deed = deed } in
-    subst (λ (l : List GateEntry). IsReplayOf home shards next flying run sent l) (sym longer_is) (record {
+    subst (λ (l : List GateEntry). IsReplayOf home shards next flying run sent empty l) (sym longer_is) (record {
       clock_is = next_is ∙ ap (λ (c : Clock). clock_after home c deed) kept.clock_is ∙ sym (clock-push log entry home);
       flight_is = flying_is ∙ ap (λ (f : Option Begun). flight_after f author deed) kept.flight_is ∙ sym (flight-push log entry);
       running_is = subst (HoldsPrograms run) (sym (running-push log entry)) run_is;
       all_channels = all_sent;
-      channels_are = λ shard channel at. sent_is shard channel at ∙ sym (channel-push log entry shard);
+      channels_are = λ shard channel at. subst (LeadTo empty (log ++ entry ∷ []) channel.sent) (sym (channel-push log entry shard)) (sent_is shard channel at);
       home_is = kept.home_is;
       some_shard = kept.some_shard;
       rules = each_push (λ before (one : GateEntry). FitsAs home shards before one.author one.deed) log entry kept.rules fits;
@@ -66,15 +70,20 @@ keeps_on home shards clock flight running channels log author deed next flying r
     })
 
 -- and where it sends nothing, the channels stay
-pub keeps_still : (home shards : ℕ) (clock : Clock) (flight : Option Flight) (running : List ((ℕ × ℕ) × Clock)) (channels : List (Channel Message)) (log : List GateEntry) (author : ℕ) (deed : GateDeed) (next : Clock) (flying : Option Flight) (run : List ((ℕ × ℕ) × Clock)) (longer : List GateEntry) → IsReplayOf home shards clock flight running channels log → FitsAs home shards log author deed → HaveBits (stamps_by deed) → messages_by deed ≡ [] → longer ≡ log ++ record { author = author; deed = deed } ∷ [] → next ≡ clock_after home clock deed → option_map as_begun flying ≡ flight_after (option_map as_begun flight) author deed → HoldsPrograms run (running_after (running_of log) author deed) → IsReplayOf home shards next flying run channels longer
-keeps_still home shards clock flight running channels log author deed next flying run longer kept fits bits nothing longer_is next_is flying_is run_is =
-    keeps_on home shards clock flight running channels log author deed next flying run channels longer kept fits bits longer_is next_is flying_is run_is kept.all_channels
-    (λ shard channel at. kept.channels_are shard channel at ∙ sym (append-nil (channel_of shard log)) ∙ ap (λ (ms : List Addressed). channel_of shard log ++ map (λ (addressed : Addressed). addressed.message) (to_shard shard ms)) (sym nothing))
+pub keeps_still : (home shards : ℕ) (clock : Clock) (flight : Option Flight) (running : List ((ℕ × ℕ) × Clock)) (channels : List (Channel Place)) (nops : List Message) (log : List GateEntry) (author : ℕ) (deed : GateDeed) (next : Clock) (flying : Option Flight) (run : List ((ℕ × ℕ) × Clock)) (longer : List GateEntry) → IsReplayOf home shards clock flight running channels nops log → FitsAs home shards log author deed → HaveBits (stamps_by deed) → messages_by deed ≡ [] → longer ≡ log ++ record { author = author; deed = deed } ∷ [] → next ≡ clock_after home clock deed → option_map as_begun flying ≡ flight_after (option_map as_begun flight) author deed → HoldsPrograms run (running_after (running_of log) author deed) → IsReplayOf home shards next flying run channels nops longer
+keeps_still home shards clock flight running channels nops log author deed next flying run longer kept fits bits nothing longer_is next_is flying_is run_is =
+    let entry : GateEntry = record { author = author; deed = deed } in
+    keeps_on home shards clock flight running channels nops log author deed next flying run channels nops longer kept fits bits longer_is next_is flying_is run_is kept.all_channels
+    (λ shard channel at.
+    let lead = lead-still nops [] log (entry ∷ []) channel.sent (channel_of shard log) (kept.channels_are shard channel at) in
+    let same : channel_of shard log ≡ channel_of shard log ++ map (λ (addressed : Addressed). addressed.message) (to_shard shard (messages_by deed)) =
+    sym (append-nil (channel_of shard log)) ∙ ap (λ (ms : List Addressed). channel_of shard log ++ map (λ (addressed : Addressed). addressed.message) (to_shard shard ms)) (sym nothing) in
+    subst (LeadTo nops (log ++ entry ∷ []) channel.sent) same (subst (λ (ns : List Message). LeadTo ns (log ++ entry ∷ []) channel.sent (channel_of shard log)) (append-nil nops) lead))
 
 -- the programs may stand in another table, and the log in another place
-pub keeps_programs : (home shards : ℕ) (clock : Clock) (flight : Option Flight) (running : List ((ℕ × ℕ) × Clock)) (channels : List (Channel Message)) (log : List GateEntry) (run : List ((ℕ × ℕ) × Clock)) (same : List GateEntry) → IsReplayOf home shards clock flight running channels log → HoldsPrograms run (running_of log) → same ≡ log → IsReplayOf home shards clock flight run channels same
-keeps_programs home shards clock flight running channels log run same kept holds is =
-    subst (λ (l : List GateEntry). IsReplayOf home shards clock flight run channels l) (sym is) (record {
+pub keeps_programs : (home shards : ℕ) (clock : Clock) (flight : Option Flight) (running : List ((ℕ × ℕ) × Clock)) (channels : List (Channel Place)) (nops : List Message) (log : List GateEntry) (run : List ((ℕ × ℕ) × Clock)) (same : List GateEntry) → IsReplayOf home shards clock flight running channels nops log → HoldsPrograms run (running_of log) → same ≡ log → IsReplayOf home shards clock flight run channels nops same
+keeps_programs home shards clock flight running channels nops log run same kept holds is =
+    subst (λ (l : List GateEntry). IsReplayOf home shards clock flight run channels nops l) (sym is) (record {
       clock_is = kept.clock_is;
       flight_is = kept.flight_is;
       running_is = holds;
@@ -87,15 +96,16 @@ keeps_programs home shards clock flight running channels log run same kept holds
     })
 
 -- before the first entry nothing is running, and nothing was sent
-pub keeps_none : (home shards : ℕ) (clock : Clock) (run : List ((ℕ × ℕ) × Clock)) (channels : List (Channel Message)) (log : List GateEntry) → log ≡ [] → clock ≡ start_clock → run ≡ [] → length channels ≡ shards → All (λ (channel : Channel Message). channel.sent ≡ []) channels → home < 8 → 1 ≤ shards → IsReplayOf home shards clock None run channels log
-keeps_none home shards clock run channels log log_is clock_is run_is count empty home_is some =
-    subst (λ (l : List GateEntry). IsReplayOf home shards clock None run channels l) (sym log_is) (record {
+pub keeps_none : (home shards : ℕ) (clock : Clock) (run : List ((ℕ × ℕ) × Clock)) (channels : List (Channel Place)) (nops : List Message) (log : List GateEntry) → log ≡ [] → clock ≡ start_clock → run ≡ [] → length channels ≡ shards → All (λ (channel : Channel Place). channel.sent ≡ []) channels → home < 8 → 1 ≤ shards → IsReplayOf home shards clock None run channels nops log
+keeps_none home shards clock run channels nops log log_is clock_is run_is count empty home_is some =
+    subst (λ (l : List GateEntry). IsReplayOf home shards clock None run channels nops l) (sym log_is) (record {
       clock_is = clock_is;
       flight_is = refl;
       running_is = λ program. ap (lookup (same_program program)) run_is;
       all_channels = count;
       channels_are = λ shard channel at.
-          subst (λ (one : Channel Message). one.sent ≡ []) (get_or_from_slice_get channels shard channel channel at) (empty shard channel (slice_get_within channels shard channel at));
+          let none : channel.sent ≡ [] = subst (λ (one : Channel Place). one.sent ≡ []) (get_or_from_slice_get channels shard channel channel at) (empty shard channel (slice_get_within channels shard channel at)) in
+          subst (λ (places : List Place). LeadTo nops [] places []) (sym none) tt;
       home_is = home_is;
       some_shard = some;
       bits = λ stamp has. absurd (has_none stamp has);

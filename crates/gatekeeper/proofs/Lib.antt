@@ -1,3 +1,4 @@
+pub mod Leading
 pub mod Keeping
 pub mod Begins
 pub mod Delivery

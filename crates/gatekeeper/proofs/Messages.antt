@@ -1,14 +1,13 @@
 -- What is sent from a gatekeeper whose fields are what the replay of its log gives.
-use Rattle.std.proofs.Common.{◌≡◌, ℕ, zero, suc, ◌+◌, ◌-◌, ◌<◌, ◌≤◌, Bool, true, false, nat_eq, List, [], ◌∷◌, ◌++◌, length, map, filter, get_or, slice_get, Contains, IsTrue, Option, None, Some, inl, inr, refl, sym, ap, subst, ◌∙◌, add-one, arith}
+use Rattle.std.proofs.Common.{◌≡◌, ℕ, zero, suc, ◌+◌, ◌<◌, ◌≤◌, Bool, true, false, nat_eq, List, [], ◌∷◌, ◌++◌, length, map, filter, get_or, slice_get, Option, Some, inl, inr, refl, sym, ap, subst, ◌∙◌, add-one, arith}
 use Rattle.std.specs.List.{list_any, range_with_len}
 use Rattle.std.specs.Option.{option_map}
-use Rattle.std.proofs.lemmas.Bool.{cases_Bool, cases_lt}
+use Rattle.std.proofs.lemmas.Bool.{cases_Bool, cases_lt, cases_eq, eqb-true, eq-eqb}
 use Rattle.std.proofs.lemmas.List.{append-nil, map-append}
 use Rattle.std.proofs.lemmas.List.Elements.{filter-append}
-use Rattle.std.proofs.lemmas.Option.{slice_get_within, slice_get_past, slice_get-get_or, get_or_from_slice_get}
+use Rattle.std.proofs.lemmas.Option.{slice_get_within, slice_get_past, slice_get-get_or}
 use Rattle.vector_stamp.specs.declared.clock.Clock.{Clock}
 use Rattle.vector_stamp.specs.declared.clock.Stamp.{Stamp}
-use Rattle.vector_stamp.specs.Order.{stamp_before}
 use Rattle.graph_ops.specs.declared.op.Op.{Op}
 use Rattle.graph_ops.specs.declared.part.Part.{Part}
 use Rattle.shard_queue.specs.Sent.{Channel}
@@ -18,17 +17,21 @@ use Rattle.weave_entries.specs.declared.verdict.Counted.{Counted}
 use Rattle.weave_entries.specs.declared.verdict.Verdict.{Verdict}
 use Rattle.weave_entries.specs.declared.verdict.Verdict.TheVariants.{Committed, Conflict, Refused}
 use Rattle.weave_entries.specs.declared.gate_log.GateEntry.{GateEntry}
-use Rattle.weave_entries.specs.GateReplay.{Begun, next_stamp, clock_of, flight_of, running_of, to_shard, channel_of, next_number, low_mark}
+use Rattle.weave_entries.specs.declared.gate_log.GateDeed.TheVariants.{Sent, Nop}
+use Rattle.weave_entries.specs.GateReplay.{Begun, flight_of, running_of, to_shard, channel_of, next_number, low_mark, nop_message}
 use Rattle.weave_entries.specs.Sending.{keeps as keeps_of, parts_for, shards_named, message_to, messages_of, IsCountsOf}
-use Rattle.weave_entries.specs.GateRules.{IsGateLog, Sends}
+use Rattle.weave_entries.specs.GateRules.{Sends}
 use Rattle.gatekeeper.specs.declared.begun.Flight.{Flight}
 use Rattle.gatekeeper.specs.Opened.{as_begun}
 use Rattle.gatekeeper.specs.Gates.{IsReplayOf}
-use Rattle.gatekeeper.specs.Messages.{sent_on, sent_at, made_for, with_parted, messages_made, HasRoomAt, KeepsSent, CanGo, CanAllGo, AreSent}
+use Rattle.gatekeeper.specs.declared.places.Place.{Place}
+use Rattle.gatekeeper.specs.Places.{LeadTo, places_to}
+use Rattle.gatekeeper.specs.Messages.{sent_on, sent_at, made_for, with_parted, messages_made, HasRoomAt, KeepsSent, CanAllGo, IsSentOn, AreSent}
 use Rattle.proof_base.proofs.Ends.{filter_map_is}
-use Rattle.proof_base.proofs.Members.{map_has}
 use Rattle.proof_base.proofs.Ranges.{range_more, picked_below}
 use Rattle.gatekeeper.proofs.Begins.{SendsNoneBeyond}
+use Rattle.gatekeeper.proofs.Delivery.{some_is}
+use Rattle.gatekeeper.proofs.Leading.{lead-still, lead-append, lead-length, lead-sent, lead-nop}
 
 map_same : {A B : Type 0} (f g : A → B) → ((x : A) → f x ≡ g x) → (xs : List A) → map f xs ≡ map g xs
 map_same f g same [] = refl
@@ -71,30 +74,23 @@ module _ (make : ℕ → Addressed) (named : ℕ → Bool) (count : ℕ) where
       ∙ sym shards_more
       ∙ ap (λ n. map make (filter named (range_with_len 0 n))) (sym (add-one count))
 
--- the laws on messages that are premises here: those of `messages_come_before`
-
-abbrev pub NextIsAfter : Type 0
-NextIsAfter = (home shards shard : ℕ) (log : List GateEntry) → home < 8 → IsGateLog home shards log → (message : Message) → Contains (channel_of shard log) message → IsTrue (stamp_before message.stamp (next_stamp home (clock_of home log)))
-
-abbrev pub FlightIsAfter : Type 0
-FlightIsAfter = (home shards shard : ℕ) (log : List GateEntry) → home < 8 → IsGateLog home shards log → (flight : Begun) → flight_of log ≡ Some flight → (message : Message) → Contains (channel_of shard log) message → IsTrue (stamp_before message.stamp flight.stamp)
-
 -- what is read of a channel is what was sent there
-pub read_sent : (channels : List (Channel Message)) (shard : ℕ) (channel : Channel Message) → shard < length channels → channel ≡ get_or channels shard channel → channel.sent ≡ sent_at shard channels
+pub read_sent : (channels : List (Channel Place)) (shard : ℕ) (channel : Channel Place) → shard < length channels → channel ≡ get_or channels shard channel → channel.sent ≡ sent_at shard channels
 read_sent channels shard channel within is = ap sent_on (sym (slice_get-get_or channels shard channel within ∙ ap Some (sym is)))
 
-module _ (home shards : ℕ) (clock : Clock) (flight : Option Flight) (running : List ((ℕ × ℕ) × Clock)) (channels : List (Channel Message)) (log : List GateEntry) (kept : IsReplayOf home shards clock flight running channels log) where
-  -- the channels are those of the log, and beyond the last shard nothing was sent
-  pub sent_is : SendsNoneBeyond → (shard : ℕ) → sent_at shard channels ≡ channel_of shard log
-  sent_is none shard =
+module _ (home shards : ℕ) (clock : Clock) (flight : Option Flight) (running : List ((ℕ × ℕ) × Clock)) (channels : List (Channel Place)) (nops : List Message) (log : List GateEntry) (kept : IsReplayOf home shards clock flight running channels nops log) where
+  -- on each channel there are as many places as the log has messages, and beyond the last shard nothing was sent
+  pub count_is : SendsNoneBeyond → (shard : ℕ) → length (sent_at shard channels) ≡ length (channel_of shard log)
+  count_is none shard =
       elim (cases_lt shard (length channels)) [
         | inl within ↦
-            let d : Channel Message = record { sent = []; spare = 0 } in
+            let d : Channel Place = record { sent = []; spare = 0 } in
             let at = slice_get-get_or channels shard d within in
-            ap sent_on at ∙ kept.channels_are shard (get_or channels shard d) at
+            let one : Channel Place = get_or channels shard d in
+            ap (λ (c : Option (Channel Place)). length (sent_on c)) at ∙ lead-length nops log one.sent (channel_of shard log) (kept.channels_are shard one at)
         | inr beyond ↦
             let long = kept.all_channels in
-            ap sent_on (slice_get_past channels shard beyond) ∙ sym (none home shards shard log kept.rules (omega arith))
+            ap (λ (c : Option (Channel Place)). length (sent_on c)) (slice_get_past channels shard beyond) ∙ ap length (sym (none home shards shard log kept.rules (omega arith)))
       ]
 
   -- the messages that are made are those of the rule
@@ -103,72 +99,92 @@ module _ (home shards : ℕ) (clock : Clock) (flight : Option Flight) (running :
       map_same (made_for channels shards one low ops counts) (message_to shards log (as_begun one) ops counts)
       (λ shard i. record {
         shard = shard;
-        number = length (sent_is none shard i) + 1;
+        number = count_is none shard i + 1;
         message = record { request = Some one.request; stamp = one.stamp; low = low_is i; parts = parts_for shards shard ops counts };
       }) (shards_named shards counts)
   made_is none one low ops (Conflict vertex newer) low_is = refl
   made_is none one low ops (Refused op reason at) low_is = refl
 
-  -- a stamp that is after all that was sent to a shard can go there
-  can_go : (now : List (Channel Message)) (shard : ℕ) (stamp : Stamp) → KeepsSent channels now → HasRoomAt now shard → ((message : Message) → Contains (channel_of shard log) message → IsTrue (stamp_before message.stamp stamp)) → CanGo now shard stamp
-  can_go now shard stamp keeps room later =
-      let was = keeps.each shard room.channel room.at in
-      let sent : room.channel.sent ≡ channel_of shard log = was.2 ∙ kept.channels_are shard was.0 was.1 in
-      record {
-        channel = room.channel;
-        at = room.at;
-        room = room.room;
-        later = λ last at.
-            let stamps : List Stamp = map (λ (message : Message). message.stamp) (channel_of shard log) in
-            let here : slice_get stamps (length stamps - 1) ≡ Some last = subst (λ (ms : List Message). slice_get (map (λ (message : Message). message.stamp) ms) (length (map (λ (message : Message). message.stamp) ms) - 1) ≡ Some last) sent at in
-            let has : Contains stamps last = (length stamps - 1, slice_get_within stamps (length stamps - 1) last here, get_or_from_slice_get stamps (length stamps - 1) last last here) in
-            let message = map_has (λ (message : Message). message.stamp) (channel_of shard log) last has in
-            subst (λ (s : Stamp). IsTrue (stamp_before s stamp)) message.2 (later message.0 message.1);
-      }
-
-  -- the next stamp can go to a shard
-  pub nop_can_go : NextIsAfter → (now : List (Channel Message)) (shard : ℕ) (stamp : Stamp) → KeepsSent channels now → HasRoomAt now shard → stamp ≡ next_stamp home clock → CanGo now shard stamp
-  nop_can_go after now shard stamp keeps room is =
-      can_go now shard stamp keeps room (λ message has.
-      subst (λ (s : Stamp). IsTrue (stamp_before message.stamp s)) (sym (is ∙ ap (next_stamp home) kept.clock_is)) (after home shards shard log kept.home_is kept.rules message has))
-
-  -- the messages of the transaction in flight can go, each to a shard of its own
-  module _ (after : FlightIsAfter) (one : Flight) (flies : flight ≡ Some one) (now : List (Channel Message)) (keeps : KeepsSent channels now) (room : (shard : ℕ) → shard < length channels → HasRoomAt now shard) (ops : List Op) (counts : List Counted) where
-    one_can_go : (shard : ℕ) → shard < shards → CanGo now shard one.stamp
-    one_can_go shard within =
-        let long = kept.all_channels in
-        can_go now shard one.stamp keeps (room shard (omega arith)) (λ message has.
-        after home shards shard log kept.home_is kept.rules (as_begun one) (sym kept.flight_is ∙ ap (option_map as_begun) flies) message has)
-
+  -- the messages of the transaction in flight can go where there is room, each to a shard of its own
+  module _ (one : Flight) (now : List (Channel Place)) (room : (shard : ℕ) → shard < length channels → HasRoomAt now shard) (ops : List Op) (counts : List Counted) where
     all_from : (p : ℕ → Bool) (first count : ℕ) → first + count ≤ shards → CanAllGo now (map (message_to shards log (as_begun one) ops counts) (filter p (range_with_len first count)))
     all_from p first zero within = tt
     all_from p first (suc count) within =
         let make : ℕ → Addressed = message_to shards log (as_begun one) ops counts in
+        let long = kept.all_channels in
         elim (cases_Bool (p first)) [
-          | inl holds ↦ rw holds (one_can_go first (omega arith), filter_map_is make (λ (addressed : Addressed). nat_eq addressed.shard first) (filter p (range_with_len (first + 1) count)) ∙ ap (map make) (picked_below p first (first + 1) count (omega arith)), all_from p (first + 1) count (omega arith))
+          | inl holds ↦ rw holds (room first (omega arith), filter_map_is make (λ (addressed : Addressed). nat_eq addressed.shard first) (filter p (range_with_len (first + 1) count)) ∙ ap (map make) (picked_below p first (first + 1) count (omega arith)), all_from p (first + 1) count (omega arith))
           | inr fails ↦ rw fails (all_from p (first + 1) count (omega arith))
         ]
 
-  pub all_can_go : FlightIsAfter → (one : Flight) → flight ≡ Some one → (now : List (Channel Message)) → KeepsSent channels now → ((shard : ℕ) → shard < length channels → HasRoomAt now shard) → (ops : List Op) (verdict : Verdict) → CanAllGo now (messages_of shards log (as_begun one) ops verdict)
-  all_can_go after one flies now keeps room ops (Committed number answers counts) = all_from after one flies now keeps room ops counts (λ shard. list_any (keeps_of shards shard) counts) 0 shards (omega arith)
-  all_can_go after one flies now keeps room ops (Conflict vertex newer) = tt
-  all_can_go after one flies now keeps room ops (Refused op reason at) = tt
+  pub all_can_go : (one : Flight) (now : List (Channel Place)) → ((shard : ℕ) → shard < length channels → HasRoomAt now shard) → (ops : List Op) (verdict : Verdict) → CanAllGo now (messages_of shards log (as_begun one) ops verdict)
+  all_can_go one now room ops (Committed number answers counts) = all_from one now room ops counts (λ shard. list_any (keeps_of shards shard) counts) 0 shards (omega arith)
+  all_can_go one now room ops (Conflict vertex newer) = tt
+  all_can_go one now room ops (Refused op reason at) = tt
 
-  -- what stands on the channels then
-  pub sent_then : (now next : List (Channel Message)) (messages : List Addressed) → KeepsSent channels now → AreSent now next messages → (shard : ℕ) (channel : Channel Message) → slice_get next shard ≡ Some channel → channel.sent ≡ channel_of shard log ++ map (λ (addressed : Addressed). addressed.message) (to_shard shard messages)
-  sent_then now next messages keeps sent shard channel at =
+  -- where the places on a channel lead once there is one more entry
+  lead_longer : (entry : GateEntry) (shard : ℕ) (channel : Channel Place) → slice_get channels shard ≡ Some channel → LeadTo nops (log ++ entry ∷ []) channel.sent (channel_of shard log)
+  lead_longer entry shard channel at =
+      subst (λ (ns : List Message). LeadTo ns (log ++ entry ∷ []) channel.sent (channel_of shard log)) (append-nil nops)
+      (lead-still nops [] log (entry ∷ []) channel.sent (channel_of shard log) (kept.channels_are shard channel at))
+
+  -- where they lead once the entry with these messages is in the log
+  pub sent_then : (now next : List (Channel Place)) (author request : ℕ) (messages : List Addressed) → KeepsSent channels now → AreSent now next (length log) messages → (shard : ℕ) (channel : Channel Place) → slice_get next shard ≡ Some channel → LeadTo nops (log ++ record { author = author; deed = Sent request messages } ∷ []) channel.sent (channel_of shard log ++ map (λ (addressed : Addressed). addressed.message) (to_shard shard messages))
+  sent_then now next author request messages keeps sent shard channel at =
+      let entry : GateEntry = record { author = author; deed = Sent request messages } in
+      let longer : List GateEntry = log ++ entry ∷ [] in
       let b = sent.each shard channel at in
       let a = keeps.each shard b.0 b.1 in
-      b.2 ∙ ap (λ ms. ms ++ map (λ (addressed : Addressed). addressed.message) (to_shard shard messages)) (a.2 ∙ kept.channels_are shard a.0 a.1)
+      let still = lead_longer entry shard a.0 a.1 in
+      let places_are : channel.sent ≡ a.0.sent ++ places_to shard (length log) 0 messages = b.2 ∙ ap (λ ps. ps ++ places_to shard (length log) 0 messages) a.2 in
+      subst (λ (ps : List Place). LeadTo nops longer ps (channel_of shard log ++ map (λ (addressed : Addressed). addressed.message) (to_shard shard messages))) (sym places_are)
+      (lead-append nops longer a.0.sent (places_to shard (length log) 0 messages) (channel_of shard log) (map (λ (addressed : Addressed). addressed.message) (to_shard shard messages)) still (lead-sent nops log author request messages shard))
 
-  pub all_then : (now next : List (Channel Message)) (messages : List Addressed) → KeepsSent channels now → AreSent now next messages → length next ≡ shards
+  pub all_then : (now next : List (Channel Place)) (messages : List Addressed) → KeepsSent channels now → AreSent now next (length log) messages → length next ≡ shards
   all_then now next messages keeps sent = sent.count ∙ keeps.count ∙ kept.all_channels
 
+  -- and once a nop is in the log and its message in the list
+  nop_leads : (now next : List (Channel Place)) (author target number : ℕ) (stamp : Stamp) (low : Clock) → KeepsSent channels now → IsSentOn now next target (record { entry = length log; at = length nops }) → (shard : ℕ) (channel : Channel Place) → slice_get next shard ≡ Some channel → LeadTo (nops ++ nop_message stamp low ∷ []) (log ++ record { author = author; deed = Nop target number stamp low } ∷ []) channel.sent (channel_of shard log ++ map (λ (addressed : Addressed). addressed.message) (to_shard shard (record { shard = target; number = number; message = nop_message stamp low } ∷ [])))
+  nop_leads now next author target number stamp low keeps sent shard channel at =
+      let entry : GateEntry = record { author = author; deed = Nop target number stamp low } in
+      let longer : List GateEntry = log ++ entry ∷ [] in
+      let more : List Message = nops ++ nop_message stamp low ∷ [] in
+      let place : Place = record { entry = length log; at = length nops } in
+      elim (cases_eq shard target) [
+        | inl same ↦
+            let within = slice_get_within next shard channel at in
+            let count = sent.count in
+            let d : Channel Place = get_or now target channel in
+            let there : slice_get now target ≡ Some d = slice_get-get_or now target channel (omega arith) in
+            let found = sent.here d there in
+            let here : found.0 ≡ channel = some_is (sym found.1 ∙ ap (λ n. slice_get next n) (sym same) ∙ at) in
+            let a = keeps.each shard d (ap (λ n. slice_get now n) same ∙ there) in
+            let places_are : channel.sent ≡ a.0.sent ++ place ∷ [] = ap (λ (c : Channel Place). c.sent) (sym here) ∙ found.2 ∙ ap (λ ps. ps ++ place ∷ []) a.2 in
+            let still = lead-still nops (nop_message stamp low ∷ []) log (entry ∷ []) a.0.sent (channel_of shard log) (kept.channels_are shard a.0 a.1) in
+            rw (eq-eqb target shard (sym same))
+            (subst (λ (ps : List Place). LeadTo more longer ps (channel_of shard log ++ nop_message stamp low ∷ [])) (sym places_are)
+            (lead-append more longer a.0.sent (place ∷ []) (channel_of shard log) (nop_message stamp low ∷ []) still (lead-nop nops log entry target number stamp low (nop_message stamp low) refl)))
+        | inr other ↦
+            let a = keeps.each shard channel (sym (sent.others shard other) ∙ at) in
+            let still = lead-still nops (nop_message stamp low ∷ []) log (entry ∷ []) a.0.sent (channel_of shard log) (kept.channels_are shard a.0 a.1) in
+            let moved = subst (λ (ps : List Place). LeadTo more longer ps (channel_of shard log)) (sym a.2) still in
+            elim (cases_Bool (nat_eq target shard)) [
+              | inl is ↦ absurd (other (sym (eqb-true target shard is)))
+              | inr differ ↦ rw differ (subst (LeadTo more longer channel.sent) (sym (append-nil (channel_of shard log))) moved)
+            ]
+      ]
+
+  pub nop_then : (now next : List (Channel Place)) (author target number : ℕ) (stamp : Stamp) (low : Clock) (empty : List Message) → empty ≡ nops ++ nop_message stamp low ∷ [] → KeepsSent channels now → IsSentOn now next target (record { entry = length log; at = length nops }) → (shard : ℕ) (channel : Channel Place) → slice_get next shard ≡ Some channel → LeadTo empty (log ++ record { author = author; deed = Nop target number stamp low } ∷ []) channel.sent (channel_of shard log ++ map (λ (addressed : Addressed). addressed.message) (to_shard shard (record { shard = target; number = number; message = nop_message stamp low } ∷ [])))
+  nop_then now next author target number stamp low empty is keeps sent shard channel at =
+      subst (λ (ns : List Message). LeadTo ns (log ++ record { author = author; deed = Nop target number stamp low } ∷ []) channel.sent (channel_of shard log ++ map (λ (addressed : Addressed). addressed.message) (to_shard shard (record { shard = target; number = number; message = nop_message stamp low } ∷ [])))) (sym is)
+      (nop_leads now next author target number stamp low keeps sent shard channel at)
+
   -- the number that a channel gives is the next one
-  pub number_told : (now : List (Channel Message)) (shard : ℕ) → KeepsSent channels now → HasRoomAt now shard → length (sent_at shard now) + 1 ≡ next_number shard log
+  pub number_told : (now : List (Channel Place)) (shard : ℕ) → KeepsSent channels now → HasRoomAt now shard → length (sent_at shard now) + 1 ≡ next_number shard log
   number_told now shard keeps room =
       let was = keeps.each shard room.channel room.at in
-      ap (λ (c : Option (Channel Message)). length (sent_on c) + 1) room.at ∙ ap (λ ms. length ms + 1) (was.2 ∙ kept.channels_are shard was.0 was.1)
+      ap (λ (c : Option (Channel Place)). length (sent_on c) + 1) room.at ∙ ap (λ ps. length ps + 1) was.2
+      ∙ ap (λ n. n + 1) (lead-length nops log was.0.sent (channel_of shard log) (kept.channels_are shard was.0 was.1))
 
   -- the transaction in flight is that of the log
   pub flight_told : (one : Flight) → flight ≡ Some one → flight_of log ≡ Some (as_begun one)

@@ -15,8 +15,10 @@ use Rattle.weave_entries.specs.GateReplay.{Begun, clock_of, stamps_of, flight_of
 use Rattle.weave_entries.specs.GateRules.{IsGateLog}
 use Rattle.shard_queue.specs.Sent.{Channel}
 use Rattle.gatekeeper.specs.Opened.{as_begun}
+use Rattle.gatekeeper.specs.Places.{LeadTo}
 use Rattle.gatekeeper.specs.Running.{HoldsPrograms}
 use Rattle.gatekeeper.specs.declared.begun.Flight.{Flight}
+use Rattle.gatekeeper.specs.declared.places.Place.{Place}
 
 -- whose gatekeeper it is, of how many gatekeepers and for how many shards, its log, and for how many more entries there is room
 pub record GateView : Type 0 where
@@ -60,13 +62,13 @@ pub record HasRoom (old new : GateView) (entries : ℕ) : Type 0 where
 abbrev pub HaveBits : List Stamp → Type 0
 HaveBits stamps = (stamp : Stamp) → Contains stamps stamp → IsTrue (has_64_bits stamp.clock)
 
--- the fields are what the replay of the log gives
-pub record IsReplayOf (home shards : ℕ) (clock : Clock) (flight : Option Flight) (running : List ((ℕ × ℕ) × Clock)) (channels : List (Channel Message)) (log : List GateEntry) : Type 0 where
+-- the fields are what the replay of the log gives; the channels lead to the messages, in the log or among those of the nops
+pub record IsReplayOf (home shards : ℕ) (clock : Clock) (flight : Option Flight) (running : List ((ℕ × ℕ) × Clock)) (channels : List (Channel Place)) (nops : List Message) (log : List GateEntry) : Type 0 where
   pub clock_is : clock ≡ clock_of home log
   pub flight_is : option_map as_begun flight ≡ flight_of log
   pub running_is : HoldsPrograms running (running_of log)
   pub all_channels : length channels ≡ shards
-  pub channels_are : (shard : ℕ) (channel : Channel Message) → slice_get channels shard ≡ Some channel → channel.sent ≡ channel_of shard log
+  pub channels_are : (shard : ℕ) (channel : Channel Place) → slice_get channels shard ≡ Some channel → LeadTo nops log channel.sent (channel_of shard log)
   pub home_is : home < 8
   pub some_shard : 1 ≤ shards
   pub rules : IsGateLog home shards log

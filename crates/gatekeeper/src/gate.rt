@@ -14,16 +14,16 @@ ghost use Rattle.gatekeeper.specs.Gates.{Adds, IsNew, HasRoom, SendsFlight, Have
 
 use crate::begun::{Flight, begin, hear};
 use crate::fault::GateFault;
+use crate::places::{Place, Places, find_message};
 use crate::running::{Programs, end, is_running, low_mark, start};
 use crate::sending::{empty_channels, make_all_room, make_room, messages_of, send_all, send_one};
 use graph_ops::Op;
-use shard_queue::Outbox;
 use std::alloc::{AllocError, Global};
 use std::marker::Model;
 use vector_stamp::laws::hearing_brings_order;
 use vector_stamp::{Clock, Stamp};
-use weave_data::{Copied, Items};
-use weave_entries::laws::{channels_rise, counts_are_few, messages_come_before, stamps_rise};
+use weave_data::Items;
+use weave_entries::laws::{channels_rise, counts_are_few, stamps_rise};
 use weave_entries::{GateDeed, GateEntry, Message, Verdict};
 
 /// A gatekeeper. Contracts see whose it is, of how many gatekeepers and for how many shards, its log, and `spare`: for how many more entries there is room.
@@ -35,7 +35,10 @@ pub struct Gate {
     clock: Clock,
     flight: Option<Flight>,
     running: Programs,
-    channels: Vec<Outbox<Message>>,
+    // Where the messages are that were sent to each shard.
+    channels: Vec<Places>,
+    // The messages of the nops: the log has no others that are empty.
+    nops: Vec<Message>,
     log: Vec<GateEntry>,
 }
 
@@ -54,7 +57,7 @@ impl Model for Gate {
     } };
 
     ghost invariant = { λ g.
-        IsReplayOf g.home g.shards g.clock g.flight g.running.entries g.channels.items g.log.items };
+        IsReplayOf g.home g.shards g.clock g.flight g.running.entries g.channels.items g.nops.items g.log.items };
 }
 
 impl Gate {
@@ -74,6 +77,7 @@ impl Gate {
             flight: None,
             running: Programs::new(alloc),
             channels: empty_channels(alloc, shards)?,
+            nops: Vec::new(alloc),
             log: Vec::new(alloc),
         })
     }
@@ -184,7 +188,6 @@ impl Gate {
         ensures refused { OnErr result (self.new ≡ self.old) }
     {
         channels_rise();
-        messages_come_before();
         let Some(flight) = self.flight else {
             return Err(GateFault::Idle);
         };
@@ -199,14 +202,13 @@ impl Gate {
             verdict,
         )?;
         let messages = Items::from_vec(made);
-        let copies = messages.copy(alloc)?;
-        make_all_room(&mut self.channels, alloc)?;
+        make_all_room(&mut self.channels)?;
         self.log.reserve(1)?;
-        send_all(&mut self.channels, alloc, messages.into_vec());
+        send_all(&mut self.channels, self.log.len(), messages.as_slice());
         self.flight = None;
         let sent = GateDeed::Sent {
             request: flight.request,
-            messages: copies,
+            messages,
         };
         add(&mut self.log, author, sent);
         Ok(())
@@ -223,12 +225,12 @@ impl Gate {
         ensures refused { OnErr result (self.new ≡ self.old) }
     {
         counts_are_few();
-        messages_come_before();
         let busy = self.flight.is_some();
         if busy {
             return Err(GateFault::Busy);
         }
-        make_room(&mut self.channels, alloc, shard)?;
+        make_room(&mut self.channels, shard)?;
+        self.nops.reserve(1)?;
         self.log.reserve(1)?;
         let stamp = self.clock.tick(self.home);
         stamp.clock.shows_64_bits();
@@ -239,7 +241,12 @@ impl Gate {
             low,
             parts: Items::new(alloc),
         };
-        let number = send_one(&mut self.channels, alloc, shard, message);
+        let place = Place {
+            entry: self.log.len(),
+            at: self.nops.len(),
+        };
+        let number = send_one(&mut self.channels, shard, place);
+        put(&mut self.nops, message);
         let deed = GateDeed::Nop {
             shard,
             number,
@@ -291,7 +298,7 @@ impl Gate {
         let Some(channel) = self.channels.get(shard as usize) else {
             return None;
         };
-        channel.get(number)
+        find_message(channel, number, self.log.as_slice(), self.nops.as_slice())
     }
 
     /// The transaction in flight, if there is one.

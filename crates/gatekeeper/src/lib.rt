@@ -8,6 +8,7 @@ mod fault;
 mod gate;
 pub mod laws;
 mod parts;
+mod places;
 mod running;
 mod sending;
 #[cfg(test)]

@@ -100,7 +100,7 @@ fn parts_of_all(
 fn empty_shares(alloc: Global, shards: u32) -> Result<Vec<Items<Part>>, AllocError>
     ensures { IfOk result (λ shares. shares.items ≡ map (λ _. []) (range_with_len 0 shards)) }
 {
-    let mut shares = Vec::new(alloc);
+    let mut shares = Vec::with_capacity(alloc, shards as usize)?;
     for _shard in 0..shards {
         shares.push(Items::new(alloc))?;
     }

@@ -1,26 +1,27 @@
 //! The channels of a gatekeeper, and what is sent on them.
-ghost use Rattle.std.specs.Prelude.{◌≡◌, ℕ, ◌≤◌, ◌<◌, ◌+◌, ◌^◌, [], All, length, slice_get, map, IfOk, OnOk, vec_len};
+ghost use Rattle.std.specs.Prelude.{◌≡◌, ℕ, ◌≤◌, ◌<◌, ◌+◌, ◌^◌, [], All, length, slice_get, map, count_by, IfOk, OnOk, vec_len};
 ghost use Rattle.graph_ops.specs.Mentions.{named_by};
 ghost use Rattle.weave_entries.specs.Sending.{shards_named, IsCountsOf};
 ghost use Rattle.weave_entries.specs.declared.verdict.Counted.{Counted};
-ghost use Rattle.gatekeeper.specs.Messages.{made_for, with_parted, messages_made, CanGo, CanAllGo, HasRoomAt, KeepsSent, IsSentOn, AreSent, sent_at};
+ghost use Rattle.gatekeeper.specs.Messages.{made_for, with_parted, has_parts, messages_made, CanAllGo, HasRoomAt, KeepsSent, IsSentOn, AreSent, sent_at};
 
 use crate::begun::Flight;
 use crate::parts::parts_by_shard;
-use graph_ops::Op;
-use shard_queue::Outbox;
+use crate::places::{Place, Places};
+use graph_ops::{Op, Part};
 use std::alloc::{AllocError, Global};
 use vector_stamp::Clock;
+use weave_data::Items;
 use weave_entries::{Addressed, Counted, Message, Verdict};
 
 /// A channel to each shard, on which nothing was sent yet.
-pub fn empty_channels(alloc: Global, shards: u32) -> Result<Vec<Outbox<Message>>, AllocError>
+pub fn empty_channels(alloc: Global, shards: u32) -> Result<Vec<Places>, AllocError>
     ensures count { IfOk result (λ channels. vec_len channels ≡ shards) }
     ensures empty { IfOk result (λ channels. All (λ channel. channel.sent ≡ []) channels.items) }
 {
-    let mut channels = Vec::new(alloc);
+    let mut channels = Vec::with_capacity(alloc, shards as usize)?;
     for _shard in 0..shards {
-        channels.push(Outbox::new(alloc))?;
+        channels.push(Places::new(alloc))?;
     }
     Ok(channels)
 }
@@ -28,7 +29,7 @@ pub fn empty_channels(alloc: Global, shards: u32) -> Result<Vec<Outbox<Message>>
 /// The messages of a transaction by its verdict: of a commit one to each shard that keeps a named vertex, otherwise none. The one error is out of memory.
 pub fn messages_of(
     alloc: Global,
-    channels: &[Outbox<Message>],
+    channels: &[Places],
     shards: u32,
     flight: &Flight,
     low: Clock,
@@ -57,7 +58,7 @@ pub fn messages_of(
 
 fn commit_messages(
     alloc: Global,
-    channels: &[Outbox<Message>],
+    channels: &[Places],
     shards: u32,
     flight: &Flight,
     low: Clock,
@@ -71,7 +72,7 @@ fn commit_messages(
         ≡ map (made_for channels.now shards flight.now low ops.now counts.now) (shards_named shards counts.now)) }
 {
     let shares = parts_by_shard(alloc, shards, ops, counts)?;
-    let mut messages = Vec::new(alloc);
+    let mut messages = Vec::with_capacity(alloc, count_with_parts(shares.as_slice()))?;
     for (shard, parts) in shares.into_iter().enumerate() {
         let channel = &channels[shard];
         let number = channel.count() + 1;
@@ -91,6 +92,19 @@ fn commit_messages(
     Ok(messages)
 }
 
+// How many of the shards have a part.
+fn count_with_parts(shares: &[Items<Part>]) -> usize
+    ensures { result ≡ count_by has_parts shares.now }
+{
+    let mut count = 0;
+    for parts in shares {
+        if !parts.as_slice().is_empty() {
+            count += 1;
+        }
+    }
+    count
+}
+
 // Adds the message, unless it has no part.
 fn add_message(messages: &mut Vec<Addressed>, addressed: Addressed) -> Result<(), AllocError>
     ensures { OnOk result (messages.new.items ≡ with_parted addressed addressed.message.parts messages.old.items) }
@@ -102,57 +116,45 @@ fn add_message(messages: &mut Vec<Addressed>, addressed: Addressed) -> Result<()
 }
 
 /// Takes the room for one more message to a shard. What was sent stays. The one error is out of memory.
-pub fn make_room(
-    channels: &mut Vec<Outbox<Message>>,
-    alloc: Global,
-    shard: u32,
-) -> Result<(), AllocError>
+pub fn make_room(channels: &mut Vec<Places>, shard: u32) -> Result<(), AllocError>
     requires { shard < vec_len channels.old }
     ensures kept { KeepsSent channels.old.items channels.new.items }
     ensures room { OnOk result (HasRoomAt channels.new.items shard) }
 {
     let channel = &mut channels[shard as usize];
-    channel.reserve(alloc)?;
+    channel.reserve()?;
     Ok(())
 }
 
 /// Takes the room for one more message to each shard. What was sent stays. The one error is out of memory.
-pub fn make_all_room(channels: &mut Vec<Outbox<Message>>, alloc: Global) -> Result<(), AllocError>
+pub fn make_all_room(channels: &mut Vec<Places>) -> Result<(), AllocError>
     requires { vec_len channels.old < 2 ^ 32 }
     ensures kept { KeepsSent channels.old.items channels.new.items }
     ensures room { OnOk result ((shard : ℕ) → shard < vec_len channels.old → HasRoomAt channels.new.items shard) }
 {
     for shard in 0..channels.len() as u32 {
-        make_room(channels, alloc, shard)?;
+        make_room(channels, shard)?;
     }
     Ok(())
 }
 
-/// Sends a message to a shard whose channel has room for it, and answers its number.
-pub fn send_one(
-    channels: &mut Vec<Outbox<Message>>,
-    alloc: Global,
-    shard: u32,
-    message: Message,
-) -> u64
-    requires { CanGo channels.old.items shard message.stamp }
+/// Adds the place of a message to the channel of its shard, which has room for it, and answers its number.
+pub fn send_one(channels: &mut Vec<Places>, shard: u32, place: Place) -> u64
+    requires { HasRoomAt channels.old.items shard }
     ensures number { result ≡ length (sent_at shard channels.old.items) + 1 }
-    ensures sent { IsSentOn channels.old.items channels.new.items shard message }
+    ensures sent { IsSentOn channels.old.items channels.new.items shard place }
 {
     let channel = &mut channels[shard as usize];
-    match channel.push(alloc, message) {
-        Ok(number) => number,
-        Err(_) => unreachable!(),
-    }
+    channel.push(place)
 }
 
-/// Sends messages to shards of their own, whose channels have room for them.
-pub fn send_all(channels: &mut Vec<Outbox<Message>>, alloc: Global, messages: Vec<Addressed>)
-    requires { CanAllGo channels.old.items messages.items }
-    ensures { AreSent channels.old.items channels.new.items messages.items }
+/// Adds the places of the messages of an entry to the channels of their shards, which have room for them. Each message has a shard of its own.
+pub fn send_all(channels: &mut Vec<Places>, entry: usize, messages: &[Addressed])
+    requires { CanAllGo channels.old.items messages.now }
+    ensures { AreSent channels.old.items channels.new.items entry messages.now }
 {
-    for one in messages {
-        let Addressed { shard, message, .. } = one;
-        send_one(channels, alloc, shard, message);
+    for at in 0..messages.len() {
+        let one = &messages[at];
+        send_one(channels, one.shard, Place { entry, at });
     }
 }

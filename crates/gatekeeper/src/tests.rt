@@ -167,7 +167,9 @@ fn commit(
     request: u32,
     ops: &[Op],
     before: &[u64],
-) -> Result<Stamp, Fail> {
+) -> Result<Stamp, Fail>
+    ensures { OnOk result (gate.new.shards ≡ gate.old.shards) }
+{
     let verdict = Verdict::Committed {
         number: 1,
         answers: Items::new(alloc),
@@ -364,6 +366,43 @@ fn commits_on_two_shards(rt: HostRuntime) -> Result<(), Fail> {
     assert_eq!(rt; begun, stamp(4, 0));
     on_channels(&rt, &gate, wanted.as_slice())?;
     in_log(&rt, &gate, 9, wanted.as_slice())
+}
+
+// The request of a message, the first count of its stamp, and how many parts it has.
+fn fetched_from(gate: &Gate, shard: u32, number: u64) -> Option<(Option<u32>, u64, usize)> {
+    let message = gate.fetch(shard, number)?;
+    let parts = message.parts.as_slice().len();
+    Some((message.request, message.stamp.clock.counts[0], parts))
+}
+
+// These messages are on a channel, numbered from 1, and no others.
+fn on_channel(rt: &impl Abort, gate: &Gate, shard: u32, wanted: &[(Option<u32>, u64, usize)]) {
+    let mut number = 0;
+    assert_eq!(rt; fetched_from(gate, shard, number), None);
+    for one in wanted {
+        number = number.wrapping_add(1);
+        assert_eq!(rt; fetched_from(gate, shard, number), Some(*one), "{number}");
+    }
+    assert_eq!(rt; fetched_from(gate, shard, number.wrapping_add(1)), None);
+}
+
+// Commits and empty messages in turns: each is fetched again under its number.
+#[test]
+fn fetches_what_was_sent(rt: HostRuntime) -> Result<(), Fail> {
+    let alloc = rt.alloc();
+    let ops = ten_operations()?;
+    let mut gate = Gate::new(alloc, 0, 2, 2)?;
+    assert_eq!(rt; gate.nop(alloc, 3, 1)?, 1);
+    commit(alloc, &mut gate, 7, ops.as_slice(), &[0, 0, 0])?;
+    assert_eq!(rt; gate.nop(alloc, 3, 0)?, 2);
+    assert_eq!(rt; gate.nop(alloc, 3, 1)?, 3);
+    commit(alloc, &mut gate, 9, &ops[..1], &[1])?;
+    assert_eq!(rt; gate.nop(alloc, 3, 0)?, 3);
+    let here = [(Some(7), 2, 1), (None, 3, 0), (None, 6, 0)];
+    let there = [(None, 1, 0), (Some(7), 2, 2), (None, 4, 0), (Some(9), 5, 1)];
+    on_channel(&rt, &gate, 0, here.as_slice());
+    on_channel(&rt, &gate, 1, there.as_slice());
+    Ok(())
 }
 
 // A stamp of a gatekeeper: its own count, and one count for all others.

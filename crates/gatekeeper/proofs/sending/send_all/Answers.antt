@@ -1,27 +1,30 @@
-use Rattle.std.proofs.Common.{◌≡◌, ◌∷◌, [], List, length, refl, sym, ap, subst, ◌∙◌, arith}
-use Rattle.std.specs.Vec.Iter.{into_iter_items}
-use Rattle.weave_entries.specs.declared.message.Addressed.{Addressed}
-use Rattle.gatekeeper.specs.Messages.{AreSent}
-use Rattle.gatekeeper.proofs.Delivery.{goes-step, goes-end}
+use Rattle.std.proofs.Common.{◌≡◌, ◌+◌, ◌∷◌, [], drop, sym, ap, subst, ◌∙◌, arith}
+use Rattle.std.proofs.lemmas.List.{drop_more, drop_all}
+use Rattle.gatekeeper.proofs.Delivery.{GoesOn, goes-start, goes-step, goes-end}
 use Rattle.gatekeeper.proofs.sending.send_all.Goals as goal
 
-nothing_left : (messages : List Addressed) → length messages ≡ 0 → messages ≡ []
-nothing_left [] none = refl
-nothing_left (one ∷ rest) none = absurd (omega arith)
+pub loop-at-init : goal.loop-at-init
+loop-at-init c = goes-start _ c.args.entry c.args.messages.now c.requires
 
-pub loop-one-preserved : goal.loop-one-preserved
-loop-one-preserved c =
-    let steps : into_iter_items c.loop-one.one-iterator ≡ c.in-Some.one ∷ into_iter_items c.next.new.self = c.in-Some.ensures.steps.0 in (
-      goes-step _ _ _ _ c.in-Some.one _ (rw steps at c.loop-one.invariant.0) c.send_one.ensures.sent,
-      let was = c.loop-one.invariant.1 in
-          let gone = c.in-Some.ensures.steps.1 in
-          let short = ap length steps in
-          omega arith,
-    )
+pub send_one-requires : goal.send_one-requires
+send_one-requires c =
+    let messages = c.args.messages.now in
+    let at = c.loop-at.at in
+    let one = c.index-messages-at.result in
+    let rest_is : drop at messages ≡ one ∷ drop (at + 1) messages = drop_more messages at one c.loop-at-test.true ∙ ap (λ x. x ∷ drop (at + 1) messages) (sym c.index-messages-at.is) in
+    let goes : GoesOn c.args.channels.now.items c.loop-at.channels.items c.args.entry messages at (one ∷ drop (at + 1) messages) = subst (GoesOn _ _ _ _ _) rest_is c.loop-at.invariant in
+    goes.can.0
+
+pub loop-at-preserved : goal.loop-at-preserved
+loop-at-preserved c =
+    let messages = c.args.messages.now in
+    let at = c.loop-at.at in
+    let one = c.index-messages-at.result in
+    let rest_is : drop at messages ≡ one ∷ drop (at + 1) messages = drop_more messages at one c.loop-at-test.true ∙ ap (λ x. x ∷ drop (at + 1) messages) (sym c.index-messages-at.is) in
+    goes-step _ _ _ _ _ at one _ (subst (GoesOn _ _ _ _ _) rest_is c.loop-at.invariant) c.send_one.ensures.sent
 
 pub returns : goal.returns
 returns c =
-    let none = c.in-None.ensures.steps in
-    let empty : into_iter_items c.loop-one.one-iterator ≡ [] = nothing_left _ (sym c.loop-one.invariant.1 ∙ none.0) in
-    let ended = goes-end _ _ _ (rw empty at c.loop-one.invariant.0) in
-    subst (λ (ms : List Addressed). AreSent c.args.channels.now.items c.loop-one.channels.items ms) c.into_iter-one-iterator.ensures.into_iter_gives.0 ended
+    let messages = c.args.messages.now in
+    let over : drop c.loop-at.at messages ≡ [] = drop_all c.loop-at.at messages (omega (arith, c.loop-at-test.false)) in
+    goes-end _ _ _ _ c.loop-at.at (subst (GoesOn _ _ _ _ _) over c.loop-at.invariant)
