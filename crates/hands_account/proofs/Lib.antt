@@ -1,0 +1,12 @@
+pub mod Places
+pub mod ByHands
+pub mod Once
+pub mod Begins
+pub mod Work
+pub mod InTurn
+pub mod Programs
+pub mod Account
+pub mod LastStamp
+pub mod Needed
+pub mod ShortLogs
+pub mod Example
