@@ -8,7 +8,6 @@ use Rattle.weave_entries.specs.declared.gate_log.GateEntry.{GateEntry}
 use Rattle.weave_entries.specs.declared.oracle_log.OracleDeed.{OracleDeed}
 use Rattle.weave_entries.specs.declared.shard_log.ShardEntry.{ShardEntry}
 use Rattle.weave_entries.specs.declared.store_log.StoreDeed.{StoreDeed}
-use Rattle.weave_account.specs.Account.{shard_log}
 use Rattle.weave_account.specs.GoesOn.{IsBeginningOf}
 use Rattle.seen_logs.specs.Seen.{GatesGoOn, IsWithin}
 use Rattle.chronicle.specs.Logs.{Log}

@@ -4,3 +4,8 @@ pub mod Meeting
 pub mod Starting
 pub mod Entries
 pub mod Crossing
+pub mod Begins
+pub mod Updates
+pub mod Reading
+pub mod Lending
+pub mod Visits

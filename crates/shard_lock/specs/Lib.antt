@@ -2,3 +2,5 @@ pub mod Entries
 pub mod Frames
 pub mod Notes
 pub mod LowerLaws
+pub mod Visited
+pub mod VisitLaws

@@ -1,7 +1,11 @@
 //! What follows from the definitions.
-ghost use Rattle.std.specs.Prelude.{◌≡◌, ◌<◌, ℕ, List, length, map};
+ghost use Rattle.std.specs.Prelude.{◌≡◌, ◌≢◌, ◌<◌, ℕ, List, length, map, Contains};
+ghost use Rattle.vector_stamp.specs.declared.clock.Stamp.{Stamp};
+ghost use Rattle.weave_entries.specs.declared.gate_log.GateDeed.TheVariants.{Finished};
+ghost use Rattle.weave_entries.specs.declared.gate_log.GateEntry.{GateEntry};
 ghost use Rattle.weave_entries.specs.declared.shard_log.ShardDeed.{ShardDeed};
 ghost use Rattle.weave_entries.specs.declared.shard_log.ShardEntry.{ShardEntry};
+ghost use Rattle.weave_entries.specs.GateReplay.{programs_of, running_of};
 ghost use Rattle.shard_node.specs.Shards.{ShardView};
 ghost use Rattle.weave_account.specs.declared.account.Account.{Account};
 ghost use Rattle.weave_account.specs.Account.{gate_log, shard_log};
@@ -31,3 +35,12 @@ pub fn notes_of_whole_logs_are_enough()
 {
     the_crates_below_keep_their_laws();
 }
+
+/// A program that was begun is running, as far as its gatekeeper's log was seen, if its author hasn't finished it. So
+/// only the author's own entries have to be known.
+pub fn own_programs_are_running()
+    ensures { (log : List GateEntry) (author request : ℕ) (stamp : Stamp)
+        → Contains (programs_of log) (record { author = author; request = request; stamp = stamp })
+        → ((entry : GateEntry) → Contains log entry → entry.author ≡ author → entry.deed ≢ Finished request)
+        → Contains (running_of log) (record { author = author; request = request; stamp = stamp }) }
+{}

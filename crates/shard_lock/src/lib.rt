@@ -5,7 +5,7 @@
 //! refers to was seen: in its own log, or by a note (`IsKept`).
 //!
 //! In a hold the notes first `meet` the passes of the other locks. Then each call asks that what the new entry refers
-//! to was seen by the notes.
+//! to was seen by the notes. A visit takes the oracle's lock inside the shard's hold.
 #![tactic(auto)]
 
 mod bare;
@@ -13,6 +13,7 @@ pub mod laws;
 mod lower_laws;
 mod noted;
 mod notes;
+mod visiting;
 
 pub use bare::BareShard;
 pub use noted::NotedShard;

@@ -1,26 +1,40 @@
 //! A shard with its notes.
-ghost use Rattle.std.specs.Prelude.{◌≡◌, ◌+◌, ◌<◌, ◌≤◌, List, [], is_some, IfOk, IfErr, OnOk, OnErr, length, if◌then◌else◌};
+ghost use Rattle.std.specs.Prelude.{◌≡◌, ℕ, ◌+◌, ◌<◌, ◌≤◌, List, [], ◌∷◌, is_some, Contains, IfOk, IfErr, OnOk, OnErr, length, if◌then◌else◌};
+ghost use Rattle.weave_data.specs.Names.{shard_of};
+ghost use Rattle.weave_entries.specs.declared.oracle_log.OracleEntry.{OracleEntry};
 ghost use Rattle.weave_entries.specs.declared.shard_log.ShardEntry.{ShardEntry};
+ghost use Rattle.weave_entries.specs.GateReplay.{running_of};
 ghost use Rattle.weave_entries.specs.ShardReplay.{arrived_at, bound_of, processed_count};
 ghost use Rattle.weave_entries.specs.ShardRules.{IsShardLog, IsTakable};
 ghost use Rattle.shard_node.specs.Shards.{AddsEntry, IsNext, IsRightlyUnapplied};
+ghost use Rattle.weave_account.specs.Account.{gate_log};
 ghost use Rattle.weave_account.specs.GoesOn.{IsBeginningOf};
 ghost use Rattle.seen_logs.specs.References.{ArrivesAsSeen};
-ghost use Rattle.seen_logs.specs.Seen.{AreLegal, IsWithin};
+ghost use Rattle.seen_logs.specs.Seen.{AreLegal, GatesGoOn, IsWithin};
 ghost use Rattle.chronicle.specs.Locks.{lock_of, name_of};
-ghost use Rattle.chronicle.specs.Passes.{IsReady};
+ghost use Rattle.chronicle.specs.Passes.{IsReady, IsNote, number_of, seen, own, noted, lock_noted};
 ghost use Rattle.lock_row.specs.Rows.{names_of, AreReady};
 ghost use Rattle.lock_row.specs.Meetings.{AllMet, HaveMet};
+ghost use Rattle.oracle_lock.specs.Entries.{oracle_entries};
+ghost use Rattle.oracle_lock.specs.Seen.{gates_noted, gates_seen, of_gates, AreGateLogs, OracleIsKept};
 ghost use Rattle.shard_lock.specs.Frames.{shard_frame};
 ghost use Rattle.shard_lock.specs.Notes.{frame_of, seen_of, seen_by_passes, IsKept};
+ghost use Rattle.shard_lock.specs.Visited.{VisitsOver};
 
-use crate::lower_laws::the_crates_below_keep_their_laws;
+use crate::lower_laws::{the_crates_below_keep_their_laws, visits_are_right};
 use crate::notes::ShardNotes;
+use crate::visiting::visit_over;
 use chronicle::{Chronicle, Machine, Pass};
-use shard_node::{ApplyFault, Shard};
+use graph_ops::Record;
+use oracle_lock::NotedOracle;
+use seen_logs::laws::references_go_on;
+use shard_node::{ApplyFault, Shard, VisitFault};
 use shard_queue::Arrival;
 use std::alloc::{AllocError, Global};
 use std::marker::Model;
+use std::sync::Wait;
+use vector_stamp::Stamp;
+use weave_data::Name;
 use weave_entries::{GateDeed, Message, OracleDeed, ShardDeed, StoreDeed};
 
 /// A shard with its notes. All that its log refers to was seen: in that log, or by a note.
@@ -176,6 +190,73 @@ impl NotedShard {
         let applied = self.shard.apply(alloc, author, gate);
         shows_rules(&self.shard);
         applied
+    }
+
+    /// Reads a vertex for a program in this hold, over the oracle in one hold of its lock. The passes have seen what the
+    /// notes have, in which the program is running. Then they have seen all to which the oracle's entries refer. It may
+    /// wait.
+    pub fn visit<R: Wait, G: Machine<Entry = GateDeed>>(
+        &mut self,
+        rt: &R,
+        alloc: Global,
+        gates: &[Chronicle<G>],
+        oracle: &Chronicle<NotedOracle>,
+        passes: &mut [Pass<GateDeed>],
+        pass: &mut Pass<OracleDeed>,
+        request: u32,
+        stamp: Stamp,
+        vertex: Name,
+    ) -> Result<Option<Record>, VisitFault>
+        requires frame { (lock_of oracle.now).frame ≡ (self.old.shards ∷ []) ∷ names_of gates.now }
+        requires note { IsNote (lock_of oracle.now) self.old.notes.oracle }
+        requires pass { IsReady (lock_of oracle.now) pass.old }
+        requires passes { length passes.old ≡ length gates.now }
+        requires all_ready { AreReady gates.now passes.old }
+        requires legal { AreGateLogs self.old.shards (gates_seen passes.old) }
+        requires met { GatesGoOn (of_gates (gates_noted self.old.notes.gates.items)) (of_gates (gates_seen passes.old)) }
+        requires gates { self.old.shard.gates ≡ length gates.now }
+        requires few { length gates.now ≤ 8 }
+        requires kept_here { shard_of vertex self.old.shards ≡ self.old.shard.number }
+        requires running { (home : ℕ) × (by : ℕ)
+            × Contains (running_of (gate_log (seen_of self.old.shard self.old.notes) home))
+            (record { author = by; request = request; stamp = stamp }) }
+        ensures shards { self.new.shards ≡ self.old.shards }
+        ensures frame { frame_of self.new.shard self.new.shards self.new.notes
+            ≡ frame_of self.old.shard self.old.shards self.old.notes }
+        ensures gates { self.new.notes.gates ≡ self.old.notes.gates }
+        ensures store { self.new.notes.store ≡ self.old.notes.store }
+        ensures note { lock_noted self.new.notes.oracle ≡ lock_noted self.old.notes.oracle }
+        ensures one { noted self.new.notes.oracle ≡ seen pass.new }
+        ensures ready { IsReady (lock_of oracle.now) pass.new }
+        ensures number { number_of pass.new ≡ number_of pass.old }
+        ensures passes { length passes.new ≡ length passes.old }
+        ensures all_ready { AreReady gates.now passes.new }
+        ensures passes_on { GatesGoOn (of_gates (gates_seen passes.old)) (of_gates (gates_seen passes.new)) }
+        ensures legal { AreGateLogs self.old.shards (gates_seen passes.new) }
+        ensures oracle_kept { OracleIsKept self.old.shards (gates_seen passes.new) (oracle_entries (seen pass.new)) }
+        ensures answer { (before : List OracleEntry) × VisitsOver (number_of pass.old) request stamp vertex
+            self.old.shard self.new.shard (seen pass.old) (own pass.old) (seen pass.new) before result }
+    {
+        the_crates_below_keep_their_laws();
+        visits_are_right();
+        references_go_on();
+        oracle.meet(pass, &mut self.notes.oracle);
+        let read = visit_over(
+            rt,
+            alloc,
+            &mut self.shard,
+            self.shards,
+            gates,
+            oracle,
+            passes,
+            pass,
+            request,
+            stamp,
+            vertex,
+        );
+        self.notes.oracle = oracle.note(pass);
+        shows_rules(&self.shard);
+        read
     }
 
     /// Drops old versions, as the shard does.
