@@ -1,6 +1,7 @@
 //! A shard with its notes.
 ghost use Rattle.std.specs.Prelude.{◌≡◌, ℕ, ◌+◌, ◌<◌, ◌≤◌, List, [], ◌∷◌, is_some, Contains, IfOk, IfErr, OnOk, OnErr, length, if◌then◌else◌};
 ghost use Rattle.weave_data.specs.Names.{shard_of};
+ghost use Rattle.weave_entries.specs.declared.gate_log.GateDeed.{GateDeed};
 ghost use Rattle.weave_entries.specs.declared.oracle_log.OracleEntry.{OracleEntry};
 ghost use Rattle.weave_entries.specs.declared.shard_log.ShardEntry.{ShardEntry};
 ghost use Rattle.weave_entries.specs.GateReplay.{running_of};
@@ -11,6 +12,7 @@ ghost use Rattle.weave_account.specs.Account.{gate_log};
 ghost use Rattle.weave_account.specs.GoesOn.{IsBeginningOf};
 ghost use Rattle.seen_logs.specs.References.{ArrivesAsSeen};
 ghost use Rattle.seen_logs.specs.Seen.{AreLegal, GatesGoOn, IsWithin};
+ghost use Rattle.chronicle.specs.declared.note.Note.{Note};
 ghost use Rattle.chronicle.specs.Locks.{lock_of, name_of};
 ghost use Rattle.chronicle.specs.Passes.{IsReady, IsNote, number_of, seen, own, noted, lock_noted};
 ghost use Rattle.lock_row.specs.Rows.{names_of, AreReady};
@@ -234,6 +236,8 @@ impl NotedShard {
         ensures passes_on { GatesGoOn (of_gates (gates_seen passes.old)) (of_gates (gates_seen passes.new)) }
         ensures legal { AreGateLogs self.old.shards (gates_seen passes.new) }
         ensures oracle_kept { OracleIsKept self.old.shards (gates_seen passes.new) (oracle_entries (seen pass.new)) }
+        ensures met { (notes : List (Note GateDeed)) × (later : List (Note GateDeed)) × (length notes ≡ length gates.now)
+            × AllMet gates.now passes.old passes.new notes later (length gates.now) }
         ensures answer { (before : List OracleEntry) × VisitsOver (number_of pass.old) request stamp vertex
             self.old.shard self.new.shard (seen pass.old) (own pass.old) (seen pass.new) before result }
     {

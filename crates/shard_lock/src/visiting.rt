@@ -3,6 +3,7 @@ ghost use Rattle.std.specs.Prelude.{◌≡◌, ◌≢◌, ◌≤◌, [], ◌∷�
 ghost use Rattle.weave_data.specs.declared.name.Name.{Name};
 ghost use Rattle.vector_stamp.specs.declared.clock.Stamp.{Stamp};
 ghost use Rattle.vector_stamp.specs.Order.{id_of};
+ghost use Rattle.weave_entries.specs.declared.gate_log.GateDeed.{GateDeed};
 ghost use Rattle.weave_entries.specs.declared.oracle_log.OracleEntry.{OracleEntry};
 ghost use Rattle.weave_entries.specs.OracleReplay.{oracle_entry, pairs_of_log};
 ghost use Rattle.weave_entries.specs.ShardReplay.{first_unready, state_of_updates, updates_of};
@@ -10,9 +11,11 @@ ghost use Rattle.weave_entries.specs.ShardRules.{entries_of_visit, is_judge_aske
 ghost use Rattle.shard_node.specs.Shards.{AddsEntry, IsRightlyUnread};
 ghost use Rattle.weave_account.specs.Account.{IsBegunStamp};
 ghost use Rattle.seen_logs.specs.Seen.{GatesGoOn};
+ghost use Rattle.chronicle.specs.declared.note.Note.{Note};
 ghost use Rattle.chronicle.specs.Locks.{lock_of};
 ghost use Rattle.chronicle.specs.Passes.{IsReady, number_of, seen, own};
 ghost use Rattle.lock_row.specs.Rows.{names_of, AreReady};
+ghost use Rattle.lock_row.specs.Meetings.{AllMet};
 ghost use Rattle.oracle_lock.specs.Entries.{oracle_entries};
 ghost use Rattle.oracle_lock.specs.Seen.{gates_noted, gates_seen, of_gates, AreGateLogs, OracleIsKept};
 ghost use Rattle.shard_lock.specs.Visited.{VisitsOver};
@@ -61,6 +64,8 @@ pub(crate) fn visit_over<R: Wait, G: Machine<Entry = GateDeed>>(
     ensures passes_on { GatesGoOn (of_gates (gates_seen passes.old)) (of_gates (gates_seen passes.new)) }
     ensures legal { AreGateLogs shards (gates_seen passes.new) }
     ensures kept { OracleIsKept shards (gates_seen passes.new) (oracle_entries (seen pass.new)) }
+    ensures met { (notes : List (Note GateDeed)) × (later : List (Note GateDeed)) × (length notes ≡ length gates.now)
+        × AllMet gates.now passes.old passes.new notes later (length gates.now) }
     ensures answer { (before : List OracleEntry) × VisitsOver (number_of pass.old) request stamp vertex
         shard.old shard.new (seen pass.old) (own pass.old) (seen pass.new) before result }
 {

@@ -3,16 +3,18 @@ ghost use Rattle.std.specs.Prelude.{◌≡◌, ◌≢◌, ◌<◌, ◌≤◌, �
 ghost use Rattle.vector_stamp.specs.declared.clock.Stamp.{Stamp};
 ghost use Rattle.vector_stamp.specs.Order.{id_of};
 ghost use Rattle.weave_entries.specs.declared.oracle_log.OracleEntry.{OracleEntry};
-ghost use Rattle.weave_entries.specs.OracleRules.{IsOracleLog};
+ghost use Rattle.weave_entries.specs.declared.gate_log.GateDeed.{GateDeed};
 ghost use Rattle.weave_entries.specs.StoreReplay.{commits_of};
 ghost use Rattle.backing_store.specs.Commits.{stamps_judged, stamps_kept};
 ghost use Rattle.weave_account.specs.Account.{IsBegunStamp};
 ghost use Rattle.seen_logs.specs.Seen.{GatesGoOn};
+ghost use Rattle.chronicle.specs.declared.note.Note.{Note};
 ghost use Rattle.chronicle.specs.Locks.{lock_of};
 ghost use Rattle.chronicle.specs.Passes.{IsReady, number_of, seen, own};
 ghost use Rattle.lock_row.specs.Rows.{names_of, AreReady};
+ghost use Rattle.lock_row.specs.Meetings.{AllMet};
 ghost use Rattle.oracle_lock.specs.Entries.{oracle_entries};
-ghost use Rattle.oracle_lock.specs.Seen.{gates_seen, of_gates, AreGateLogs};
+ghost use Rattle.oracle_lock.specs.Seen.{gates_seen, of_gates, AreGateLogs, OracleIsKept};
 ghost use Rattle.store_lock.specs.Judged.{JudgesOver};
 
 use backing_store::Store;
@@ -57,7 +59,9 @@ pub(crate) fn judge_over<R: Wait, G: Machine<Entry = GateDeed>>(
     ensures all_ready { AreReady gates.now passes.new }
     ensures passes_on { GatesGoOn (of_gates (gates_seen passes.old)) (of_gates (gates_seen passes.new)) }
     ensures legal { AreGateLogs shards (gates_seen passes.new) }
-    ensures right { IsOracleLog (oracle_entries (seen pass.new)) }
+    ensures kept { OracleIsKept shards (gates_seen passes.new) (oracle_entries (seen pass.new)) }
+    ensures met { (notes : List (Note GateDeed)) × (later : List (Note GateDeed)) × (length notes ≡ length gates.now)
+        × AllMet gates.now passes.old passes.new notes later (length gates.now) }
     ensures answer { (before : List OracleEntry) × JudgesOver (number_of pass.old) request stamp ops.now
         store.old store.new (seen pass.old) (own pass.old) (seen pass.new) before result }
 {

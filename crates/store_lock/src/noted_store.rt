@@ -64,16 +64,18 @@ impl NotedStore {
     ghost use Rattle.std.specs.Prelude.{◌≡◌, ◌≢◌, ◌<◌, ◌≤◌, ◌^◌, ℕ, List, [], ◌∷◌, length, map, All, Contains};
     ghost use Rattle.vector_stamp.specs.declared.clock.Stamp.{Stamp};
     ghost use Rattle.vector_stamp.specs.Order.{id_of};
+    ghost use Rattle.weave_entries.specs.declared.gate_log.GateDeed.{GateDeed};
     ghost use Rattle.weave_entries.specs.declared.oracle_log.OracleEntry.{OracleEntry};
     ghost use Rattle.weave_entries.specs.GateReplay.{txs_of};
     ghost use Rattle.backing_store.specs.Commits.{stamps_judged};
     ghost use Rattle.weave_account.specs.Account.{gate_log};
     ghost use Rattle.seen_logs.specs.Seen.{GatesGoOn};
+    ghost use Rattle.chronicle.specs.declared.note.Note.{Note};
     ghost use Rattle.chronicle.specs.Locks.{lock_of};
     ghost use Rattle.chronicle.specs.Passes.{IsReady, IsNote, number_of, seen, own, lock_noted};
     ghost use Rattle.lock_row.specs.Rows.{names_of, AreReady};
     ghost use Rattle.lock_row.specs.Meetings.{AllMet};
-    ghost use Rattle.oracle_lock.specs.Seen.{gates_seen, of_gates, AreGateLogs};
+    ghost use Rattle.oracle_lock.specs.Seen.{gates_seen, of_gates, AreGateLogs, OracleIsKept};
     ghost use Rattle.store_lock.specs.Judged.{JudgesOver};
 
     /// The store with these notes, for the number of shards.
@@ -180,6 +182,9 @@ impl NotedStore {
         ensures all_ready { AreReady gates.now passes.new }
         ensures passes_on { GatesGoOn (of_gates (gates_seen passes.old)) (of_gates (gates_seen passes.new)) }
         ensures legal { AreGateLogs self.old.shards (gates_seen passes.new) }
+        ensures oracle_kept { OracleIsKept self.old.shards (gates_seen passes.new) (oracle_entries (seen pass.new)) }
+        ensures met { (notes : List (Note GateDeed)) × (later : List (Note GateDeed)) × (length notes ≡ length gates.now)
+            × AllMet gates.now passes.old passes.new notes later (length gates.now) }
         ensures answer { (before : List OracleEntry) × JudgesOver (number_of pass.old) request stamp ops.now
             self.old.store self.new.store (seen pass.old) (own pass.old) (seen pass.new) before result }
     {

@@ -1,15 +1,22 @@
-use Rattle.std.proofs.Common.{List, sym, ap, ◌∙◌, subst}
+use Rattle.std.proofs.Common.{◌≡◌, List, [], ◌∷◌, map, sym, ap, ◌∙◌, subst}
 use Rattle.weave_entries.specs.declared.gate_log.GateEntry.{GateEntry}
 use Rattle.weave_entries.specs.declared.oracle_log.OracleEntry.{OracleEntry}
 use Rattle.weave_entries.specs.OracleReplay.{pairs_of_log}
 use Rattle.weave_account.specs.Account.{IsBegunStamp}
-use Rattle.chronicle.specs.Passes.{number_of, own, seen}
+use Rattle.chronicle.specs.Frames.{Frame}
+use Rattle.chronicle.specs.Passes.{lock_noted, number_of, own, seen}
 use Rattle.chronicle.specs.Holds.{log_at_entry, machine_of}
+use Rattle.lock_row.specs.Rows.{names_of}
 use Rattle.oracle_lock.specs.Entries.{oracle_pairs}
 use Rattle.oracle_lock.specs.Seen.{gates_seen, of_gates, OracleView}
+use Rattle.oracle_lock.proofs.Notes.{as_many}
 use Rattle.shard_lock.proofs.Lending.{follows, visited-over}
 use Rattle.shard_lock.proofs.Visits.{stamp-stays}
 use Rattle.shard_lock.proofs.visiting.visit_over.Goals as goal
+
+abbrev rest_of : Frame → Frame
+rest_of [] = []
+rest_of (x ∷ xs) = xs
 
 pub visit_with-read-requires-clause-begun : goal.visit_with-read-requires-clause-begun
 visit_with-read-requires-clause-begun g c = λ event h.
@@ -39,3 +46,11 @@ returns-clause-answer g c =
           c.leave.ensures.seen c.enter-held.ensures.log c.enter-held.ensures.own did.ready did.state did.entry did.logged did.pairs
           did.not_ready did.not_asked did.refused did.unchanged did.oracle,
     )
+
+pub returns-clause-met : goal.returns-clause-met
+returns-clause-met g c =
+    let locks = c.args.gates.now in
+    let notes = c.state-state.result.now.gates in
+    let names : map lock_noted notes ≡ names_of locks = ap (λ (v : OracleView). map lock_noted v.gates) c.state-state.ensures.value
+        ∙ ap rest_of (c.enter-held.ensures.frame ∙ c.requires.frame) in
+    (notes, c.meet.new.self.gates, as_many locks notes names, c.meet.ensures.met)

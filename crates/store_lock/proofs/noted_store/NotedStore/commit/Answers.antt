@@ -40,7 +40,7 @@ invariant_of-self g c =
     (commit-keeps _ author c.args.request c.args.stamp c.args.ops.now c.self.inside.store done.new.store (seen c.meet.new.pass) (own c.meet.new.pass) has
     done.ensures.answer.0 c.verdicts_are_right.ensures c.references_go_on.ensures.store c.self.inside.shards (gates_noted notes)
     (noted c.self.inside.oracle) c.self.invariant c.meet.ensures.note_before begun done.result done.ensures.answer.1 c.log.ensures.right
-    done.ensures.right)
+    done.ensures.kept.legal.oracle_log)
 
 pub returns-clause-answer : goal.returns-clause-answer
 returns-clause-answer g c =
