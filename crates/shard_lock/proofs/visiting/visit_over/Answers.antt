@@ -52,5 +52,5 @@ returns-clause-met g c =
     let locks = c.args.gates.now in
     let notes = c.state-state.result.now.gates in
     let names : map lock_noted notes ≡ names_of locks = ap (λ (v : OracleView). map lock_noted v.gates) c.state-state.ensures.value
-        ∙ ap rest_of (c.enter-held.ensures.frame ∙ c.requires.frame) in
+    ∙ ap rest_of (c.enter-held.ensures.frame ∙ c.requires.frame) in
     (notes, c.meet.new.self.gates, as_many locks notes names, c.meet.ensures.met)
