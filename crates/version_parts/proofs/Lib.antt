@@ -1,0 +1,11 @@
+pub mod AddingUp
+pub mod Counting
+pub mod Cutting
+pub mod KeptLaws
+pub mod OneMore
+pub mod Placing
+pub mod Pushing
+pub mod Splitting
+pub mod Swapping
+pub mod Updating
+pub mod Worked

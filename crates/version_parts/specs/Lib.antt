@@ -1,0 +1,11 @@
+pub mod Counts
+pub mod Cuts
+pub mod KeptValues
+pub mod Ordered
+pub mod Placed
+pub mod Splits
+pub mod States
+pub mod Staying
+pub mod Times
+pub mod Tracks
+pub mod Updates

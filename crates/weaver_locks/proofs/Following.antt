@@ -1,0 +1,343 @@
+-- What a hand began may be judged, and what was judged may be sent.
+use Rattle.std.proofs.Common.{◌≡◌, ◌≢◌, ◌⊎◌, ℕ, ◌<◌, ◌≤◌, ◌==◌, zero, suc, List, [], ◌∷◌, ◌++◌, length, map, get_or, set, AllPairs, Contains, Some, Ok, inl, inr, refl, sym, ap, ◌∙◌, subst, arith, append_assoc, length-append, eq-eqb}
+use Rattle.std.proofs.lemmas.Bool.{cases_lt, eqb-true}
+use Rattle.std.proofs.lemmas.List.{get_or_past, get_or-map, length-map, map-append}
+use Rattle.std.proofs.lemmas.List.Elements.{Contains-append_left, Contains-append_cases, Contains-get_or}
+use Rattle.proof_base.proofs.Members.{cut_at, filter_has, flat_has, has_filter, has_flat, has_head, has_last, has_map, has_none, map_has, only}
+use Rattle.proof_base.proofs.Ordered.{pairs_cases}
+use Rattle.graph_ops.specs.declared.op.Op.{Op}
+use Rattle.vector_stamp.specs.declared.clock.Stamp.{Stamp}
+use Rattle.vector_stamp.specs.Order.{id_of}
+use Rattle.weave_entries.specs.declared.gate_log.GateDeed.{GateDeed}
+use Rattle.weave_entries.specs.declared.gate_log.GateEntry.{GateEntry}
+use Rattle.weave_entries.specs.declared.gate_log.GateDeed.TheVariants.{BeganTx, BeganProgram, Sent, Nop, Heard, Raised, Finished}
+use Rattle.weave_entries.specs.declared.store_log.StoreEntry.{StoreEntry}
+use Rattle.weave_entries.specs.declared.store_log.StoreDeed.{StoreDeed}
+use Rattle.weave_entries.specs.declared.store_log.StoreDeed.TheVariants.{Judged}
+use Rattle.weave_entries.specs.declared.verdict.Verdict.{Verdict}
+use Rattle.weave_entries.specs.GateReplay.{Begun, begun_by, begun_in, flight_of, program_by, tx_by, txs_of}
+use Rattle.weave_entries.specs.GateRules.{IsGateLog}
+use Rattle.weave_entries.specs.StoreReplay.{Judgement, judged_by, judgements_of}
+use Rattle.weave_entries.specs.StoreRule.{stamps_judged}
+use Rattle.weave_account.specs.declared.account.Account.{Account}
+use Rattle.backing_store.specs.Commits.{judged_entry}
+use Rattle.weave_account.specs.Account.{all_begun, gate_log}
+use Rattle.weave_account.specs.Clocks.{IsKnown}
+use Rattle.weave_account.specs.GoesOn.{IsBeginningOf}
+use Rattle.seen_logs.specs.References.{GateRefersAs}
+use Rattle.seen_logs.proofs.Listed.{flat-on, has-on}
+use Rattle.seen_logs.proofs.MakesAccount.{tx-begun}
+use Rattle.seen_logs.specs.Entries.{gate_entries, gate_entry, gate_pair, gate_pairs, store_entry}
+use Rattle.chronicle.specs.Logs.{Log, entries_of}
+use Rattle.chronicle.specs.declared.pass.Pass.{Pass}
+use Rattle.chronicle.specs.Passes.{number_of, own, seen}
+use Rattle.lock_row.proofs.Lists.{one_of}
+use Rattle.weaver_locks.specs.declared.hand.Hand.{Hand}
+use Rattle.weaver_locks.specs.declared.shared.Shared.{Shared}
+use Rattle.weaver_locks.specs.Following.{HasNotBegun, IsInFlight, MayHear, MayJudge}
+use Rattle.weaver_locks.specs.GateHolds.{gate_entry_by, MaySend, WasAtGate}
+use Rattle.weaver_locks.specs.GateLaws.{GateLaws}
+use Rattle.weaver_locks.specs.HandLaws.{HandLaws}
+use Rattle.weaver_locks.specs.Hands.{hand_number, made_by, seen_by, with_gate_entries, IsHand}
+use Rattle.weaver_locks.specs.Locks.{start_of}
+use Rattle.weaver_locks.specs.Onward.{GoesOnWithout}
+use Rattle.weaver_locks.specs.StoreHolds.{JudgesIn}
+use Rattle.weaver_locks.proofs.Adding.{AddsNone, gate_author}
+use Rattle.weaver_locks.proofs.Passing.{gate_none, stays}
+use Rattle.weaver_locks.proofs.Sending.{flight_goes_on}
+
+-- A judgement has the author of its entry
+judged-author : (author : ℕ) (deed : StoreDeed) → (judged_by author deed).author ≡ author
+judged-author author (Judged r stamp ops asked verdict) = refl
+
+-- and a begin the author of its entry
+tx-author : (author : ℕ) (deed : GateDeed) (begun : Begun) → Contains (tx_by author deed) begun → author ≡ begun.author
+tx-author author (BeganTx r stamp) begun h = ap (λ (b : Begun). b.author) (only (record { author = author; request = r; stamp = stamp }) begun h)
+tx-author author (BeganProgram r stamp) begun h = absurd (has_none begun h)
+tx-author author (Sent r messages) begun h = absurd (has_none begun h)
+tx-author author (Nop shard number stamp low) begun h = absurd (has_none begun h)
+tx-author author (Heard clock) begun h = absurd (has_none begun h)
+tx-author author (Raised epoch) begun h = absurd (has_none begun h)
+tx-author author (Finished r) begun h = absurd (has_none begun h)
+
+-- begins have ids of their own
+abbrev pub SeenIds : Type 0
+SeenIds = (shards : ℕ) (seen : Account) → length seen.gates ≤ 8 → ((home : ℕ) → IsGateLog home shards (gate_log seen home))
+    → AllPairs (λ (a b : Begun). id_of a.stamp ≢ id_of b.stamp) (all_begun seen)
+
+-- Own entries
+
+module _ (laws : HandLaws) (shared : Shared) (hand : Hand) (is : IsHand shared hand) where
+  -- an entry with the hand's number that was seen in a gatekeeper's log is one that the hand made
+  pub made-gate : (home : ℕ) (entry : GateEntry) → Contains (gate_log (seen_by hand) home) entry → entry.author ≡ hand_number hand
+      → Contains (gate_log (made_by hand) home) entry
+  made-gate home entry there author_is =
+      let gates = hand.gates.items in
+      let seen_at = laws.at_gate (map seen gates) (seen hand.store) (seen hand.oracle) (map seen hand.shards.items) home in
+      let made_at = laws.at_gate (map own gates) (own hand.store) (own hand.oracle) (map own hand.shards.items) home in
+      elim (cases_lt home (length gates)) [
+        | inl low ↦
+            let p : Pass GateDeed = get_or gates home (one_of gates home low) in
+            let a : get_or (map seen gates) home [] ≡ seen p = get_or-map seen gates home (one_of gates home low) [] low in
+            let b : get_or (map own gates) home [] ≡ own p = get_or-map own gates home (one_of gates home low) [] low in
+            let number : number_of p ≡ hand_number hand = is.gate_numbers home (one_of gates home low) low in
+            let pair = map_has gate_entry (seen p) entry (subst (λ l. Contains l entry) (seen_at ∙ ap gate_entries a) there) in
+            let mine : (pair.0).0 ≡ number_of p = ap (λ (e : GateEntry). e.author) pair.2 ∙ author_is ∙ sym number in
+            let kept = has_filter (λ e. e.0 == number_of p) (seen p) pair.0 pair.1 (eq-eqb (pair.0).0 (number_of p) mine) in
+            let here = subst (Contains (gate_entries (own p))) pair.2 (has_map gate_entry (own p) pair.0 kept) in
+            subst (λ l. Contains l entry) (sym (made_at ∙ ap gate_entries b)) here
+        | inr past ↦
+            let a : get_or (map seen gates) home [] ≡ [] = get_or_past (map seen gates) home [] (omega (arith, length-map gates seen, past)) in
+            absurd (has_none entry (subst (λ l. Contains l entry) (seen_at ∙ ap gate_entries a) there))
+      ]
+
+  -- what the hand made in a gatekeeper's log was seen there, with its number
+  pub seen-gate : (home : ℕ) (entry : GateEntry) → Contains (gate_log (made_by hand) home) entry
+      → Contains (gate_log (seen_by hand) home) entry × (entry.author ≡ hand_number hand)
+  seen-gate home entry there =
+      let gates = hand.gates.items in
+      let seen_at = laws.at_gate (map seen gates) (seen hand.store) (seen hand.oracle) (map seen hand.shards.items) home in
+      let made_at = laws.at_gate (map own gates) (own hand.store) (own hand.oracle) (map own hand.shards.items) home in
+      elim (cases_lt home (length gates)) [
+        | inl low ↦
+            let p : Pass GateDeed = get_or gates home (one_of gates home low) in
+            let a : get_or (map seen gates) home [] ≡ seen p = get_or-map seen gates home (one_of gates home low) [] low in
+            let b : get_or (map own gates) home [] ≡ own p = get_or-map own gates home (one_of gates home low) [] low in
+            let number : number_of p ≡ hand_number hand = is.gate_numbers home (one_of gates home low) low in
+            let pair = map_has gate_entry (own p) entry (subst (λ l. Contains l entry) (made_at ∙ ap gate_entries b) there) in
+            let kept = filter_has (λ e. e.0 == number_of p) (seen p) pair.0 pair.1 in (
+              subst (λ l. Contains l entry) (sym (seen_at ∙ ap gate_entries a))
+                  (subst (Contains (gate_entries (seen p))) pair.2 (has_map gate_entry (seen p) pair.0 kept.0)),
+              sym (ap (λ (e : GateEntry). e.author) pair.2) ∙ eqb-true (pair.0).0 (number_of p) kept.1 ∙ number,
+            )
+        | inr past ↦
+            let a : get_or (map own gates) home [] ≡ [] = get_or_past (map own gates) home [] (omega (arith, length-map gates own, past)) in
+            absurd (has_none entry (subst (λ l. Contains l entry) (made_at ∙ ap gate_entries a) there))
+      ]
+
+  -- a begin that was seen, and for which the hand answers, has a known clock
+  known-begun : (author : ℕ) (deed : GateDeed) (before : List GateEntry) (begun : Begun)
+      → GateRefersAs (seen_by hand) (length shared.shards.items) before author deed → Contains (begun_by author deed) begun
+      → IsKnown (seen_by hand) begun.stamp.clock
+  known-begun author (BeganTx r stamp) before begun refers h =
+      subst (λ (b : Begun). IsKnown (seen_by hand) b.stamp.clock) (only (record { author = author; request = r; stamp = stamp }) begun h) refers
+  known-begun author (BeganProgram r stamp) before begun refers h =
+      subst (λ (b : Begun). IsKnown (seen_by hand) b.stamp.clock) (only (record { author = author; request = r; stamp = stamp }) begun h) refers
+  known-begun author (Sent r messages) before begun refers h = absurd (has_none begun h)
+  known-begun author (Nop shard number stamp low) before begun refers h = absurd (has_none begun h)
+  known-begun author (Heard clock) before begun refers h = absurd (has_none begun h)
+  known-begun author (Raised epoch) before begun refers h = absurd (has_none begun h)
+  known-begun author (Finished r) before begun refers h = absurd (has_none begun h)
+
+  -- so a stamp that may be heard is known
+  pub may-be-heard : (stamp : Stamp) → MayHear shared hand stamp → IsKnown (seen_by hand) stamp.clock
+  may-be-heard stamp may =
+      let log = gate_log (seen_by hand) may.home in
+      subst (λ (s : Stamp). IsKnown (seen_by hand) s.clock) may.stamp_is (elim may.there [
+        | inl own_begun ↦
+            let by = flat_has (λ (e : GateEntry). begun_by e.author e.deed) (gate_log (made_by hand) may.home) may.begun own_begun in
+            let there = seen-gate may.home by.0 by.1 in
+            let cut = cut_at log by.0 there.0 in
+            known-begun (by.0).author (by.0).deed cut.before may.begun
+            (is.seen.gate_entries may.home cut.before by.0 cut.after cut.is (inl there.1)) by.2
+        | inr given ↦
+            let start = gate_log (start_of shared) may.home in
+            let by = flat_has (λ (e : GateEntry). begun_by e.author e.deed) start may.begun given in
+            let cut = cut_at start by.0 by.1 in
+            let on = is.seen.starts.gates may.home in
+            let at = on.1 ∙ ap (λ l. l ++ on.0) cut.is ∙ append_assoc cut.before (by.0 ∷ cut.after) on.0 in
+            let less = ap (λ (l : List GateEntry). length l) cut.is ∙ length-append cut.before (by.0 ∷ cut.after) in
+            known-begun (by.0).author (by.0).deed cut.before may.begun
+            (is.seen.gate_entries may.home cut.before by.0 (cut.after ++ on.0) at (inr (omega (arith, less)))) by.2
+      ])
+
+  -- what the hand made in the store's log was seen there, with its number
+  pub seen-store : (entry : StoreEntry) → Contains (made_by hand).store entry
+      → Contains (seen_by hand).store entry × (entry.author ≡ hand_number hand)
+  seen-store entry there =
+      let pair = map_has store_entry (own hand.store) entry there in
+      let kept = filter_has (λ e. e.0 == hand_number hand) (seen hand.store) pair.0 pair.1 in (
+        subst (Contains (seen_by hand).store) pair.2 (has_map store_entry (seen hand.store) pair.0 kept.0),
+        sym (ap (λ (e : StoreEntry). e.author) pair.2) ∙ eqb-true (pair.0).0 (hand_number hand) kept.1,
+      )
+
+  -- each of its judgements was begun by it
+  pub judged-begun : (entry : StoreEntry) → Contains (made_by hand).store entry → (home : ℕ) × Contains (txs_of (gate_log (seen_by hand) home))
+      (record { author = hand_number hand; request = (judged_by entry.author entry.deed).request; stamp = (judged_by entry.author entry.deed).stamp })
+  judged-begun entry there =
+      let own_entry = seen-store entry there in
+      let cut = cut_at (seen_by hand).store entry own_entry.0 in
+      let refers = is.seen.store_entries cut.before entry cut.after cut.is (inl own_entry.1) in (
+        refers.home,
+        subst (λ n. Contains (txs_of (gate_log (seen_by hand) refers.home))
+            (record { author = n; request = (judged_by entry.author entry.deed).request; stamp = (judged_by entry.author entry.deed).stamp }))
+            (judged-author entry.author entry.deed ∙ own_entry.1) refers.begun,
+      )
+
+  -- there are as many gatekeepers' logs as gatekeepers
+  pub few-gates : length (seen_by hand).gates ≤ 8
+  few-gates =
+      let gates = hand.gates.items in
+      let few = shared.framed.few_gates in
+      omega (arith, length-map (map seen gates) gate_entries, length-map gates seen, is.gates, few)
+
+-- Judging
+
+module _ (laws : HandLaws) (ids : SeenIds) (shared : Shared) (old new : Hand) (is_old : IsHand shared old) (is_new : IsHand shared new)
+    (gate request : ℕ) (stamp : Stamp) (before : List GateEntry) (fresh : HasNotBegun old request)
+    (was : WasAtGate (length shared.shards.items) old new gate before (gate_entry_by old (BeganTx request stamp) ∷ [])) where
+  abbrev began : GateEntry
+  began = gate_entry_by old (BeganTx request stamp)
+
+  abbrev mine : Begun
+  mine = record { author = hand_number new; request = request; stamp = stamp }
+
+  mine-begun : Contains (txs_of (gate_log (seen_by new) gate)) mine
+  mine-begun =
+      let b : Begun = record { author = hand_number old; request = request; stamp = stamp } in
+      subst (λ n. Contains (txs_of (gate_log (seen_by new) gate)) (record { author = n; request = request; stamp = stamp })) (sym was.number)
+      (has_flat (λ (e : GateEntry). tx_by e.author e.deed) (gate_log (seen_by new) gate) began b
+      (subst (λ l. Contains l began) (sym was.left) (has_last before began)) (has_head b []))
+
+  -- what was judged was another request, so its stamp has another id
+  others : (judged : Stamp) → Contains (stamps_judged (made_by new).store) judged → id_of judged ≢ id_of stamp
+  others judged there same =
+      let had = subst (λ l. Contains (stamps_judged l) judged) (ap (λ (a : Account). a.store) was.made) there in
+      let one = map_has (λ (j : Judgement). j.stamp) (judgements_of (made_by old).store) judged had in
+      let entry = map_has (λ (e : StoreEntry). judged_by e.author e.deed) (made_by old).store one.0 one.1 in
+      let home = judged-begun laws shared old is_old entry.0 entry.1 in
+      let other : Begun = record { author = hand_number old; request = (judged_by (entry.0).author (entry.0).deed).request; stamp = (judged_by (entry.0).author (entry.0).deed).stamp } in
+      let log = gate_log (seen_by old) home.0 in
+      let by = flat_has (λ (e : GateEntry). tx_by e.author e.deed) log other home.1 in
+      let made = made-gate laws shared old is_old home.0 by.0 by.1 (tx-author (by.0).author (by.0).deed other by.2) in
+      let differs : other.request ≢ request = fresh home.0 other
+      (has_flat (λ (e : GateEntry). begun_by e.author e.deed) (gate_log (made_by old) home.0) by.0 other made
+      (Contains-append_left (tx_by (by.0).author (by.0).deed) (program_by (by.0).author (by.0).deed) other by.2)) in
+      let on = was.more.gates home.0 in
+      let later = has-on (txs_of log) (txs_of (gate_log (seen_by new) home.0))
+      (flat-on (λ (e : GateEntry). tx_by e.author e.deed) log (gate_log (seen_by new) home.0) on) other home.1 in
+      let stamps : id_of other.stamp ≡ id_of stamp = ap (λ (j : Judgement). id_of j.stamp) entry.2 ∙ ap id_of one.2 ∙ same in
+      elim (pairs_cases (λ (x y : Begun). id_of x.stamp ≢ id_of y.stamp) (all_begun (seen_by new))
+      (ids (length shared.shards.items) (seen_by new) (few-gates laws shared new is_new) is_new.legal.gate_logs) other mine
+      (tx-begun (seen_by new) home.0 other later) (tx-begun (seen_by new) gate mine mine-begun)) [
+        | inl one_begin ↦ differs (ap (λ (b : Begun). b.request) one_begin)
+        | inr (inl differ) ↦ differ stamps
+        | inr (inr differ) ↦ differ (sym stamps)
+      ]
+
+  pub may-judge : MayJudge new request stamp
+  may-judge = record {
+    begun = (gate, mine-begun);
+    new = λ k d low. others (get_or (stamps_judged (made_by new).store) k d) (Contains-get_or (stamps_judged (made_by new).store) k d low);
+  }
+
+  pub in-flight : GateLaws → IsInFlight new gate request stamp
+  in-flight rules =
+      subst (λ n. flight_of (gate_log (seen_by new) gate) ≡ Some (record { author = n; request = request; stamp = stamp })) (sym was.number)
+      (ap flight_of was.left ∙ rules.flight before began)
+
+-- Sending
+
+module _ (laws : HandLaws) (shared : Shared) (old new : Hand) (is_old : IsHand shared old) (is_new : IsHand shared new) (gate : ℕ)
+    (number : hand_number new ≡ hand_number old) (made : (made_by new).gates ≡ (made_by old).gates)
+    (more : IsBeginningOf (gate_log (seen_by old) gate) (gate_log (seen_by new) gate)) where
+  -- the hand made no entry past what it had seen
+  no-own : AddsNone gate_author (hand_number old) (gate_log (seen_by old) gate) (gate_log (seen_by new) gate)
+  no-own = gate_none laws (hand_number old) (map seen old.gates.items) (map seen new.gates.items) (seen old.store) (seen new.store)
+      (seen old.oracle) (seen new.oracle) (map seen old.shards.items) (map seen new.shards.items) gate (goes-on (cases_lt gate (length old.gates.items)))
+    where
+      long : length new.gates.items ≡ length old.gates.items
+      long = is_new.gates ∙ sym is_old.gates
+
+      goes-on : (gate < length old.gates.items) ⊎ (length old.gates.items ≤ gate)
+          → GoesOnWithout (hand_number old) (get_or (map seen old.gates.items) gate []) (get_or (map seen new.gates.items) gate [])
+      goes-on (inr past) =
+          let a : get_or (map seen old.gates.items) gate [] ≡ [] = get_or_past (map seen old.gates.items) gate [] (omega (arith, length-map old.gates.items seen, past)) in
+          let b : get_or (map seen new.gates.items) gate [] ≡ [] = get_or_past (map seen new.gates.items) gate [] (omega (arith, length-map new.gates.items seen, long, past)) in
+          let P : Log GateDeed × Log GateDeed → Type 0 = λ z. GoesOnWithout (hand_number old) z.0 z.1 in
+          subst P (λ i. (sym a i, sym b i)) (stays (hand_number old) [])
+      goes-on (inl low) =
+          let low_now : gate < length new.gates.items = omega (arith, low, long) in
+          let one = one_of old.gates.items gate low in
+          let p : Pass GateDeed = get_or old.gates.items gate one in
+          let q : Pass GateDeed = get_or new.gates.items gate one in
+          let a : get_or (map seen old.gates.items) gate [] ≡ seen p = get_or-map seen old.gates.items gate one [] low in
+          let b : get_or (map seen new.gates.items) gate [] ≡ seen q = get_or-map seen new.gates.items gate one [] low_now in
+          let own_a : get_or (map own old.gates.items) gate [] ≡ own p = get_or-map own old.gates.items gate one [] low in
+          let own_b : get_or (map own new.gates.items) gate [] ≡ own q = get_or-map own new.gates.items gate one [] low_now in
+          let p_is : number_of p ≡ hand_number old = is_old.gate_numbers gate one low in
+          let q_is : number_of q ≡ hand_number old = is_new.gate_numbers gate one low_now ∙ number in
+          let made_old = laws.at_gate (map own old.gates.items) (own old.store) (own old.oracle) (map own old.shards.items) gate ∙ ap gate_entries own_a in
+          let made_new = laws.at_gate (map own new.gates.items) (own new.store) (own new.oracle) (map own new.shards.items) gate ∙ ap gate_entries own_b in
+          let owns : own q ≡ own p = sym (laws.gate_back (own q)) ∙ ap gate_pairs (sym made_new ∙ ap (λ (ls : List (List GateEntry)). get_or ls gate []) made ∙ made_old) ∙ laws.gate_back (own p) in
+          let seen_old = laws.at_gate (map seen old.gates.items) (seen old.store) (seen old.oracle) (map seen old.shards.items) gate ∙ ap gate_entries a in
+          let seen_new = laws.at_gate (map seen new.gates.items) (seen new.store) (seen new.oracle) (map seen new.shards.items) gate ∙ ap gate_entries b in
+          let longer : seen p ++ gate_pairs more.0 ≡ seen q =
+          ap (λ l. l ++ gate_pairs more.0) (sym (laws.gate_back (seen p))) ∙ sym (map-append gate_pair (gate_entries (seen p)) more.0)
+          ∙ ap gate_pairs (ap (λ l. l ++ more.0) (sym seen_old) ∙ sym more.1 ∙ seen_new) ∙ laws.gate_back (seen q) in
+          let P : Log GateDeed × Log GateDeed → Type 0 = λ z. GoesOnWithout (hand_number old) z.0 z.1 in
+          subst P (λ i. (sym a i, sym b i)) (record {
+            own_is = ap (λ n. entries_of n (seen q)) (sym q_is) ∙ owns ∙ ap (λ n. entries_of n (seen p)) p_is;
+            more = (gate_pairs more.0, longer);
+          })
+
+  pub flight-still : GateLaws → (request : ℕ) (stamp : Stamp) → IsInFlight old gate request stamp → IsInFlight new gate request stamp
+  flight-still rules request stamp flies =
+      let log = gate_log (seen_by old) gate in
+      let flight : Begun = record { author = hand_number old; request = request; stamp = stamp } in
+      let legal = subst (IsGateLog gate (length shared.shards.items)) more.1 (is_new.legal.gate_logs gate) in
+      subst (λ n. flight_of (gate_log (seen_by new) gate) ≡ Some (record { author = n; request = request; stamp = stamp })) (sym number)
+      (ap flight_of more.1 ∙ flight_goes_on rules gate (length shared.shards.items) log more.0 flight legal flies
+      (subst (AddsNone gate_author (hand_number old) log) more.1 no-own))
+
+pub may-send : (laws : HandLaws) (rules : GateLaws) (shared : Shared) (old new : Hand) (gate request : ℕ) (stamp : Stamp)
+    (ops : List Op) (verdict : Verdict) → IsHand shared old → IsHand shared new → IsInFlight old gate request stamp
+    → JudgesIn old new request stamp ops (Ok verdict) → MaySend (seen_by new) (hand_number new) gate ops verdict
+may-send laws rules shared old new gate request stamp ops verdict is_old is_new flies judges =
+    let was = judges.was in
+    let entry = judged_entry (hand_number old) request stamp ops judges.before verdict in
+    let there : Contains (seen_by new).store entry = subst (λ l. Contains l entry) (sym was.left) (has_last judges.before entry) in
+    record {
+      flight = record { author = hand_number new; request = request; stamp = stamp };
+      flies = flight-still laws shared old new is_old is_new gate was.number (ap (λ (a : Account). a.gates) was.made) (was.more.gates gate) rules request stamp flies;
+      own = refl;
+      judged = record {
+        judged = judged_by entry.author entry.deed;
+        is_judged = has_map (λ (e : StoreEntry). judged_by e.author e.deed) (seen_by new).store entry there;
+        request_is = refl;
+        stamp_is = refl;
+        ops_are = refl;
+        verdict_is = refl;
+      };
+    }
+
+-- What was not begun
+
+-- what is in a changed list at a place was there, or was put there
+set-has : {A : Type 0} (xss : List (List A)) (place k : ℕ) (ys : List A) (x : A) → Contains (get_or (set xss place ys) k []) x
+    → Contains (get_or xss k []) x ⊎ Contains ys x
+set-has [] place k ys x h = inl h
+set-has (xs ∷ xss) zero zero ys x h = inr h
+set-has (xs ∷ xss) zero (suc k) ys x h = inl h
+set-has (xs ∷ xss) (suc place) zero ys x h = inl h
+set-has (xs ∷ xss) (suc place) (suc k) ys x h = set-has xss place k ys x h
+
+-- a hand that adds no begin of a request has not begun it
+pub stays-new : (old new : Hand) (gate : ℕ) (added : List GateEntry) → made_by new ≡ with_gate_entries gate added (made_by old) → (r : ℕ)
+    → ((entry : GateEntry) (begun : Begun) → Contains added entry → Contains (begun_by entry.author entry.deed) begun → begun.request ≢ r)
+    → HasNotBegun old r → HasNotBegun new r
+stays-new old new gate added made r none fresh home begun h =
+    let had = gate_log (made_by old) gate in
+    let by = flat_has (λ (e : GateEntry). begun_by e.author e.deed) (gate_log (made_by new) home) begun h in
+    elim (set-has (made_by old).gates gate home (had ++ added) by.0 (subst (λ (a : Account). Contains (gate_log a home) by.0) made by.1)) [
+      | inl there ↦ fresh home begun (has_flat (λ (e : GateEntry). begun_by e.author e.deed) (gate_log (made_by old) home) by.0 begun there by.2)
+      | inr here ↦ elim (Contains-append_cases had added by.0 here) [
+        | inl there ↦ fresh gate begun (has_flat (λ (e : GateEntry). begun_by e.author e.deed) had by.0 begun there by.2)
+        | inr one ↦ none by.0 begun one by.2
+      ]
+    ]
+
+-- nor does one that adds nothing to gatekeepers' logs
+pub stays-unbegun : (old new : Hand) → (made_by new).gates ≡ (made_by old).gates → (r : ℕ) → HasNotBegun old r → HasNotBegun new r
+stays-unbegun old new made r fresh home begun h =
+    fresh home begun (subst (λ (ls : List (List GateEntry)). Contains (begun_in (get_or ls home [])) begun) made h)

@@ -1,0 +1,74 @@
+-- What the passes of a hand have seen, as an account.
+use Rattle.std.proofs.Common.{◌≡◌, ◌≢◌, ℕ, zero, suc, List, [], ◌∷◌, ◌++◌, map, get_or, refl, sym, ap, ◌∙◌, subst}
+use Rattle.std.proofs.lemmas.List.{map-append}
+use Rattle.weave_entries.specs.declared.gate_log.GateEntry.{GateEntry}
+use Rattle.weave_entries.specs.declared.gate_log.GateDeed.{GateDeed}
+use Rattle.weave_entries.specs.declared.oracle_log.OracleEntry.{OracleEntry}
+use Rattle.weave_entries.specs.declared.shard_log.ShardEntry.{ShardEntry}
+use Rattle.weave_entries.specs.declared.store_log.StoreEntry.{StoreEntry}
+use Rattle.weave_account.specs.declared.account.Account.{Account}
+use Rattle.weave_account.specs.Account.{gate_log, shard_log}
+use Rattle.weave_account.specs.GoesOn.{IsBeginningOf}
+use Rattle.seen_logs.specs.Entries.{gate_entries, oracle_entries, oracle_pairs, shard_entries, shard_pairs, store_entries, store_pairs}
+use Rattle.seen_logs.specs.Seen.{GatesGoOn}
+use Rattle.chronicle.specs.declared.pass.Pass.{Pass}
+use Rattle.chronicle.specs.Passes.{seen}
+use Rattle.oracle_lock.specs.Seen.{gates_seen}
+use Rattle.shard_lock.specs.Notes.{at_place}
+use Rattle.weaver_locks.specs.declared.hand.Hand.{Hand}
+use Rattle.weaver_locks.specs.Hands.{seen_by}
+use Rattle.weaver_locks.proofs.Rows.{image_or, image_twice, nothing_more}
+
+-- logs of records come back
+pub stores_back : (log : List StoreEntry) → store_entries (store_pairs log) ≡ log
+stores_back [] = refl
+stores_back (entry ∷ log) = ap (λ (l : List StoreEntry). entry ∷ l) (stores_back log)
+
+pub oracles_back : (log : List OracleEntry) → oracle_entries (oracle_pairs log) ≡ log
+oracles_back [] = refl
+oracles_back (entry ∷ log) = ap (λ (l : List OracleEntry). entry ∷ l) (oracles_back log)
+
+pub shards_back : (log : List ShardEntry) → shard_entries (shard_pairs log) ≡ log
+shards_back [] = refl
+shards_back (entry ∷ log) = ap (λ (l : List ShardEntry). entry ∷ l) (shards_back log)
+
+-- the logs of an account of what passes have seen
+pub gate_at : (hand : Hand) (home : ℕ) → gate_log (seen_by hand) home ≡ gate_entries (get_or (map seen hand.gates.items) home [])
+gate_at hand home = image_or gate_entries (map seen hand.gates.items) home [] [] refl
+
+pub shard_at : (hand : Hand) (shard : ℕ) → shard_log (seen_by hand) shard ≡ shard_entries (get_or (map seen hand.shards.items) shard [])
+shard_at hand shard = image_or shard_entries (map seen hand.shards.items) shard [] [] refl
+
+-- the gatekeepers' logs, as the machines of other locks name them
+pub gates_named : (passes : List (Pass GateDeed)) → map gate_entries (map seen passes) ≡ gates_seen passes
+gates_named passes = image_twice seen gate_entries passes
+
+-- accounts with the same logs of gatekeepers go on to each other
+pub same_gates : (one two : Account) → one.gates ≡ two.gates → GatesGoOn one two
+same_gates one two is home =
+    subst (λ (l : List (List GateEntry)). IsBeginningOf (get_or one.gates home []) (get_or l home [])) is (nothing_more (get_or one.gates home []))
+
+-- a shard's log in its place
+pub placed_here : (number : ℕ) (own : List ShardEntry) → get_or (at_place number own) number [] ≡ own
+unfolding at_place
+placed_here zero own = refl
+placed_here (suc number) own = placed_here number own
+
+-- and no log elsewhere
+pub placed_there : (number k : ℕ) (own : List ShardEntry) → k ≢ number → get_or (at_place number own) k [] ≡ []
+unfolding at_place
+placed_there zero zero own other = absurd (other refl)
+placed_there zero (suc k) own other = refl
+placed_there (suc number) zero own other = refl
+placed_there (suc number) (suc k) own other = placed_there number k own (λ e. other (ap suc e))
+
+-- what begins a list begins each that it begins
+pub begins_longer : {A : Type 0} (a b more : List A) → IsBeginningOf a b → IsBeginningOf a (b ++ more)
+begins_longer {A} a b more on = (on.0 ++ more, ap (λ (l : List A). l ++ more) on.1 ∙ sym (joined a on.0 more))
+  where
+    joined : (x y z : List A) → x ++ (y ++ z) ≡ (x ++ y) ++ z
+    joined [] y z = refl
+    joined (e ∷ x) y z = ap (λ (l : List A). e ∷ l) (joined x y z)
+
+pub mapped_more : {A B : Type 0} (f : A → B) (a b : List A) → IsBeginningOf a b → IsBeginningOf (map f a) (map f b)
+mapped_more {A} {B} f a b on = (map f on.0, ap (λ (l : List A). map f l) on.1 ∙ map-append f a on.0)

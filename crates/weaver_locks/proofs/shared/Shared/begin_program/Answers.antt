@@ -1,0 +1,74 @@
+use Rattle.std.proofs.Common.{◌≡◌, ℕ, List, refl, sym, subst}
+use Rattle.std.specs.Prelude.{IfOk}
+use Rattle.vector_stamp.specs.declared.clock.Stamp.{Stamp}
+use Rattle.weave_entries.specs.declared.gate_log.GateDeed.TheVariants.{BeganProgram}
+use Rattle.weave_entries.specs.declared.gate_log.GateEntry.{GateEntry}
+use Rattle.weave_entries.specs.GateReplay.{begun_stamp, clock_of}
+use Rattle.weave_account.specs.Clocks.{IsKnown}
+use Rattle.gate_lock.specs.declared.noted.NotedGate.{NotedGate}
+use Rattle.gate_lock.specs.Notes.{seen_of}
+use Rattle.weaver_locks.specs.GateHolds.{gate_entries_of}
+use Rattle.weaver_locks.proofs.Calling.{as_found, found_as, known_after, known_there, one_more}
+use Rattle.weaver_locks.proofs.shared.Shared.begin_program.Goals as goal
+
+pub begin_program-begun-requires : goal.begin_program-begun-requires
+begin_program-begun-requires g c heard is =
+    subst (λ (n : NotedGate). IsKnown (seen_of n.gate n.notes) heard.clock) (sym c.state.ensures.value)
+    (known_there c.gates_keep_their_laws.ensures c.args.self.now c.args.hand.now c.enter_gate-held.result.machine c.enter_gate-held.ensures.kept
+    c.enter_gate-held.ensures.within heard.clock (c.requires.last heard is))
+
+pub leave_gate-requires-clause-inside : goal.leave_gate-requires-clause-inside
+leave_gate-requires-clause-inside g c =
+    let shared = c.args.self.now in
+    let old = c.args.hand.now in
+    let deed = λ (stamp : Stamp). BeganProgram c.args.request stamp in
+    let begun = c.begin_program-begun in (
+      old,
+      c.enter_gate-held.result.machine.gate.log,
+      gate_entries_of old deed begun.result,
+      c.requires.hand,
+      one_more shared old c.enter_gate-held.new.hand c.args.gate c.enter_gate-held.result _ c.state.result.now refl refl c.state.ensures.value
+          c.enter_gate-held.ensures.inside c.number-author.result deed begun.result c.number-author.ensures begun.ensures.notes begun.ensures.entry
+          begun.ensures.refused,
+    )
+
+pub returns-clause-hand : goal.returns-clause-hand
+returns-clause-hand g c =
+    let shared = c.args.self.now in
+    let old = c.args.hand.now in
+    let deed = λ (stamp : Stamp). BeganProgram c.args.request stamp in
+    let begun = c.begin_program-begun in
+    c.leave_gate.ensures.hand old c.enter_gate-held.result.machine.gate.log (gate_entries_of old deed begun.result) c.requires.hand
+    (one_more shared old c.enter_gate-held.new.hand c.args.gate c.enter_gate-held.result _ c.state.result.now refl refl c.state.ensures.value
+    c.enter_gate-held.ensures.inside c.number-author.result deed begun.result c.number-author.ensures begun.ensures.notes begun.ensures.entry
+    begun.ensures.refused)
+
+pub returns-clause-hold : goal.returns-clause-hold
+returns-clause-hold g c =
+    let shared = c.args.self.now in
+    let old = c.args.hand.now in
+    let deed = λ (stamp : Stamp). BeganProgram c.args.request stamp in
+    let begun = c.begin_program-begun in
+    let before = c.enter_gate-held.result.machine.gate.log in
+    let found = found_as shared old c.enter_gate-held.new.hand c.args.gate c.enter_gate-held.result c.state.result.now c.state.ensures.value
+    c.enter_gate-held.ensures.inside in (
+      before,
+      c.leave_gate.ensures.was old before (gate_entries_of old deed begun.result) c.requires.hand
+          (one_more shared old c.enter_gate-held.new.hand c.args.gate c.enter_gate-held.result _ c.state.result.now refl refl
+          c.state.ensures.value c.enter_gate-held.ensures.inside c.number-author.result deed begun.result c.number-author.ensures
+          begun.ensures.notes begun.ensures.entry begun.ensures.refused),
+      as_found (λ (h : ℕ) (l : List GateEntry). IfOk begun.result (λ (stamp : Stamp). stamp ≡ begun_stamp h (clock_of h l) c.args.last))
+          c.state.result.now c.args.gate _ before found begun.ensures.stamp,
+    )
+
+pub returns-clause-known : goal.returns-clause-known
+returns-clause-known g c =
+    let shared = c.args.self.now in
+    let old = c.args.hand.now in
+    let deed = λ (stamp : Stamp). BeganProgram c.args.request stamp in
+    let begun = c.begin_program-begun in
+    known_after c.leave_gate.new.hand begun.new.self begun.result (λ (stamp : Stamp). stamp.clock)
+    (c.leave_gate.ensures.seen old c.enter_gate-held.result.machine.gate.log (gate_entries_of old deed begun.result) c.requires.hand
+    (one_more shared old c.enter_gate-held.new.hand c.args.gate c.enter_gate-held.result _ c.state.result.now refl refl c.state.ensures.value
+    c.enter_gate-held.ensures.inside c.number-author.result deed begun.result c.number-author.ensures begun.ensures.notes begun.ensures.entry
+    begun.ensures.refused)) begun.ensures.known

@@ -1,0 +1,68 @@
+//! The machines come out of their locks.
+ghost use Rattle.std.specs.Prelude.{◌≡◌, ◌≤◌, ◌<◌, ℕ, length, map, vec_len, All, Contains};
+ghost use Rattle.seen_logs.specs.Closed.{AreOfHands};
+ghost use Rattle.seen_logs.specs.Seen.{AreLegal, VisitsOwnPrograms};
+ghost use Rattle.weaver_locks.specs.Closing.{AreInOrder, entries_by, logs_of, seen_by_number};
+ghost use Rattle.weaver_locks.specs.Hands.{hand_number, made_by, IsHand};
+ghost use Rattle.weaver_locks.specs.Locks.{hands_of, start_of};
+
+use crate::closed_rows::close_row;
+use crate::closing_laws::closed_logs_keep_their_laws;
+use crate::ends::{gates_without_notes, shards_without_notes};
+use crate::hand::Hand;
+use crate::rooms::gather;
+use crate::shared::Shared;
+use backing_store::Store;
+use gatekeeper::Gate;
+use shard_node::Shard;
+use timeline_oracle::Oracle;
+
+/// Machines that were behind locks, in the order in which they were put there.
+#[derive(Drop)]
+pub struct Closed {
+    pub gates: Vec<Gate>,
+    pub store: Store,
+    pub oracle: Oracle,
+    pub shards: Vec<Shard>,
+}
+
+impl Shared {
+    /// Takes the machines out, since these are all the hands. It waits for nobody, and takes no memory.
+    pub fn close(self, hands: Vec<Hand>) -> Closed
+        requires each { All (IsHand self) hands.items }
+        requires all { (number : ℕ) → number < hands_of self → Contains (map hand_number hands.items) number }
+        requires count { vec_len hands ≤ hands_of self }
+        ensures gates { vec_len result.gates ≡ length self.gates.items }
+        ensures shards { vec_len result.shards ≡ length self.shards.items }
+        ensures order { AreInOrder result.gates.items result.shards.items }
+        ensures legal { AreLegal (length self.gates.items) (length self.shards.items)
+            (logs_of result.gates.items result.store result.oracle result.shards.items) }
+        ensures of_hands { ((number : ℕ) → number < hands_of self
+            → VisitsOwnPrograms number (start_of self) (seen_by_number hands.items number))
+            → AreOfHands (length self.shards.items) (hands_of self) (start_of self) (seen_by_number hands.items)
+            (logs_of result.gates.items result.store result.oracle result.shards.items) }
+        ensures made { All (λ hand. entries_by (hand_number hand)
+            (logs_of result.gates.items result.store result.oracle result.shards.items) ≡ made_by hand) hands.items }
+    {
+        closed_logs_keep_their_laws();
+        let Shared {
+            gates,
+            store,
+            oracle,
+            shards,
+            mut rooms,
+            ends,
+        } = self;
+        gather(&mut rooms, hands);
+        let noted_gates = close_row(gates, rooms.gates, ends.noted_gates);
+        let noted_store = store.close(rooms.store);
+        let noted_oracle = oracle.close(rooms.oracle);
+        let noted_shards = close_row(shards, rooms.shards, ends.noted_shards);
+        Closed {
+            gates: gates_without_notes(noted_gates, ends.gates),
+            store: noted_store.into_store(),
+            oracle: noted_oracle.into_oracle(),
+            shards: shards_without_notes(noted_shards, ends.shards),
+        }
+    }
+}
