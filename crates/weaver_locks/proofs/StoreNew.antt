@@ -1,10 +1,10 @@
 -- A transaction that a hand began, and has not had judged, has a new stamp in the store's lock.
-use Rattle.std.proofs.Common.{◌≡◌, ◌≢◌, ℕ, zero, suc, ◌≤◌, List, [], ◌∷◌, ◌++◌, length, get_or, AllPairs, Contains, inl, inr, refl, sym, ap, ◌∙◌, subst, arith}
+use Rattle.std.proofs.Common.{◌≡◌, ◌≢◌, ℕ, zero, suc, ◌≤◌, ◌==◌, List, [], ◌∷◌, ◌++◌, length, get_or, AllPairs, Contains, inl, inr, refl, sym, ap, ◌∙◌, subst, arith, eq-eqb}
 use Rattle.std.specs.Prelude.{All}
 use Rattle.std.specs.List.{flat_map}
 use Rattle.std.proofs.lemmas.List.{length-map}
 use Rattle.std.proofs.lemmas.List.Elements.{All-contains, Contains-append_left, Contains-get_or}
-use Rattle.proof_base.proofs.Members.{cut_at, flat_has, has_cut, has_flat, has_head, has_map, has_none, has_tail, map_has}
+use Rattle.proof_base.proofs.Members.{cut_at, flat_has, has_cut, has_filter, has_flat, has_head, has_map, has_none, has_tail, map_has}
 use Rattle.proof_base.proofs.Ordered.{pairs_cases}
 use Rattle.vector_stamp.specs.declared.clock.Stamp.{Stamp}
 use Rattle.vector_stamp.specs.Order.{id_of}
@@ -24,13 +24,13 @@ use Rattle.seen_logs.specs.Entries.{gate_entries, store_entry, store_pair, store
 use Rattle.chronicle.specs.declared.held.Held.{Held}
 use Rattle.chronicle.specs.declared.pass.Pass.{Pass}
 use Rattle.chronicle.specs.Holds.{machine_of}
-use Rattle.chronicle.specs.Passes.{seen}
+use Rattle.chronicle.specs.Passes.{own, seen}
 use Rattle.oracle_lock.specs.Seen.{gates_noted, of_gates}
 use Rattle.store_lock.specs.declared.noted_store.NotedStore.{NotedStore}
 use Rattle.store_lock.specs.Seen.{StoreView}
 use Rattle.weaver_locks.specs.declared.hand.Hand.{Hand}
 use Rattle.weaver_locks.specs.declared.shared.Shared.{Shared}
-use Rattle.weaver_locks.specs.Hands.{hand_number, IsHand, seen_by}
+use Rattle.weaver_locks.specs.Hands.{hand_number, IsHand, made_by, seen_by}
 use Rattle.weaver_locks.specs.HoldLaws.{HoldLaws}
 use Rattle.weaver_locks.specs.InStore.{IsInStore}
 use Rattle.weaver_locks.proofs.Beside.{gates_on, named}
@@ -95,7 +95,7 @@ module _ (laws : HoldLaws) (shared : Shared) (old now : Hand) (held : Held Noted
         (record { author = z.1; request = request; stamp = stamp })) (λ j. (sym s_is j, sym is j)) (begun.0, begun_here)
 
     module _ (ids : IdsDiffer) (few : length shared.gates.items ≤ 8)
-        (new : All (λ (judged : Stamp). id_of judged ≢ id_of stamp) (stamps_judged (seen_by old).store)) where
+        (new : All (λ (judged : Stamp). id_of judged ≢ id_of stamp) (stamps_judged (made_by old).store)) where
       few_noted : length (gates_noted was.gates) ≤ 8
       few_noted = omega (arith, few, ap (λ (l : List (List GateEntry)). length l) i.one, length-map now.gates.items (λ (p : Pass GateDeed). gate_entries (seen p)), i.gates.count, hand.gates)
 
@@ -111,6 +111,14 @@ module _ (laws : HoldLaws) (shared : Shared) (old now : Hand) (held : Held Noted
           let within = inside (seen_by old).store on.0 cut after e (sym on.1 ∙ at)
           (omega (arith, low, length-map cut store_pair, length-map had store_entry)) in
           subst (λ (l : List StoreEntry). Contains l e) (sym within.1) (has_cut cut e within.0)
+
+      -- so it is one that the hand made
+      made_own : (e : StoreEntry) → Contains (seen_by old).store e → e.author ≡ hand_number old → Contains (made_by old).store e
+      made_own e there mine =
+          let pair = map_has store_entry (seen old.store) e there in
+          let is : (pair.0).0 ≡ hand_number old = ap (λ (x : StoreEntry). x.author) pair.2 ∙ mine in
+          subst (Contains (made_by old).store) pair.2 (has_map store_entry (own old.store) pair.0
+          (has_filter (λ x. x.0 == hand_number old) (seen old.store) pair.0 pair.1 (eq-eqb (pair.0).0 (hand_number old) is)))
 
       fact : (one : Stamp) → Contains (stamps_judged was.store) one → id_of one ≢ id_of stamp
       fact one h same =
@@ -128,10 +136,10 @@ module _ (laws : HoldLaws) (shared : Shared) (old now : Hand) (held : Held Noted
           (in_all logs begun.0 tx (tx_begun (get_or logs begun.0 []) tx begun_here))) [
             | inl is ↦
                 let mine : (entry.0).author ≡ hand_number old = sym (judged_author (entry.0).author (entry.0).deed) ∙ ap (λ (b : Begun). b.author) is in
-                let has = seen_own entry.0 cut.before cut.after cut.is mine in
-                let there = has_map (λ (j : Judgement). j.stamp) (judgements_of (seen_by old).store) its
-                (has_map (λ (e : StoreEntry). judged_by e.author e.deed) (seen_by old).store entry.0 has) in
-                All-contains (λ (judged : Stamp). id_of judged ≢ id_of stamp) (stamps_judged (seen_by old).store) its.stamp new there one_id
+                let has = made_own entry.0 (seen_own entry.0 cut.before cut.after cut.is mine) mine in
+                let there = has_map (λ (j : Judgement). j.stamp) (judgements_of (made_by old).store) its
+                (has_map (λ (e : StoreEntry). judged_by e.author e.deed) (made_by old).store entry.0 has) in
+                All-contains (λ (judged : Stamp). id_of judged ≢ id_of stamp) (stamps_judged (made_by old).store) its.stamp new there one_id
             | inr (inl differ) ↦ differ one_id
             | inr (inr differ) ↦ differ (sym one_id)
           ]

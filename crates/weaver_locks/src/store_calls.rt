@@ -5,7 +5,7 @@ ghost use Rattle.vector_stamp.specs.Order.{id_of};
 ghost use Rattle.weave_entries.specs.GateReplay.{txs_of};
 ghost use Rattle.backing_store.specs.Commits.{stamps_judged};
 ghost use Rattle.weave_account.specs.Account.{gate_log};
-ghost use Rattle.weaver_locks.specs.Hands.{hand_number, seen_by, IsHand};
+ghost use Rattle.weaver_locks.specs.Hands.{hand_number, made_by, seen_by, IsHand};
 ghost use Rattle.weaver_locks.specs.StoreHolds.{JudgesIn};
 
 use crate::hand::Hand;
@@ -20,7 +20,7 @@ use weave_entries::Verdict;
 
 impl Shared {
     /// Judges a transaction, as the store does, over the oracle in a hold within the store's. The hand began it, and has
-    /// not had it judged. It may wait.
+    /// not had it judged: none of its own judgements has that stamp. It may wait.
     pub fn commit<R: Wait>(
         &self,
         rt: &R,
@@ -34,7 +34,7 @@ impl Shared {
         requires few { length ops.now < 2 ^ 31 }
         requires begun { (home : ℕ) × Contains (txs_of (gate_log (seen_by hand.old) home))
             (record { author = hand_number hand.old; request = request; stamp = stamp }) }
-        requires new { All (λ (judged : Stamp). id_of judged ≢ id_of stamp) (stamps_judged (seen_by hand.old).store) }
+        requires new { All (λ (judged : Stamp). id_of judged ≢ id_of stamp) (stamps_judged (made_by hand.old).store) }
         ensures hand { IsHand self.now hand.new }
         ensures hold { JudgesIn hand.old hand.new request stamp ops.now result }
     {
