@@ -129,7 +129,8 @@ module _ (bound : Clock) (chain : ChainView) where
   pub same-count : update_count (collected bound chain) ≡ update_count chain
   same-count = omega (arith, older-within, length-drop older chain.kept)
 
-  none-older : older ≡ 0 → collected bound chain ≡ chain
+  -- nothing is dropped if none is older
+  pub none-older : older ≡ 0 → collected bound chain ≡ chain
   none-older none =
       let same : chain.dropped + 0 ≡ chain.dropped = omega arith in
       (λ i. record { dropped = chain.dropped + none i; kept = drop (none i) chain.kept })

@@ -1,2 +1,4 @@
 pub mod LookBack
 pub mod Collecting
+pub mod Histories
+pub mod Changed

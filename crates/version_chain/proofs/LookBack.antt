@@ -40,7 +40,8 @@ last_seen-at : (xs : List Stamp) (x : Stamp) (ys : List Stamp) → last_seen (su
 last_seen-at [] x ys = refl
 last_seen-at (y ∷ xs) x ys = last_seen-at xs x ys
 
-take-front : {A : Type 0} (xs ys : List A) → take (length xs) (xs ++ ys) ≡ xs
+-- the first of two lists
+pub take-front : {A : Type 0} (xs ys : List A) → take (length xs) (xs ++ ys) ≡ xs
 take-front [] ys = refl
 take-front (x ∷ xs) ys = ap (λ zs. x ∷ zs) (take-front xs ys)
 

@@ -1,5 +1,7 @@
 pub mod Chains
 pub mod Collection
+pub mod Keeping
 pub mod Looks
 pub mod TestJudge
+pub mod Updates
 pub mod Views

@@ -8,35 +8,36 @@ ghost use Rattle.vector_stamp.specs.Settling.{pairs_of};
 ghost use Rattle.version_chain.specs.declared.version.Version.{Version};
 ghost use Rattle.version_chain.specs.Chains.{ChainView, no_updates, update_count, stamps_of, newest_state, with_version, with_update, IsNextUpdate, KeepsOne};
 ghost use Rattle.version_chain.specs.Collection.{collected};
+ghost use Rattle.version_chain.specs.Updates.{IsPartCount, IsPartBound};
 ghost use Rattle.version_chain.specs.Views.{has_unordered, view_of, put_before, entries_for, ReachesBack};
 
 use crate::collection::older_versions;
 use crate::laws::collections_leave_views;
-use crate::version::{Version, updated};
 use crate::view::{View, look_back};
 use graph_ops::{Op, Record};
 use std::alloc::{AllocError, Global};
 use std::marker::Model;
 use vector_stamp::{Clock, Judge, Stamp};
-use weave_data::Copied;
+use version_parts::Parts;
+use version_parts::laws::items_are_placed;
 
 /// The updates of a vertex. Contracts see how many of the oldest versions were dropped, and of each one that is kept its stamp and the state after it.
 #[derive(Drop)]
 pub struct Chain {
     pub(crate) dropped: u64,
-    pub(crate) versions: Vec<Version>,
+    pub(crate) stamps: Vec<Stamp>,
+    pub(crate) parts: Parts,
 }
 
 impl Model for Chain {
-    ghost use Rattle.std.specs.Prelude.{◌+◌, ◌^◌, ◌<◌, ◌≤◌, length};
     ghost use Rattle.version_chain.specs.Chains.{ChainView};
+    ghost use Rattle.version_chain.specs.Keeping.{kept_from, IsKept};
 
     ghost Value = { ChainView };
 
-    ghost view = { λ c. record { dropped = c.dropped; kept = c.versions.items } };
+    ghost view = { λ c. record { dropped = c.dropped; kept = kept_from c.dropped c.parts c.stamps.items } };
 
-    ghost invariant = { λ c. (c.dropped + length c.versions.items < 2 ^ 64)
-        × (1 ≤ c.dropped → 1 ≤ length c.versions.items) };
+    ghost invariant = { λ c. IsKept c.dropped c.parts c.stamps.items };
 }
 
 impl Chain {
@@ -46,7 +47,8 @@ impl Chain {
     {
         Chain {
             dropped: 0,
-            versions: Vec::new(alloc),
+            stamps: Vec::new(alloc),
+            parts: Parts::new(alloc),
         }
     }
 
@@ -54,7 +56,7 @@ impl Chain {
     pub fn count(&self) -> u64
         ensures { result ≡ update_count self.now }
     {
-        self.dropped + self.versions.len() as u64
+        self.dropped + self.stamps.len() as u64
     }
 
     /// How many versions are kept.
@@ -62,14 +64,24 @@ impl Chain {
         ensures count { result ≡ length self.now.kept }
         ensures base { KeepsOne self.now }
     {
-        self.versions.len()
+        self.stamps.len()
     }
 
     /// A copy of the state after the newest update: the operations of the next one have to pass on it. It is absent if there is no update. The one error is out of memory.
     pub fn newest(&self, alloc: Global) -> Result<Option<Record>, AllocError>
         ensures { IfOk result (λ state. state ≡ newest_state self.now.kept) }
     {
-        newest_copy(alloc, self.versions.as_slice())
+        self.parts.state_at(alloc, self.count())
+    }
+
+    /// How many parts are kept: items of the vertex's presence, its properties, edges and tags.
+    /// If nothing was dropped, each operation other than `get` wrote one.
+    pub fn parts(&self) -> u64
+        ensures all { self.now.dropped ≡ 0 → IsPartCount self.now result }
+        ensures some { 1 ≤ self.now.dropped → IsPartBound self.now result }
+    {
+        items_are_placed();
+        self.parts.count()
     }
 
     /// Applies an update: the operations of a transaction of this stamp, before which that many updates were applied. The one error is out of memory.
@@ -84,10 +96,10 @@ impl Chain {
         ensures applied { OnOk result (self.new ≡ with_update stamp ops.now self.old) }
         ensures refused { OnErr result (self.new ≡ self.old) }
     {
-        let newest = newest_copy(alloc, self.versions.as_slice())?;
-        let state = updated(alloc, newest, ops)?;
-        self.versions.reserve(1)?;
-        self.versions.push_reserved(Version { stamp, state });
+        items_are_placed();
+        self.stamps.reserve(1)?;
+        self.parts.add_update(alloc, before, ops)?;
+        self.stamps.push_reserved(stamp);
         Ok(())
     }
 
@@ -97,7 +109,9 @@ impl Chain {
         requires base { 1 ≤ self.old.dropped → 2 ≤ length self.old.kept }
         ensures { (newest : Version) (chain : ChainView) → self.old ≡ with_version newest chain → self.new ≡ chain }
     {
-        let _ = self.versions.pop();
+        let _ = self.stamps.pop();
+        let newest = self.stamps.len() as u64 + self.dropped;
+        self.parts.take_back(newest);
     }
 
     /// Drops the versions that are older than the newest one whose clock is before the bound.
@@ -112,9 +126,20 @@ impl Chain {
             → ReachesBack program self.old ⊎ (self.old.dropped < self.new.dropped) → ReachesBack program self.new }
     {
         collections_leave_views();
-        let older = older_versions(self.versions.as_slice(), bound);
-        self.versions.drain(..older);
+        self.drop_older(bound);
+    }
+
+    // Drops those versions.
+    fn drop_older(&mut self, bound: &Clock)
+        ensures { self.new ≡ collected bound.now self.old }
+    {
+        let older = older_versions(self.stamps.as_slice(), bound);
+        if older == 0 {
+            return;
+        }
+        self.stamps.drain(..older);
         self.dropped += older as u64;
+        self.parts.collect(self.dropped + 1);
     }
 
     /// Whether what is kept reaches back far enough for a program of this stamp.
@@ -125,10 +150,10 @@ impl Chain {
         if self.dropped == 0 {
             return true;
         }
-        let Some(oldest) = self.versions.first() else {
+        let Some(oldest) = self.stamps.first() else {
             return false;
         };
-        oldest.stamp.is_before(stamp)
+        oldest.is_before(stamp)
     }
 
     /// What a program sees. From the newest version: one whose stamp is after the program's is skipped, one whose stamp is before it is seen, and for an unordered one the judge is asked to put it before the program: it is skipped if the judge refuses, and seen if not.
@@ -162,17 +187,8 @@ impl Chain {
             stamp,
             judge,
             self.dropped,
-            self.versions.as_slice(),
+            self.stamps.as_slice(),
+            &self.parts,
         )
     }
-}
-
-// A copy of the newest state.
-pub(crate) fn newest_copy(alloc: Global, versions: &[Version]) -> Result<Option<Record>, AllocError>
-    ensures { IfOk result (λ state. state ≡ newest_state versions.now) }
-{
-    let Some(newest) = versions.last() else {
-        return Ok(None);
-    };
-    newest.state.copy(alloc)
 }

@@ -1,17 +1,17 @@
 //! Which versions a collection drops.
-ghost use Rattle.std.specs.Prelude.{◌≡◌};
+ghost use Rattle.std.specs.Prelude.{◌≡◌, pred};
+ghost use Rattle.vector_stamp.specs.declared.clock.Stamp.{Stamp};
 ghost use Rattle.vector_stamp.specs.Order.{is_before};
-ghost use Rattle.version_chain.specs.Collection.{older_versions};
+ghost use Rattle.vector_stamp.specs.Seeing.{last_place};
 
-use crate::version::Version;
-use vector_stamp::{Clock, Relation};
+use vector_stamp::{Clock, Relation, Stamp};
 
-/// How many of these versions are older than the newest one whose clock is before the bound.
-/// It is 0 if there is no such version.
-pub(crate) fn older_versions(versions: &[Version], bound: &Clock) -> usize
-    ensures { result ≡ older_versions bound.now versions.now }
+/// How many of the updates with these stamps are older than the newest one whose clock is before the bound.
+/// It is 0 if there is no such update.
+pub(crate) fn older_versions(stamps: &[Stamp], bound: &Clock) -> usize
+    ensures { result ≡ pred (last_place (λ (stamp : Stamp). is_before stamp.clock bound.now) stamps.now) }
 {
-    let mut rest = versions;
+    let mut rest = stamps;
     while let Some((newest, older)) = rest.split_last() {
         if is_before(newest, bound) {
             return older.len();
@@ -21,9 +21,9 @@ pub(crate) fn older_versions(versions: &[Version], bound: &Clock) -> usize
     0
 }
 
-// Whether the version's clock is before the bound.
-fn is_before(version: &Version, bound: &Clock) -> bool
-    ensures { result ≡ is_before version.now.stamp.clock bound.now }
+// Whether the stamp's clock is before the bound.
+fn is_before(stamp: &Stamp, bound: &Clock) -> bool
+    ensures { result ≡ is_before stamp.now.clock bound.now }
 {
-    version.stamp.clock.compare(bound) == Relation::Before
+    stamp.clock.compare(bound) == Relation::Before
 }

@@ -8,7 +8,6 @@ ghost use Rattle.vector_stamp.specs.Coherence.{AreCoherent};
 ghost use Rattle.version_chain.specs.Chains.{stamps_of};
 ghost use Rattle.version_chain.specs.TestJudge.{ends};
 
-use crate::chain::newest_copy;
 use crate::{Chain, Version, View};
 use graph_ops::{Name, Op, Record, apply_op};
 use std::alloc::{AllocError, Global};
@@ -106,16 +105,26 @@ fn name(rt: &impl Abort, text: &str) -> Name {
     Name::parse(text.as_bytes()).expect(rt, "no name")
 }
 
-fn passes(alloc: Global, mut state: Option<Record>, op: &Op) -> bool
-    ensures { IsTrue result → IsTrue (none_refused (op.now ∷ []) state) }
+fn pass(alloc: Global, mut state: Option<Record>, ops: &[Op]) -> bool
+    ensures { IsTrue result → IsTrue (none_refused ops.now state) }
 {
-    apply_op(alloc, &mut state, op).is_ok()
+    for op in ops {
+        if apply_op(alloc, &mut state, op).is_err() {
+            return false;
+        }
+    }
+    true
 }
 
 // Applies an update of one operation, which must pass.
 fn apply(rt: &impl Abort, alloc: Global, chain: &mut Chain, stamp: Stamp, op: Op) {
-    let newest = newest_copy(alloc, chain.versions.as_slice()).expect(rt, "memory");
-    if !passes(alloc, newest, &op) {
+    apply_all(rt, alloc, chain, stamp, &[op]);
+}
+
+// Applies an update, whose operations must pass.
+fn apply_all(rt: &impl Abort, alloc: Global, chain: &mut Chain, stamp: Stamp, ops: &[Op]) {
+    let newest = chain.newest(alloc).expect(rt, "memory");
+    if !pass(alloc, newest, ops) {
         panic!(rt; "refused");
     }
     let before = chain.count();
@@ -123,18 +132,15 @@ fn apply(rt: &impl Abort, alloc: Global, chain: &mut Chain, stamp: Stamp, op: Op
         panic!(rt; "too many");
     }
     chain
-        .apply_update(alloc, stamp, before, &[op])
+        .apply_update(alloc, stamp, before, ops)
         .expect(rt, "memory");
 }
 
-fn stamps(rt: &impl Abort, alloc: Global, versions: &[Version]) -> Vec<Stamp>
-    ensures { result.items ≡ stamps_of versions.now }
+// The stamps of the kept versions.
+fn stamps(rt: &impl Abort, alloc: Global, chain: &Chain) -> Vec<Stamp>
+    ensures { result.items ≡ stamps_of chain.now.kept }
 {
-    let mut stamps = Vec::new(alloc);
-    for version in versions {
-        stamps.push(version.stamp).expect(rt, "memory");
-    }
-    stamps
+    Vec::from_slice(alloc, chain.stamps.as_slice()).expect(rt, "memory")
 }
 
 fn ends(rt: &impl Abort, alloc: Global, pairs: &[(Stamp, Stamp)]) -> Vec<Stamp>
@@ -184,7 +190,7 @@ fn view(
     program: Stamp,
     judge: &mut TestJudge,
 ) -> Result<View, AllocError> {
-    let kept = stamps(rt, alloc, chain.versions.as_slice());
+    let kept = stamps(rt, alloc, chain);
     let known = ends(rt, alloc, judge.pairs.as_slice());
     let all = together(rt, alloc, program, kept.as_slice(), known.as_slice());
     if !chain.reaches_back(&program) || !are_coherent(all.as_slice()) {
@@ -217,6 +223,18 @@ fn set(rt: &impl Abort, v: Name, key: &str) -> Op {
     Op::Set {
         v,
         key: name(rt, key),
+        value: v,
+    }
+}
+
+// Sets a property whose key has that number.
+fn set_key(rt: &impl Abort, v: Name, number: u8) -> Op {
+    let mut key = [b'k', b'0', b'0'];
+    key[1] = b'0' + number / 10 % 10;
+    key[2] = b'0' + number % 10;
+    Op::Set {
+        v,
+        key: Name::parse(&key).expect(rt, "no name"),
         value: v,
     }
 }
@@ -459,6 +477,116 @@ fn updates_of_each_kind(rt: HostRuntime) {
     let mut judge = judge_of(&rt, alloc, &[]);
     let seen = view(&rt, alloc, &chain, stamp(0, 10, 0, 0), &mut judge);
     assert!(rt; shows(&seen, None, 9, false));
+}
+
+// An update of `create` and 63 properties, one of a 64th, and 100 that write the first property again.
+fn a_property_written_again(rt: &impl Abort, alloc: Global) -> Chain {
+    let v = name(rt, "v");
+    let mut chain = Chain::new(alloc);
+    let mut ops = Vec::new(alloc);
+    ops.push(Op::Create { v }).expect(rt, "memory");
+    for number in 0..63 {
+        ops.push(set_key(rt, v, number)).expect(rt, "memory");
+    }
+    apply_all(rt, alloc, &mut chain, stamp(0, 1, 0, 0), ops.as_slice());
+    apply(rt, alloc, &mut chain, stamp(0, 2, 0, 0), set_key(rt, v, 63));
+    for own in 3..103 {
+        apply(
+            rt,
+            alloc,
+            &mut chain,
+            stamp(0, own, 0, 0),
+            set_key(rt, v, 0),
+        );
+    }
+    chain
+}
+
+// Each update adds what it changes: 64 parts, and 101 more.
+// `take_back` takes one away, and a collection leaves the 65 parts of the oldest kept state and one of the update after it.
+#[test]
+fn parts_are_what_changed(rt: HostRuntime) {
+    let alloc = rt.alloc();
+    let mut chain = a_property_written_again(&rt, alloc);
+    assert_eq!(rt;
+        (chain.count(), chain.kept(), chain.parts()),
+        (102, 102, 165)
+    );
+    if chain.kept() == 0 || chain.dropped != 0 {
+        panic!(rt; "nothing is kept");
+    }
+    chain.take_back();
+    assert_eq!(rt;
+        (chain.count(), chain.kept(), chain.parts()),
+        (101, 101, 164)
+    );
+    chain.collect(&stamp(0, 101, 0, 0).clock);
+    assert_eq!(rt; (chain.count(), chain.kept(), chain.parts()), (101, 2, 66));
+    let program = stamp(1, 100, 1, 0);
+    let mut judge = judge_of(&rt, alloc, &[(program, stamp(0, 101, 0, 0))]);
+    let oldest = view(&rt, alloc, &chain, program, &mut judge);
+    assert!(rt; shows(&oldest, Some(64), 100, false));
+    let newest = view(&rt, alloc, &chain, stamp(0, 102, 0, 0), &mut judge);
+    assert!(rt; shows(&newest, Some(64), 101, false));
+}
+
+// Whether the vertex has this edge, and that has no tags.
+fn has_bare_edge(state: &Option<Record>, edge: Name) -> bool {
+    let Some(record) = state else {
+        return false;
+    };
+    match record.edges.get(edge) {
+        Some(found) => found.tags.len() == 0,
+        None => false,
+    }
+}
+
+// A vertex that is made again has none of the properties and edges that it had, and an edge that is linked again none of its tags.
+#[test]
+fn what_was_deleted_stays_hidden(rt: HostRuntime) {
+    let alloc = rt.alloc();
+    let v = name(&rt, "v");
+    let (edge, key) = (name(&rt, "e"), name(&rt, "k"));
+    let link = Op::Link { v, edge, target: v };
+    let tag = Op::Tag {
+        v,
+        edge,
+        key,
+        value: v,
+    };
+    let mut chain = Chain::new(alloc);
+    apply(&rt, alloc, &mut chain, stamp(0, 1, 0, 0), Op::Create { v });
+    apply(
+        &rt,
+        alloc,
+        &mut chain,
+        stamp(0, 2, 0, 0),
+        link.copy(alloc).expect(&rt, "memory"),
+    );
+    apply(&rt, alloc, &mut chain, stamp(0, 3, 0, 0), tag);
+    apply(
+        &rt,
+        alloc,
+        &mut chain,
+        stamp(0, 4, 0, 0),
+        Op::Unlink { v, edge },
+    );
+    apply(&rt, alloc, &mut chain, stamp(0, 5, 0, 0), link);
+    let linked = chain.newest(alloc).expect(&rt, "memory");
+    assert_eq!(rt; linked.as_ref().map(|record| record.edges.len()), Some(1));
+    assert!(rt; has_bare_edge(&linked, edge));
+    apply(&rt, alloc, &mut chain, stamp(0, 6, 0, 0), set(&rt, v, "a"));
+    apply(&rt, alloc, &mut chain, stamp(0, 7, 0, 0), Op::Delete { v });
+    apply(&rt, alloc, &mut chain, stamp(0, 8, 0, 0), Op::Create { v });
+    let made = chain.newest(alloc).expect(&rt, "memory");
+    assert_eq!(rt;
+        made.as_ref()
+            .map(|record| (record.props.len(), record.edges.len())),
+        Some((0, 0))
+    );
+    assert_eq!(rt; chain.parts(), 8);
+    chain.collect(&stamp(0, 9, 0, 0).clock);
+    assert_eq!(rt; (chain.count(), chain.kept(), chain.parts()), (8, 1, 1));
 }
 
 // Copies are equal.

@@ -7,14 +7,16 @@ ghost use Rattle.vector_stamp.specs.Precedence.{precedes};
 ghost use Rattle.vector_stamp.specs.Seeing.{is_seen};
 ghost use Rattle.vector_stamp.specs.Settling.{additions_from, places_of, pairs_of, entries_of_call};
 ghost use Rattle.version_chain.specs.Chains.{stamps_of};
+ghost use Rattle.version_chain.specs.Keeping.{kept_from};
 ghost use Rattle.version_chain.specs.Looks.{read_of};
+ghost use Rattle.version_parts.specs.States.{state_at};
 ghost use Rattle.version_chain.specs.Views.{has_unordered, view_of, put_before, entries_for};
 
-use crate::version::Version;
 use graph_ops::Record;
 use std::alloc::{AllocError, Global};
 use vector_stamp::laws::{parts_and_unions_are_coherent, precedence_is_decided};
 use vector_stamp::{Judge, Refusal, Relation, Stamp};
+use version_parts::Parts;
 use weave_data::Copied;
 
 /// What a program sees of a vertex.
@@ -45,42 +47,44 @@ pub(crate) struct Seen {
     pub settled: bool,
 }
 
-/// Looks at one version: the state if the program sees it, and `None` if it is skipped. An unordered one is seen unless the judge refuses to put it before the program.
+/// Looks at one version, of the update of this number: the state if the program sees it, and `None` if it is skipped. An unordered one is seen unless the judge refuses to put it before the program.
 pub(crate) fn look<J: Judge>(
     alloc: Global,
     author: u32,
     program: Stamp,
     judge: &mut J,
-    version: &Version,
+    update: Stamp,
+    parts: &Parts,
+    number: u64,
 ) -> Result<Option<Seen>, AllocError>
-    requires other_id { id_of version.now.stamp ≢ id_of program }
-    requires coherent { AreCoherent (program ∷ version.now.stamp ∷ J.known judge.old) }
-    ensures seen { IfOk result (λ seen. seen ≡ (if is_seen (J.pairs judge.old) program version.now.stamp
+    requires other_id { id_of update ≢ id_of program }
+    requires coherent { AreCoherent (program ∷ update ∷ J.known judge.old) }
+    ensures seen { IfOk result (λ seen. seen ≡ (if is_seen (J.pairs judge.old) program update
         then Some (record {
-          state = version.now.state;
-          settled = not (precedes (J.pairs judge.old) version.now.stamp program);
+          state = state_at number parts.now;
+          settled = not (precedes (J.pairs judge.old) update program);
         })
         else None)) }
     ensures pairs { IfOk result (λ seen. J.pairs judge.new ≡ J.pairs judge.old
-        ++ pairs_of (additions_from 0 (J.pairs judge.old) (read_of seen version.now.stamp) program) program) }
+        ++ pairs_of (additions_from 0 (J.pairs judge.old) (read_of seen update) program) program) }
     ensures no_pair { OnErr result (J.pairs judge.new ≡ J.pairs judge.old) }
     ensures known { (stamp : Stamp) → Contains (J.known judge.new) stamp
-        → Contains (J.known judge.old) stamp ⊎ Contains (program ∷ version.now.stamp ∷ []) stamp }
+        → Contains (J.known judge.old) stamp ⊎ Contains (program ∷ update ∷ []) stamp }
     ensures stay_known { (stamp : Stamp) → Contains (J.known judge.old) stamp → Contains (J.known judge.new) stamp }
     ensures logged { IfOk result (λ seen. IsTrue J.keeps_log → J.log_of judge.new ≡ J.log_of judge.old
-        ++ entries_of_call author (read_of seen version.now.stamp) program
-        (places_of (additions_from 0 (J.pairs judge.old) (read_of seen version.now.stamp) program))) }
+        ++ entries_of_call author (read_of seen update) program
+        (places_of (additions_from 0 (J.pairs judge.old) (read_of seen update) program))) }
     ensures not_logged { OnErr result (IsTrue J.keeps_log → J.log_of judge.new ≡ J.log_of judge.old) }
-    ensures not_asked { unordered version.now.stamp program ≡ false → judge.new ≡ judge.old }
+    ensures not_asked { unordered update program ≡ false → judge.new ≡ judge.old }
 {
     precedence_is_decided();
-    match version.stamp.clock.compare(&program.clock) {
+    match update.clock.compare(&program.clock) {
         Relation::After => Ok(None),
         Relation::Before => Ok(Some(Seen {
-            state: version.state.copy(alloc)?,
+            state: parts.state_at(alloc, number)?,
             settled: false,
         })),
-        Relation::Unordered => ask(alloc, author, program, judge, version),
+        Relation::Unordered => ask(alloc, author, program, judge, update, parts, number),
     }
 }
 
@@ -90,33 +94,35 @@ fn ask<J: Judge>(
     author: u32,
     program: Stamp,
     judge: &mut J,
-    version: &Version,
+    update: Stamp,
+    parts: &Parts,
+    number: u64,
 ) -> Result<Option<Seen>, AllocError>
-    requires other_id { id_of version.now.stamp ≢ id_of program }
-    requires coherent { AreCoherent (program ∷ version.now.stamp ∷ J.known judge.old) }
-    ensures seen { IfOk result (λ seen. seen ≡ (if not (precedes (J.pairs judge.old) program version.now.stamp)
+    requires other_id { id_of update ≢ id_of program }
+    requires coherent { AreCoherent (program ∷ update ∷ J.known judge.old) }
+    ensures seen { IfOk result (λ seen. seen ≡ (if not (precedes (J.pairs judge.old) program update)
         then Some (record {
-          state = version.now.state;
-          settled = not (precedes (J.pairs judge.old) version.now.stamp program);
+          state = state_at number parts.now;
+          settled = not (precedes (J.pairs judge.old) update program);
         })
         else None)) }
     ensures pairs { IfOk result (λ seen. J.pairs judge.new ≡ J.pairs judge.old
-        ++ pairs_of (additions_from 0 (J.pairs judge.old) (read_of seen version.now.stamp) program) program) }
+        ++ pairs_of (additions_from 0 (J.pairs judge.old) (read_of seen update) program) program) }
     ensures no_pair { OnErr result (J.pairs judge.new ≡ J.pairs judge.old) }
     ensures known { (stamp : Stamp) → Contains (J.known judge.new) stamp
-        → Contains (J.known judge.old) stamp ⊎ Contains (program ∷ version.now.stamp ∷ []) stamp }
+        → Contains (J.known judge.old) stamp ⊎ Contains (program ∷ update ∷ []) stamp }
     ensures stay_known { (stamp : Stamp) → Contains (J.known judge.old) stamp → Contains (J.known judge.new) stamp }
     ensures logged { IfOk result (λ seen. IsTrue J.keeps_log → J.log_of judge.new ≡ J.log_of judge.old
-        ++ entries_of_call author (read_of seen version.now.stamp) program
-        (places_of (additions_from 0 (J.pairs judge.old) (read_of seen version.now.stamp) program))) }
+        ++ entries_of_call author (read_of seen update) program
+        (places_of (additions_from 0 (J.pairs judge.old) (read_of seen update) program))) }
     ensures not_logged { OnErr result (IsTrue J.keeps_log → J.log_of judge.new ≡ J.log_of judge.old) }
 {
     parts_and_unions_are_coherent();
-    if is_refused(alloc, author, program, judge, version.stamp)? {
+    if is_refused(alloc, author, program, judge, update)? {
         return Ok(None);
     }
-    let state = version.state.copy(alloc)?;
-    let earlier = [version.stamp];
+    let state = parts.state_at(alloc, number)?;
+    let earlier = [update];
     match judge.settle(alloc, author, &earlier, program, true) {
         Ok(put) => Ok(Some(Seen {
             state,
@@ -152,39 +158,47 @@ fn is_refused<J: Judge>(
     }
 }
 
-/// Looks back from the newest version to the first one that the program sees. `dropped` versions are gone before those given.
+/// Looks back from the newest update to the first one that the program sees. `dropped` versions are gone before those given.
 pub(crate) fn look_back<J: Judge>(
     alloc: Global,
     author: u32,
     program: Stamp,
     judge: &mut J,
     dropped: u64,
-    versions: &[Version],
+    stamps: &[Stamp],
+    parts: &Parts,
 ) -> Result<View, AllocError>
-    requires other_ids { All (λ update. id_of update ≢ id_of program) (stamps_of versions.now) }
-    requires coherent { AreCoherent (program ∷ stamps_of versions.now ++ J.known judge.old) }
-    requires small { dropped + length versions.now < 2 ^ 64 }
+    requires other_ids { All (λ update. id_of update ≢ id_of program)
+        (stamps_of (kept_from dropped parts.now stamps.now)) }
+    requires coherent { AreCoherent (program ∷ stamps_of (kept_from dropped parts.now stamps.now)
+        ++ J.known judge.old) }
+    requires small { dropped + length stamps.now < 2 ^ 64 }
     ensures view { IfOk result (λ view. view
-        ≡ view_of (J.pairs judge.old) program (record { dropped = dropped; kept = versions.now })) }
+        ≡ view_of (J.pairs judge.old) program
+        (record { dropped = dropped; kept = kept_from dropped parts.now stamps.now })) }
     ensures pairs { OnOk result (J.pairs judge.new ≡ J.pairs judge.old
         ++ pairs_of (put_before (J.pairs judge.old) program
-        (record { dropped = dropped; kept = versions.now })) program) }
+        (record { dropped = dropped; kept = kept_from dropped parts.now stamps.now })) program) }
     ensures no_pair { OnErr result (J.pairs judge.new ≡ J.pairs judge.old) }
     ensures known { (stamp : Stamp) → Contains (J.known judge.new) stamp
-        → Contains (J.known judge.old) stamp ⊎ Contains (program ∷ stamps_of versions.now) stamp }
+        → Contains (J.known judge.old) stamp
+        ⊎ Contains (program ∷ stamps_of (kept_from dropped parts.now stamps.now)) stamp }
     ensures stay_known { (stamp : Stamp) → Contains (J.known judge.old) stamp → Contains (J.known judge.new) stamp }
     ensures logged { OnOk result (IsTrue J.keeps_log → J.log_of judge.new ≡ J.log_of judge.old
-        ++ entries_for (J.pairs judge.old) author program (record { dropped = dropped; kept = versions.now })) }
+        ++ entries_for (J.pairs judge.old) author program
+        (record { dropped = dropped; kept = kept_from dropped parts.now stamps.now })) }
     ensures not_logged { OnErr result (IsTrue J.keeps_log → J.log_of judge.new ≡ J.log_of judge.old) }
-    ensures not_asked { has_unordered program (stamps_of versions.now) ≡ false → judge.new ≡ judge.old }
+    ensures not_asked { has_unordered program (stamps_of (kept_from dropped parts.now stamps.now)) ≡ false
+        → judge.new ≡ judge.old }
 {
     parts_and_unions_are_coherent();
-    let mut rest = versions;
+    let mut rest = stamps;
     while let Some((newest, older)) = rest.split_last() {
-        if let Some(seen) = look(alloc, author, program, judge, newest)? {
+        let number = dropped + rest.len() as u64;
+        if let Some(seen) = look(alloc, author, program, judge, *newest, parts, number)? {
             return Ok(View {
                 state: seen.state,
-                updates: dropped + rest.len() as u64,
+                updates: number,
                 settled: seen.settled,
             });
         }

@@ -1,4 +1,0 @@
-pub mod LookBack
-pub mod Collecting
-pub mod Histories
-pub mod Changed

@@ -1,6 +1,0 @@
-pub mod Chains
-pub mod Collection
-pub mod Keeping
-pub mod Looks
-pub mod Updates
-pub mod Views
