@@ -45,7 +45,7 @@ module _ (shared : Shared) (old new : Hand) (hand : IsHand shared old) (all : Al
       let had = get_or (map seen old.gates.items) home [] in
       let log = get_or (map seen new.gates.items) home [] in
       let past : length (gate_entries had) ≤ length cut = subst (λ (l : List GateEntry). length l ≤ length cut) (gate_at old home) mine.1 in
-      none_past gate_entry gate_pair (λ x. refl) laws.gate_places n had log (more.0, sym more.1)
+      none_past gate_entry gate_pair (λ x. refl) laws.hand.gate_places n had log (more.0, sym more.1)
       (row_entries shared.gates.items old.gates.items new.gates.items all hand.gates n hand.gate_numbers home)
       cut after e (sym (gate_at new home) ∙ at) mine.0 past
 
@@ -79,7 +79,7 @@ module _ (shared : Shared) (old new : Hand) (hand : IsHand shared old) (settled 
   oracle_added laws cut after e at mine =
       let is = sym oracle_left ∙ at in
       beyond settled asked cut after e is
-      (past_before oracle_entry oracle_pair (λ x. refl) laws.oracle_places number (seen old.oracle) settled asked adds.found
+      (past_before oracle_entry oracle_pair (λ x. refl) laws.hand.oracle_places number (seen old.oracle) settled asked adds.found
       (adds.own_is ∙ ap (λ (m : ℕ). entries_of m (seen old.oracle)) hand.oracle_number) cut after e is mine.0 mine.1)
 
   pub oracle_found : IsBeginningOf sooner.oracle settled

@@ -1,22 +1,25 @@
 -- A call of a gatekeeper within a hold.
-use Rattle.std.proofs.Common.{◌≡◌, ℕ, List, [], ◌∷◌, ◌++◌, length, map, refl, sym, ap, ◌∙◌, subst, Contains}
-use Rattle.std.specs.Prelude.{Result, Ok, Err, IfOk, OnOk, OnErr, Option}
+use Rattle.std.proofs.Common.{◌≡◌, ℕ, ◌<◌, List, [], ◌∷◌, ◌++◌, length, map, refl, sym, ap, ◌∙◌, subst, arith, Contains}
+use Rattle.std.specs.Prelude.{Result, Ok, Err, IfOk, IsTrue, OnOk, OnErr, Option}
 use Rattle.std.specs.List.{All}
 use Rattle.std.specs.Option.{ForSome}
-use Rattle.std.proofs.lemmas.List.{append-nil}
+use Rattle.std.proofs.lemmas.List.{append-nil, get_or-set_same, length-map}
 use Rattle.std.proofs.lemmas.List.Elements.{All-cons, All-nil}
 use Rattle.vector_stamp.specs.declared.clock.Clock.{Clock}
+use Rattle.vector_stamp.specs.declared.clock.Stamp.{Stamp}
+use Rattle.vector_stamp.specs.Clocks.{counts_no_more}
 use Rattle.weave_entries.specs.declared.gate_log.GateDeed.{GateDeed}
 use Rattle.weave_entries.specs.declared.gate_log.GateDeed.TheVariants.{Finished, Heard}
 use Rattle.weave_entries.specs.declared.gate_log.GateEntry.{GateEntry}
 use Rattle.weave_entries.specs.declared.message.Message.{Message}
-use Rattle.weave_entries.specs.GateReplay.{addressed_to}
+use Rattle.weave_entries.specs.GateReplay.{addressed_to, clock_of}
 use Rattle.weave_account.specs.declared.account.Account.{Account}
 use Rattle.weave_account.specs.Account.{gate_log}
 use Rattle.weave_account.specs.Clocks.{IsKnown}
 use Rattle.weave_account.specs.Seen.{IsMade}
 use Rattle.gatekeeper.specs.Gates.{Adds, GateView}
 use Rattle.seen_logs.specs.References.{ArrivesAsSeen, EndsAsSeen}
+use Rattle.seen_logs.specs.Entries.{gate_entries}
 use Rattle.seen_logs.specs.Seen.{IsWithin}
 use Rattle.chronicle.specs.declared.held.Held.{Held}
 use Rattle.chronicle.specs.Holds.{machine_of}
@@ -132,6 +135,35 @@ pub known_there : GateLaws → (shared : Shared) (old : Hand) (m : NotedGate) �
 known_there rules shared old m kept within clock known =
     rules.stays m.gate.gates m.gate.shards (without_oracle (seen_by old)) (seen_of m.gate m.notes) within.gates within.store within.shards
     kept.legal.shard_logs [] 0 (Heard clock) (known_without (seen_by old) clock known)
+
+-- the log of a gatekeeper in what it has seen
+own_log : (m : NotedGate) → IsKept m.gate m.notes → gate_log (seen_of m.gate m.notes) m.gate.home ≡ m.gate.log
+own_log m kept =
+    let logs = map gate_entries (map noted m.notes.gates.items) in
+    get_or-set_same logs m.gate.home m.gate.log [] (omega (
+      arith,
+      kept.home,
+      kept.gates,
+      length-map (map noted m.notes.gates.items) gate_entries,
+      length-map m.notes.gates.items noted,
+    ))
+
+-- a stamp that the hand knows counts no more of the gatekeeper's events than it made
+pub hears_no_more : GateLaws → (shared : Shared) (old now : Hand) (gate : ℕ) (held : Held NotedGate GateDeed)
+    → gate < length shared.gates.items → IsInGate shared old now gate (machine_of held).gate.log [] held
+    → IsKept (machine_of held).gate (machine_of held).notes
+    → IsWithin (without_oracle (seen_by old)) (seen_of (machine_of held).gate (machine_of held).notes) → (last : Option Stamp)
+    → ForSome last (λ heard. IsKnown (seen_by old) heard.clock)
+    → ForSome last (λ heard. IsTrue (counts_no_more gate (clock_of gate (machine_of held).gate.log) heard.clock))
+hears_no_more rules shared old now gate held low inside kept within last known heard is =
+    let m = machine_of held in
+    let home = m.gate.home in
+    let few = shared.framed.few_gates in
+    let at = own_log m kept in
+    let small : home < 8 = omega (arith, low, few, inside.machine.home) in
+    let there = known_there rules shared old m kept within heard.clock (known heard is) in
+    let hears = rules.may_be_heard m.gate.shards home (seen_of m.gate m.notes) small (kept.legal.gate_logs home) heard.clock there in
+    subst (λ (z : ℕ × List GateEntry). IsTrue (counts_no_more z.0 (clock_of z.0 z.1) heard.clock)) (λ i. (inside.machine.home i, at i)) hears
 
 -- what the gatekeeper knows the hand does when it has left
 pub known_after : {A F : Type 0} (new : Hand) (m : NotedGate) (result : Result A F) (clock : A → Clock)

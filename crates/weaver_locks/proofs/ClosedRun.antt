@@ -26,7 +26,7 @@ use Rattle.chronicle.specs.Logs.{Log}
 use Rattle.chronicle.specs.Passes.{seen}
 use Rattle.weaver_locks.specs.declared.hand.Hand.{Hand}
 use Rattle.weaver_locks.specs.Hands.{hand_number, seen_by}
-use Rattle.weaver_locks.specs.Closing.{seen_by_number}
+use Rattle.weaver_locks.specs.Closing.{AreEntriesOfHands, seen_by_number}
 use Rattle.weaver_locks.proofs.Lists.{list_at}
 use Rattle.weaver_locks.specs.ClosingLaws.{ClosingLaws}
 use Rattle.weaver_locks.proofs.ClosedLogs.{IsClosedLog, IsNumbered, entries_of_hands}
@@ -124,17 +124,8 @@ module _ (laws : ClosingLaws) (hands : List Hand) (passes : ℕ) (gates_start : 
     found : (n : ℕ) → n < passes → IsFound hands n
     found n low = find_hand hands n (all n low)
 
-    pub closed_of_hands : (shard_count : ℕ) → 1 ≤ passes
-        → All (λ h. IsSeenByHand shard_count (hand_number h) start_is (seen_by h)) hands
-        → ((n : ℕ) → n < passes → VisitsOwnPrograms n start_is (seen_by_number hands n))
-        → AreOfHands shard_count passes start_is (seen_by_number hands) closed
-    closed_of_hands shard_count some seen_all visits = record {
-      some = some;
-      seen = λ n low. let f = found n low in
-          subst (λ (z : ℕ × Account). IsSeenByHand shard_count z.0 start_is z.1) (λ i. (f.is.number_is i, sym f.seen_is i))
-          (All-contains (λ h. IsSeenByHand shard_count (hand_number h) start_is (seen_by h)) hands f.is.hand seen_all f.is.there);
-      own_visits = visits;
-      within = λ n low. let f = found n low in subst (λ (a : Account). IsWithin a closed) (sym f.seen_is) (seen_within f.is.hand f.is.there);
+    pub closed_entries : AreEntriesOfHands passes start_is (seen_by_number hands) closed
+    closed_entries = record {
       gate_entries = λ home. entries_of_hands gate_pair gate_entry laws.gate_back laws.gate_entries hands
           (λ h. get_or (map seen h.gates.items) home []) passes (get_or gates_start home []) (get_or gates home []) (run.gate_logs home)
           (λ n. gate_log (seen_by_number hands n) home)
@@ -151,4 +142,21 @@ module _ (laws : ClosingLaws) (hands : List Hand) (passes : ℕ) (gates_start : 
           (λ n. shard_log (seen_by_number hands n) shard)
           (λ n low. let f = found n low in (f.is, ap (λ (a : Account). shard_log a shard) f.seen_is ∙ shard_at (map seen f.is.hand.shards.items) shard))
           (shard_log start_is shard) (shard_log closed shard) (shard_at shards_start shard) (shard_at shards shard);
+    }
+
+    pub closed_of_hands : (shard_count : ℕ) → 1 ≤ passes
+        → All (λ h. IsSeenByHand shard_count (hand_number h) start_is (seen_by h)) hands
+        → ((n : ℕ) → n < passes → VisitsOwnPrograms n start_is (seen_by_number hands n))
+        → AreOfHands shard_count passes start_is (seen_by_number hands) closed
+    closed_of_hands shard_count some seen_all visits = record {
+      some = some;
+      seen = λ n low. let f = found n low in
+          subst (λ (z : ℕ × Account). IsSeenByHand shard_count z.0 start_is z.1) (λ i. (f.is.number_is i, sym f.seen_is i))
+          (All-contains (λ h. IsSeenByHand shard_count (hand_number h) start_is (seen_by h)) hands f.is.hand seen_all f.is.there);
+      own_visits = visits;
+      within = λ n low. let f = found n low in subst (λ (a : Account). IsWithin a closed) (sym f.seen_is) (seen_within f.is.hand f.is.there);
+      gate_entries = closed_entries.gate_entries;
+      store_entries = closed_entries.store_entries;
+      oracle_entries = closed_entries.oracle_entries;
+      shard_entries = closed_entries.shard_entries;
     }

@@ -13,7 +13,7 @@ use Rattle.shard_node.specs.Shards.{ShardView}
 use Rattle.weave_account.specs.declared.account.Account.{Account}
 use Rattle.seen_logs.specs.Closed.{AreOfHands}
 use Rattle.seen_logs.specs.Entries.{account_of_logs, gate_entries, gate_pair, oracle_pair, shard_entries, shard_pair, store_pair}
-use Rattle.seen_logs.specs.Seen.{AreLegal, VisitsOwnPrograms}
+use Rattle.seen_logs.specs.Seen.{AreLegal, IsWithin, VisitsOwnPrograms}
 use Rattle.chronicle.specs.declared.chronicle.Chronicle.{Chronicle}
 use Rattle.chronicle.specs.declared.pass.Pass.{Pass}
 use Rattle.chronicle.specs.Frames.{Frame}
@@ -34,11 +34,11 @@ use Rattle.weaver_locks.specs.Locks.{hands_of, start_of}
 use Rattle.weaver_locks.specs.Hands.{hand_number, made_by, seen_by, IsHand}
 use Rattle.weaver_locks.specs.Rooms.{AreRooms, HaveGathered, IsRoom}
 use Rattle.weaver_locks.specs.ClosedRows.{AreClosed, HaveAll, IsClosed}
-use Rattle.weaver_locks.specs.Closing.{AreInOrder, entries_by, logs_of, seen_by_number}
+use Rattle.weaver_locks.specs.Closing.{AreInOrder, AreEntriesOfHands, entries_by, logs_of, seen_by_number}
 use Rattle.weaver_locks.specs.ClosingLaws.{ClosingLaws}
 use Rattle.weaver_locks.proofs.Lists.{map_twice}
 use Rattle.weaver_locks.proofs.ClosedLogs.{closed_log, row_closed, IsClosedLog}
-use Rattle.weaver_locks.proofs.ClosedRun.{closed_legal, closed_of_hands, find_hand, IsClosedRun}
+use Rattle.weaver_locks.proofs.ClosedRun.{closed_entries, closed_legal, closed_of_hands, find_hand, seen_within, IsClosedRun}
 use Rattle.weaver_locks.proofs.OwnLogs.{closed_own}
 
 -- a room for more is one for fewer
@@ -233,6 +233,20 @@ module _ (shared : Shared) (hands : List Hand) (each : All (IsHand shared) hands
           (closed_legal laws hands (hands_of shared) _ _ _ _ (map gate_log_of gates) (map store_pair store.store) (map oracle_pair oracle.oracle)
           (map shard_log_of shards) run (length shared.gates.items) (length shared.shards.items)
           (All-weaker (IsHand shared) (λ h. AreLegal (length shared.gates.items) (length shared.shards.items) (seen_by h)) (λ h is. is.legal) hands each))
+
+      pub within : All (λ h. IsWithin (seen_by h) logs_out) hands
+      within k d low =
+          let h : Hand = get_or hands k d in
+          subst (λ (a : Account). IsWithin (seen_by h) a) (sym back)
+          (seen_within laws hands (hands_of shared) (starts_of shared.gates.items) (lock_of shared.store).start (lock_of shared.oracle).start
+          (starts_of shared.shards.items) (map gate_log_of gates) (map store_pair store.store) (map oracle_pair oracle.oracle) (map shard_log_of shards)
+          run h (Contains-get_or hands k d low))
+
+      pub entries : AreEntriesOfHands (hands_of shared) (start_of shared) (seen_by_number hands) logs_out
+      entries = subst (AreEntriesOfHands (hands_of shared) (start_of shared) (seen_by_number hands)) (sym back)
+          (closed_entries laws hands (hands_of shared) (starts_of shared.gates.items) (lock_of shared.store).start (lock_of shared.oracle).start
+          (starts_of shared.shards.items) (map gate_log_of gates) (map store_pair store.store) (map oracle_pair oracle.oracle) (map shard_log_of shards)
+          run all)
 
       pub of_hands : ((n : ℕ) → n < hands_of shared → VisitsOwnPrograms n (start_of shared) (seen_by_number hands n))
           → AreOfHands (length shared.shards.items) (hands_of shared) (start_of shared) (seen_by_number hands) logs_out

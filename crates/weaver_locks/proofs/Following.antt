@@ -1,5 +1,5 @@
 -- What a hand began may be judged, and what was judged may be sent.
-use Rattle.std.proofs.Common.{◌≡◌, ◌≢◌, ◌⊎◌, ℕ, ◌<◌, ◌≤◌, ◌==◌, zero, suc, List, [], ◌∷◌, ◌++◌, length, map, get_or, set, AllPairs, Contains, Some, Ok, inl, inr, refl, sym, ap, ◌∙◌, subst, arith, append_assoc, length-append, eq-eqb}
+use Rattle.std.proofs.Common.{◌≡◌, ◌≢◌, ◌⊎◌, ℕ, ◌<◌, ◌≤◌, ◌==◌, zero, suc, List, [], ◌∷◌, ◌++◌, length, map, get_or, set, All, AllPairs, Contains, Some, Ok, inl, inr, refl, sym, ap, ◌∙◌, subst, arith, append_assoc, length-append, eq-eqb}
 use Rattle.std.proofs.lemmas.Bool.{cases_lt, eqb-true}
 use Rattle.std.proofs.lemmas.List.{get_or_past, get_or-map, length-map, map-append}
 use Rattle.std.proofs.lemmas.List.Elements.{Contains-append_left, Contains-append_cases, Contains-get_or}
@@ -15,7 +15,7 @@ use Rattle.weave_entries.specs.declared.store_log.StoreEntry.{StoreEntry}
 use Rattle.weave_entries.specs.declared.store_log.StoreDeed.{StoreDeed}
 use Rattle.weave_entries.specs.declared.store_log.StoreDeed.TheVariants.{Judged}
 use Rattle.weave_entries.specs.declared.verdict.Verdict.{Verdict}
-use Rattle.weave_entries.specs.GateReplay.{Begun, begun_by, begun_in, flight_of, program_by, tx_by, txs_of}
+use Rattle.weave_entries.specs.GateReplay.{Begun, begun_by, begun_in, flight_of, program_by, running_of, tx_by, txs_of}
 use Rattle.weave_entries.specs.GateRules.{IsGateLog}
 use Rattle.weave_entries.specs.StoreReplay.{Judgement, judged_by, judgements_of}
 use Rattle.weave_entries.specs.StoreRule.{stamps_judged}
@@ -25,6 +25,7 @@ use Rattle.weave_account.specs.Account.{all_begun, gate_log}
 use Rattle.weave_account.specs.Clocks.{IsKnown}
 use Rattle.weave_account.specs.GoesOn.{IsBeginningOf}
 use Rattle.seen_logs.specs.References.{GateRefersAs}
+use Rattle.seen_logs.specs.Seen.{IsWithin}
 use Rattle.seen_logs.proofs.Listed.{flat-on, has-on}
 use Rattle.seen_logs.proofs.MakesAccount.{tx-begun}
 use Rattle.seen_logs.specs.Entries.{gate_entries, gate_entry, gate_pair, gate_pairs, store_entry}
@@ -44,6 +45,7 @@ use Rattle.weaver_locks.specs.Onward.{GoesOnWithout}
 use Rattle.weaver_locks.specs.StoreHolds.{JudgesIn}
 use Rattle.weaver_locks.proofs.Adding.{AddsNone, gate_author}
 use Rattle.weaver_locks.proofs.Passing.{gate_none, stays}
+use Rattle.weaver_locks.proofs.Running.{still_running}
 use Rattle.weaver_locks.proofs.Sending.{flight_goes_on}
 
 -- A judgement has the author of its entry
@@ -289,6 +291,36 @@ module _ (laws : HandLaws) (shared : Shared) (old new : Hand) (is_old : IsHand s
       subst (λ n. flight_of (gate_log (seen_by new) gate) ≡ Some (record { author = n; request = request; stamp = stamp })) (sym number)
       (ap flight_of more.1 ∙ flight_goes_on rules gate (length shared.shards.items) log more.0 flight legal flies
       (subst (AddsNone gate_author (hand_number old) log) more.1 no-own))
+
+  -- a program of the hand that was running still is
+  pub runs-still : (request : ℕ) (stamp : Stamp) → Contains (running_of (gate_log (seen_by old) gate))
+      (record { author = hand_number old; request = request; stamp = stamp })
+      → Contains (running_of (gate_log (seen_by new) gate)) (record { author = hand_number new; request = request; stamp = stamp })
+  runs-still request stamp runs =
+      let log = gate_log (seen_by old) gate in
+      let program : Begun = record { author = hand_number old; request = request; stamp = stamp } in
+      let none = no-own in
+      let now : Contains (running_of (log ++ more.0)) program = still_running log more.0 program (λ e has by.
+      let cut = cut_at more.0 e has in
+      let at : gate_log (seen_by new) gate ≡ (log ++ cut.before) ++ e ∷ cut.after =
+      more.1 ∙ (ap (λ (l : List GateEntry). log ++ l) cut.is ∙ sym (append_assoc log cut.before (e ∷ cut.after))) in
+      none (log ++ cut.before) e cut.after at (by, omega (arith, length-append log cut.before))) runs in
+      subst (λ n. Contains (running_of (gate_log (seen_by new) gate)) (record { author = n; request = request; stamp = stamp })) (sym number)
+      (subst (λ (l : List GateEntry). Contains (running_of l) program) (sym more.1) now)
+
+-- what a hand may have judged it still may
+pub judges-still : (old new : Hand) → hand_number new ≡ hand_number old → (made_by new).store ≡ (made_by old).store
+    → IsWithin (seen_by old) (seen_by new) → (request : ℕ) (stamp : Stamp) → MayJudge old request stamp → MayJudge new request stamp
+judges-still old new number made more request stamp may =
+    let home = may.begun.0 in
+    let log = gate_log (seen_by old) home in
+    let later = gate_log (seen_by new) home in
+    let mine : Begun = record { author = hand_number old; request = request; stamp = stamp } in
+    let there = has-on (txs_of log) (txs_of later) (flat-on (λ (e : GateEntry). tx_by e.author e.deed) log later (more.gates home)) mine may.begun.1 in
+    record {
+      begun = (home, subst (λ n. Contains (txs_of later) (record { author = n; request = request; stamp = stamp })) (sym number) there);
+      new = subst (λ (l : List StoreEntry). All (λ (judged : Stamp). id_of judged ≢ id_of stamp) (stamps_judged l)) (sym made) may.new;
+    }
 
 pub may-send : (laws : HandLaws) (rules : GateLaws) (shared : Shared) (old new : Hand) (gate request : ℕ) (stamp : Stamp)
     (ops : List Op) (verdict : Verdict) → IsHand shared old → IsHand shared new → IsInFlight old gate request stamp

@@ -39,3 +39,5 @@ pub mod Begun
 pub mod Starting
 pub mod Fitting
 pub mod NewHands
+pub mod Crossing
+pub mod Hearing

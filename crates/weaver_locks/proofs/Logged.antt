@@ -7,7 +7,7 @@ use Rattle.proof_base.proofs.Members.{has_cut, has_head, has_tail}
 use mathlib.Core.List.{IsPrefix}
 use Rattle.weave_account.specs.GoesOn.{IsBeginningOf}
 use Rattle.chronicle.specs.Logs.{Log, entries_of}
-use Rattle.weaver_locks.specs.HoldLaws.{AreAtPlacesSeen}
+use Rattle.weaver_locks.specs.HandLaws.{KeepsPlaces}
 
 module _ {A : Type 0} where
   -- an element within the first of two lists
@@ -53,7 +53,7 @@ module _ {E R : Type 0} (entry : ℕ × E → R) (pair : R → ℕ × E) (back :
   cut_pairs log before after e is = sym (pairs_back log) ∙ (ap (λ (l : List R). map pair l) is ∙ map-append pair before (e ∷ after))
 
   -- no entry of the author is past what its pass has seen, if the pass has all of them
-  pub none_past : AreAtPlacesSeen E → (author : ℕ) (had log : Log E) → IsPrefix had log
+  pub none_past : KeepsPlaces E → (author : ℕ) (had log : Log E) → IsPrefix had log
       → entries_of author log ≡ entries_of author had → (before after : List R) (e : R) → map entry log ≡ before ++ e ∷ after
       → (pair e).0 ≡ author → length (map entry had) ≤ length before → ⊥
   none_past places author had log on own before after e is mine past =
@@ -61,7 +61,7 @@ module _ {E R : Type 0} (entry : ℕ × E → R) (pair : R → ℕ × E) (back :
       absurd (omega (arith, low, length-map before pair, length-map had entry, past))
 
   -- so it is past what was there before, if it is past what was seen
-  pub past_before : AreAtPlacesSeen E → (author : ℕ) (had : Log E) (settled added : List R) → IsPrefix had (map pair settled)
+  pub past_before : KeepsPlaces E → (author : ℕ) (had : Log E) (settled added : List R) → IsPrefix had (map pair settled)
       → entries_of author (map pair settled) ≡ entries_of author had → (before after : List R) (e : R)
       → settled ++ added ≡ before ++ e ∷ after → (pair e).0 ≡ author → length (map entry had) ≤ length before
       → length settled ≤ length before

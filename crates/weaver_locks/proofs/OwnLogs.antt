@@ -1,7 +1,7 @@
 -- The entries of a hand in the closed logs are its own.
 use Rattle.std.proofs.Common.{◌≡◌, ℕ, eqb, List, [], length, map, get_or, refl, sym, ap, ◌∙◌, arith}
 use Rattle.std.specs.List.{All, Contains, filter}
-use Rattle.std.proofs.lemmas.List.{get_or-map, get_or_default}
+use Rattle.std.proofs.lemmas.List.{get_or-map, get_or_default, length-map}
 use Rattle.std.proofs.lemmas.List.Elements.{All-contains}
 use Rattle.weave_entries.specs.declared.gate_log.GateDeed.{GateDeed}
 use Rattle.weave_entries.specs.declared.gate_log.GateEntry.{GateEntry}
@@ -17,7 +17,8 @@ use Rattle.chronicle.specs.Logs.{Log, entries_of}
 use Rattle.chronicle.specs.Passes.{number_of, seen, own}
 use Rattle.lock_row.proofs.Lists.{mapped_alike}
 use Rattle.weaver_locks.specs.declared.hand.Hand.{Hand}
-use Rattle.weaver_locks.specs.Hands.{hand_number, made_by}
+use Rattle.weaver_locks.specs.declared.shared.Shared.{Shared}
+use Rattle.weaver_locks.specs.Hands.{hand_number, made_by, seen_by, IsHand}
 use Rattle.weaver_locks.specs.Closing.{entries_by}
 use Rattle.weaver_locks.proofs.Lists.{filtered, map_twice}
 use Rattle.weaver_locks.proofs.ClosedRun.{IsClosedRun}
@@ -42,6 +43,20 @@ module _ {E R : Type 0} (entry : ℕ × E → R) (author : R → ℕ) (same : (x
       (λ k p log low. own_in (get_or logs k log) (get_or row k p) (numbers k p low)
       (ap (entries_of number) (get_or_default logs k log [] (omega (arith, low, long))) ∙ (is k ∙ ap (entries_of number) (get_or-map seen row k p [] low))))
       ∙ sym (map_twice (map entry) own row))
+
+-- what a hand made is what it has seen of itself
+pub made_of_seen : (shared : Shared) (hand : Hand) → IsHand shared hand → made_by hand ≡ entries_by (hand_number hand) (seen_by hand)
+made_of_seen shared hand is =
+    let n : ℕ = hand_number hand in
+    let gates = map seen hand.gates.items in
+    let shards = map seen hand.shards.items in
+    let gates_own = own_in_row gate_entry (λ (e : GateEntry). e.author) (λ x. refl) n gates hand.gates.items
+    (length-map hand.gates.items seen) is.gate_numbers (λ k. refl) in
+    let store_own = own_in store_entry (λ (e : StoreEntry). e.author) (λ x. refl) n (seen hand.store) hand.store refl refl in
+    let oracle_own = own_in oracle_entry (λ (e : OracleEntry). e.author) (λ x. refl) n (seen hand.oracle) hand.oracle is.oracle_number refl in
+    let shards_own = own_in_row shard_entry (λ (e : ShardEntry). e.author) (λ x. refl) n shards hand.shards.items
+    (length-map hand.shards.items seen) is.shard_numbers (λ k. refl) in
+    sym (λ i. record { gates = gates_own i; store = store_own i; oracle = oracle_own i; shards = shards_own i; sessions = [] })
 
 module _ (hands : List Hand) (passes : ℕ) (gates_start : List (Log GateDeed)) (store_start : Log StoreDeed)
     (oracle_start : Log OracleDeed) (shards_start : List (Log ShardDeed)) (gates : List (Log GateDeed)) (store : Log StoreDeed)

@@ -65,7 +65,7 @@ module _ (laws : HoldLaws) (shared : Shared) (old new : Hand) (shard : ℕ) (bef
 
   no_store_entry : (cut after : List StoreEntry) (e : StoreEntry) → next.store ≡ cut ++ e ∷ after → IsOwn n was.store cut e.author → ⊥
   no_store_entry cut after e at mine =
-      none_past store_entry store_pair (λ x. refl) laws.store_places n (seen old.store) (seen new.store) d.store_on.more
+      none_past store_entry store_pair (λ x. refl) laws.hand.store_places n (seen old.store) (seen new.store) d.store_on.more
       (ap (λ (m : ℕ). entries_of m (seen new.store)) (sym d.store_on.number) ∙ d.store_on.own_is) cut after e at mine.0 mine.1
 
   -- The logs of shards
@@ -108,7 +108,7 @@ module _ (laws : HoldLaws) (shared : Shared) (old new : Hand) (shard : ℕ) (bef
       → IsOwn n (shard_log was shard) cut e.author → length before ≤ length cut
   shard_added cut after e at mine =
       let past : length (shard_entries had) ≤ length cut = subst (λ (l : List ShardEntry). length l ≤ length cut) had_is mine.1 in
-      past_before shard_entry shard_pair (λ x. refl) laws.shard_places n had before added (d.found p)
+      past_before shard_entry shard_pair (λ x. refl) laws.hand.shard_places n had before added (d.found p)
       (d.own_is p ∙ ap (λ (m : ℕ). entries_of m had) own_number) cut after e (sym here ∙ at) mine.0 past
 
   named_now : next.gates ≡ gates_seen new.gates.items
@@ -177,7 +177,7 @@ module _ (laws : HoldLaws) (shared : Shared) (old new : Hand) (shard : ℕ) (bef
   }
 
   seen_next : IsSeenByHand many n (start_of shared) next
-  seen_next = laws.hands (length shared.gates.items) many n (start_of shared) was next d.hand.seen within legal.shard_logs adds
+  seen_next = laws.hand.see_more (length shared.gates.items) many n (start_of shared) was next d.hand.seen within legal.shard_logs adds
 
   -- The hand
 

@@ -272,7 +272,7 @@ module _ (shared : Shared) (old now : Hand) (shard : ℕ) (held : Held NotedShar
   own_there laws cut after e at mine =
       let own_is = i.own_is i.pass ∙ ap (λ (k : ℕ). entries_of k had) (hand.shard_numbers shard i.pass low_old) in
       let split = cut_pairs shard_entry shard_pair (λ x. refl) (shard_pairs before) cut after e (shards_back before ∙ at) in
-      let there = laws.shard_places (hand_number old) had (shard_pairs before) (shard_pairs cut) (shard_pairs after) (shard_pair e) (i.found i.pass) own_is split mine in
+      let there = laws.hand.shard_places (hand_number old) had (shard_pairs before) (shard_pairs cut) (shard_pairs after) (shard_pair e) (i.found i.pass) own_is split mine in
       omega (arith, there, length-map cut shard_pair, ap (λ (l : List ShardEntry). length l) had_is, length-map had shard_entry)
 
   module _ (laws : HoldLaws) (ask : AskLaws) (passes later : List (Pass GateDeed)) (passes_is : passes ≡ now.gates.items)

@@ -116,7 +116,7 @@ module _ (laws : HoldLaws) (shared : Shared) (old new : Hand) (before added : Li
   }
 
   seen_next : IsSeenByHand many n (start_of shared) next
-  seen_next = laws.hands (length shared.gates.items) many n (start_of shared) was next d.hand.seen within legal.shard_logs adds
+  seen_next = laws.hand.see_more (length shared.gates.items) many n (start_of shared) was next d.hand.seen within legal.shard_logs adds
 
   -- The hand
 

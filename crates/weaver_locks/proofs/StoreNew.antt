@@ -105,7 +105,7 @@ module _ (laws : HoldLaws) (shared : Shared) (old now : Hand) (held : Held Noted
       seen_own e cut after at mine =
           let had = seen old.store in
           let split = cut_pairs store_entry store_pair (λ x. refl) (store_pairs was.store) cut after e (stores_back was.store ∙ at) in
-          let low = laws.store_places (hand_number old) had (store_pairs was.store) (store_pairs cut) (store_pairs after) (store_pair e) i.found i.own_is split mine in
+          let low = laws.hand.store_places (hand_number old) had (store_pairs was.store) (store_pairs cut) (store_pairs after) (store_pair e) i.found i.own_is split mine in
           let on : IsBeginningOf (seen_by old).store was.store = subst (λ (l : List StoreEntry). IsBeginningOf (seen_by old).store l) (stores_back was.store)
           (records_on store_entry store_pair (λ x. refl) had (store_pairs was.store) i.found) in
           let within = inside (seen_by old).store on.0 cut after e (sym on.1 ∙ at)

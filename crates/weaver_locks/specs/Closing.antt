@@ -5,9 +5,12 @@ use Rattle.weave_entries.specs.declared.gate_log.GateEntry.{GateEntry}
 use Rattle.weave_entries.specs.declared.oracle_log.OracleEntry.{OracleEntry}
 use Rattle.weave_entries.specs.declared.shard_log.ShardEntry.{ShardEntry}
 use Rattle.weave_entries.specs.declared.store_log.StoreEntry.{StoreEntry}
+use Rattle.weave_entries.specs.Logs.{AtEachEntry}
 use Rattle.gatekeeper.specs.Gates.{GateView}
 use Rattle.shard_node.specs.Shards.{ShardView}
 use Rattle.weave_account.specs.declared.account.Account.{Account}
+use Rattle.weave_account.specs.Account.{gate_log, shard_log}
+use Rattle.seen_logs.specs.Closed.{IsOfHands}
 use Rattle.seen_logs.specs.Seen.{AreLegal, IsSeenByHand}
 use Rattle.weaver_locks.specs.declared.hand.Hand.{Hand}
 use Rattle.weaver_locks.specs.Hands.{hand_number, seen_by}
@@ -33,8 +36,8 @@ pub record AreInOrder (gates : List GateView) (shards : List ShardView) : Type 0
 
 -- Machines may be put behind locks if they are in order, and their logs are legal and refer to nothing but themselves.
 -- Those of an account do.
-pub record MayStart (gates : List GateView) (store : List StoreEntry) (oracle : List OracleEntry) (shards : List ShardView)
-    : Type 0 where
+pub record MayStart (gates : List GateView) (store : List StoreEntry) (oracle : List OracleEntry)
+    (shards : List ShardView) : Type 0 where
   pub some_gate : 1 ≤ length gates
   pub few_gates : length gates ≤ 8
   pub some_shard : 1 ≤ length shards
@@ -49,6 +52,19 @@ abbrev pub seen_by_number : List Hand → ℕ → Account
 seen_by_number [] number = record { gates = []; store = []; oracle = []; shards = []; sessions = [] }
 seen_by_number (hand ∷ hands) number =
     if hand_number hand == number then seen_by hand else seen_by_number hands number
+
+-- each entry of these logs was there at the start, or is of one of that many hands, which has seen it
+pub record AreEntriesOfHands (hands : ℕ) (start : Account) (seen_by : ℕ → Account) (closed : Account) : Type 0 where
+  pub gate_entries : (home : ℕ) → AtEachEntry (λ before (entry : GateEntry).
+      IsOfHands hands (gate_log start home) (λ number. gate_log (seen_by number) home) before entry.author)
+      (gate_log closed home)
+  pub store_entries : AtEachEntry (λ before (entry : StoreEntry).
+      IsOfHands hands start.store (λ number. (seen_by number).store) before entry.author) closed.store
+  pub oracle_entries : AtEachEntry (λ before (entry : OracleEntry).
+      IsOfHands hands start.oracle (λ number. (seen_by number).oracle) before entry.author) closed.oracle
+  pub shard_entries : (shard : ℕ) → AtEachEntry (λ before (entry : ShardEntry).
+      IsOfHands hands (shard_log start shard) (λ number. shard_log (seen_by number) shard) before entry.author)
+      (shard_log closed shard)
 
 -- the entries of each log that have this author
 abbrev pub entries_by : ℕ → Account → Account

@@ -1,6 +1,5 @@
 -- The laws of the crates below that closed logs stand on, in one. No public contract cites this.
 use Rattle.std.specs.Prelude.{◌≡◌, ℕ, ◌<◌, ◌≤◌, List, [], ◌∷◌, ◌++◌, map, length, slice_index_or}
-use mathlib.Core.List.{IsPrefix}
 use Rattle.weave_entries.specs.declared.gate_log.GateDeed.{GateDeed}
 use Rattle.weave_entries.specs.declared.gate_log.GateEntry.{GateEntry}
 use Rattle.weave_entries.specs.declared.oracle_log.OracleDeed.{OracleDeed}
@@ -12,15 +11,14 @@ use Rattle.weave_entries.specs.declared.store_log.StoreEntry.{StoreEntry}
 use Rattle.weave_account.specs.GoesOn.{IsBeginningOf}
 use Rattle.seen_logs.specs.Entries.{account_of_logs, gate_entry, gate_pair, oracle_entry, oracle_pair, shard_entry, shard_pair, store_entry, store_pair}
 use Rattle.seen_logs.specs.Seen.{IsWithin}
-use Rattle.chronicle.specs.Logs.{entries_of, IsGrown}
+use Rattle.chronicle.specs.Logs.{IsGrown}
+use Rattle.weaver_locks.specs.HandLaws.{KeepsPlaces}
 
 -- where the entries of authors are
 pub record OwnEntries (E : Type 0) : Type 0 where
   pub authors : (passes : ℕ) (start log before after : List (ℕ × E)) (entry : ℕ × E) → IsGrown passes start log
       → log ≡ before ++ entry ∷ after → length start ≤ length before → entry.0 < passes
-  pub places : (author : ℕ) (seen log before after : List (ℕ × E)) (entry : ℕ × E) → IsPrefix seen log
-      → entries_of author log ≡ entries_of author seen → log ≡ before ++ entry ∷ after → entry.0 ≡ author
-      → length before < length seen
+  pub places : KeepsPlaces E
 
 -- the law of accounts of logs of locks that is used here
 abbrev pub MoreIsSeen : Type 0

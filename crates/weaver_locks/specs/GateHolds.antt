@@ -47,11 +47,13 @@ pub record MaySend (seen : Account) (number gate : ℕ) (ops : List Op) (verdict
   pub own : flight.author ≡ number
   pub judged : HasJudged seen flight ops verdict
 
--- The hand's transaction was in flight, and its messages were sent by the verdict, unless it was out of memory.
+-- The hand's transaction was in flight, as the hand had seen, and its messages were sent by the verdict, unless it was
+-- out of memory.
 pub record SendsIn (shards : ℕ) (old new : Hand) (gate : ℕ) (before : List GateEntry) (ops : List Op)
     (verdict : Verdict) (result : Result (Unit {0}) GateFault) : Type 0 where
   pub flight : Begun
   pub flies : flight_of before ≡ Some flight
+  pub as_seen : flight_of (gate_log (seen_by old) gate) ≡ Some flight
   pub own : flight.author ≡ hand_number old
   pub was : WasAtGate shards old new gate before
       (gate_entries_of old (λ _. Sent flight.request (messages_of shards before flight ops verdict)) result)

@@ -36,7 +36,8 @@ arrival_entries hand deed (Ok Repeat) = []
 arrival_entries hand deed (Err fault) = []
 
 -- A hand was in the lock of a shard, whose log was `before`, and added these entries of its own there, and these to the
--- oracle's log within it, and nothing else anywhere. It has seen the shard's log whole, and all that its entries refer to.
+-- oracle's log within it, and nothing else anywhere. It has seen the shard's log whole, and all that its entries refer
+-- to.
 pub record WasAtShard (shards : ℕ) (old new : Hand) (shard : ℕ) (before added : List ShardEntry)
     (asked : List OracleEntry) : Type 0 where
   pub number : hand_number new ≡ hand_number old

@@ -1,4 +1,5 @@
--- What a hold of the store, with the oracle's within it, is for the hand that is in it, and what a judgement answers there.
+-- What a hold of the store, with the oracle's within it, is for the hand that is in it, and what a judgement answers
+-- there.
 use Rattle.std.specs.Prelude.{◌≡◌, ◌∷◌, ◌++◌, ℕ, List, [], map, Result, Ok, Err, IfOk}
 use Rattle.std.specs.declared.alloc.AllocError.{AllocError}
 use Rattle.graph_ops.specs.declared.op.Op.{Op}
@@ -16,7 +17,8 @@ use Rattle.weaver_locks.specs.Hands.{hand_number, made_by, seen_by, with_store_e
 -- A hand was in the lock of the store, whose log was `before`, and within it in that of the oracle, whose log was
 -- `settled`. It added these entries of its own there, and nothing else anywhere. It has seen both logs whole, and all
 -- that their entries refer to.
-pub record WasAtStore (old new : Hand) (before added : List StoreEntry) (settled asked : List OracleEntry) : Type 0 where
+pub record WasAtStore (old new : Hand) (before added : List StoreEntry) (settled asked : List OracleEntry)
+    : Type 0 where
   pub number : hand_number new ≡ hand_number old
   pub found : IsBeginningOf (seen_by old).store before
   pub oracle_found : IsBeginningOf (seen_by old).oracle settled
@@ -28,7 +30,8 @@ pub record WasAtStore (old new : Hand) (before added : List StoreEntry) (settled
   pub oracle_refers : OracleRefersWithin (seen_by new)
 
 -- the store's entry of a judgement, and the oracle's if it added a pair; none if it was out of memory
-abbrev pub judged_entries : {F : Type 0} → ℕ → ℕ → Stamp → List Op → List StoreEntry → Result Verdict F → List StoreEntry
+abbrev pub judged_entries : {F : Type 0} → ℕ → ℕ → Stamp → List Op → List StoreEntry → Result Verdict F
+    → List StoreEntry
 judged_entries author request stamp ops before (Ok verdict) = judged_entry author request stamp ops before verdict ∷ []
 judged_entries author request stamp ops before (Err fault) = []
 

@@ -1,10 +1,10 @@
 //! The machines come out of their locks.
-ghost use Rattle.std.specs.Prelude.{◌≡◌, ◌≤◌, ◌<◌, ℕ, length, map, vec_len, All, Contains};
+ghost use Rattle.std.specs.Prelude.{◌≡◌, ◌≤◌, ◌<◌, ℕ, map, vec_len, All, Contains};
 ghost use Rattle.seen_logs.specs.Closed.{AreOfHands};
-ghost use Rattle.seen_logs.specs.Seen.{AreLegal, VisitsOwnPrograms};
-ghost use Rattle.weaver_locks.specs.Closing.{AreInOrder, entries_by, logs_of, seen_by_number};
-ghost use Rattle.weaver_locks.specs.Hands.{hand_number, made_by, IsHand};
-ghost use Rattle.weaver_locks.specs.Locks.{hands_of, start_of};
+ghost use Rattle.seen_logs.specs.Seen.{AreLegal, IsWithin, VisitsOwnPrograms};
+ghost use Rattle.weaver_locks.specs.Closing.{AreInOrder, AreEntriesOfHands, entries_by, logs_of, seen_by_number};
+ghost use Rattle.weaver_locks.specs.Hands.{hand_number, made_by, seen_by, IsHand};
+ghost use Rattle.weaver_locks.specs.Locks.{gate_count, hands_of, shard_count, start_of};
 
 use crate::closed_rows::close_row;
 use crate::closing_laws::closed_logs_keep_their_laws;
@@ -32,14 +32,18 @@ impl Shared {
         requires each { All (IsHand self) hands.items }
         requires all { (number : ℕ) → number < hands_of self → Contains (map hand_number hands.items) number }
         requires count { vec_len hands ≤ hands_of self }
-        ensures gates { vec_len result.gates ≡ length self.gates.items }
-        ensures shards { vec_len result.shards ≡ length self.shards.items }
+        ensures gates { vec_len result.gates ≡ gate_count self }
+        ensures shards { vec_len result.shards ≡ shard_count self }
         ensures order { AreInOrder result.gates.items result.shards.items }
-        ensures legal { AreLegal (length self.gates.items) (length self.shards.items)
+        ensures legal { AreLegal (gate_count self) (shard_count self)
+            (logs_of result.gates.items result.store result.oracle result.shards.items) }
+        ensures within { All (λ hand. IsWithin (seen_by hand)
+            (logs_of result.gates.items result.store result.oracle result.shards.items)) hands.items }
+        ensures entries { AreEntriesOfHands (hands_of self) (start_of self) (seen_by_number hands.items)
             (logs_of result.gates.items result.store result.oracle result.shards.items) }
         ensures of_hands { ((number : ℕ) → number < hands_of self
             → VisitsOwnPrograms number (start_of self) (seen_by_number hands.items number))
-            → AreOfHands (length self.shards.items) (hands_of self) (start_of self) (seen_by_number hands.items)
+            → AreOfHands (shard_count self) (hands_of self) (start_of self) (seen_by_number hands.items)
             (logs_of result.gates.items result.store result.oracle result.shards.items) }
         ensures made { All (λ hand. entries_by (hand_number hand)
             (logs_of result.gates.items result.store result.oracle result.shards.items) ≡ made_by hand) hands.items }

@@ -1,7 +1,8 @@
 //! Calls of one hold of a gatekeeper.
-ghost use Rattle.std.specs.Prelude.{◌≡◌, ◌<◌, List, [], not, is_some, length, IsTrue, IfOk};
+ghost use Rattle.std.specs.Prelude.{◌≡◌, ◌<◌, List, [], not, is_some, IsTrue, IfOk};
 ghost use Rattle.std.specs.List.{list_any};
 ghost use Rattle.std.specs.Option.{ForSome};
+ghost use Rattle.vector_stamp.specs.Clocks.{counts_no_more};
 ghost use Rattle.vector_stamp.specs.Order.{has_64_bits, stamp_before};
 ghost use Rattle.shard_queue.specs.Sent.{sent_as};
 ghost use Rattle.weave_entries.specs.declared.gate_log.GateEntry.{GateEntry};
@@ -12,6 +13,7 @@ ghost use Rattle.weave_account.specs.Clocks.{IsKnown};
 ghost use Rattle.seen_logs.specs.References.{ArrivesAsSeen, EndsAsSeen};
 ghost use Rattle.weaver_locks.specs.Hands.{hand_number, seen_by, IsHand};
 ghost use Rattle.weaver_locks.specs.GateHolds.{gate_entries_of, MaySend, SendsIn, WasAtGate};
+ghost use Rattle.weaver_locks.specs.Locks.{gate_count, shard_count};
 
 use crate::gate_laws::gates_keep_their_laws;
 use crate::hand::Hand;
@@ -37,14 +39,15 @@ impl Shared {
         last: Option<Stamp>,
     ) -> Result<Stamp, GateFault>
         requires hand { IsHand self.now hand.old }
-        requires gate { gate < length self.now.gates.items }
+        requires gate { gate < gate_count self.now }
         requires last { ForSome last (λ heard. IsKnown (seen_by hand.old) heard.clock) }
         ensures hand { IsHand self.now hand.new }
         ensures hold { (before : List GateEntry)
-            × WasAtGate (length self.now.shards.items) hand.old hand.new gate before
+            × WasAtGate (shard_count self.now) hand.old hand.new gate before
             (gate_entries_of hand.old (λ stamp. GateDeed.BeganTx request stamp) result)
             × IfOk result (λ stamp. stamp ≡ begun_stamp gate (clock_of gate before) last)
-            × IsRefusedWhere GateFault.Busy (is_some (flight_of before)) result }
+            × IsRefusedWhere GateFault.Busy (is_some (flight_of before)) result
+            × ForSome last (λ heard. IsTrue (counts_no_more gate (clock_of gate before) heard.clock)) }
         ensures after { IfOk result (λ stamp. ForSome last (λ heard. IsTrue (stamp_before heard stamp))) }
         ensures known { IfOk result (λ stamp. IsKnown (seen_by hand.new) stamp.clock) }
         ensures bits { IfOk result (λ stamp. IsTrue (has_64_bits stamp.clock)) }
@@ -68,13 +71,14 @@ impl Shared {
         last: Option<Stamp>,
     ) -> Result<Stamp, AllocError>
         requires hand { IsHand self.now hand.old }
-        requires gate { gate < length self.now.gates.items }
+        requires gate { gate < gate_count self.now }
         requires last { ForSome last (λ heard. IsKnown (seen_by hand.old) heard.clock) }
         ensures hand { IsHand self.now hand.new }
         ensures hold { (before : List GateEntry)
-            × WasAtGate (length self.now.shards.items) hand.old hand.new gate before
+            × WasAtGate (shard_count self.now) hand.old hand.new gate before
             (gate_entries_of hand.old (λ stamp. GateDeed.BeganProgram request stamp) result)
-            × IfOk result (λ stamp. stamp ≡ begun_stamp gate (clock_of gate before) last) }
+            × IfOk result (λ stamp. stamp ≡ begun_stamp gate (clock_of gate before) last)
+            × ForSome last (λ heard. IsTrue (counts_no_more gate (clock_of gate before) heard.clock)) }
         ensures after { IfOk result (λ stamp. ForSome last (λ heard. IsTrue (stamp_before heard stamp))) }
         ensures known { IfOk result (λ stamp. IsKnown (seen_by hand.new) stamp.clock) }
         ensures bits { IfOk result (λ stamp. IsTrue (has_64_bits stamp.clock)) }
@@ -99,11 +103,11 @@ impl Shared {
         verdict: &Verdict,
     ) -> Result<(), GateFault>
         requires hand { IsHand self.now hand.old }
-        requires gate { gate < length self.now.gates.items }
+        requires gate { gate < gate_count self.now }
         requires judged { MaySend (seen_by hand.old) (hand_number hand.old) gate ops.now verdict.now }
         ensures hand { IsHand self.now hand.new }
         ensures hold { (before : List GateEntry)
-            × SendsIn (length self.now.shards.items) hand.old hand.new gate before ops.now verdict.now result }
+            × SendsIn (shard_count self.now) hand.old hand.new gate before ops.now verdict.now result }
     {
         hands_keep_their_laws();
         gates_keep_their_laws();
@@ -124,11 +128,11 @@ impl Shared {
         request: u32,
     ) -> Result<(), GateFault>
         requires hand { IsHand self.now hand.old }
-        requires gate { gate < length self.now.gates.items }
+        requires gate { gate < gate_count self.now }
         requires visits { EndsAsSeen (seen_by hand.old) request }
         ensures hand { IsHand self.now hand.new }
         ensures hold { (before : List GateEntry)
-            × WasAtGate (length self.now.shards.items) hand.old hand.new gate before
+            × WasAtGate (shard_count self.now) hand.old hand.new gate before
             (gate_entries_of hand.old (λ _. GateDeed.Finished request) result)
             × IsRefusedWhere GateFault.Idle
             (not (list_any (is_begun (hand_number hand.old) request) (running_of before))) result }
@@ -151,12 +155,12 @@ impl Shared {
         shard: u32,
     ) -> Result<u64, GateFault>
         requires hand { IsHand self.now hand.old }
-        requires gate { gate < length self.now.gates.items }
-        requires shard { shard < length self.now.shards.items }
+        requires gate { gate < gate_count self.now }
+        requires shard { shard < shard_count self.now }
         ensures hand { IsHand self.now hand.new }
         ensures hold { (before : List GateEntry)
             × (let stamp = next_stamp gate (clock_of gate before) in
-            WasAtGate (length self.now.shards.items) hand.old hand.new gate before
+            WasAtGate (shard_count self.now) hand.old hand.new gate before
             (gate_entries_of hand.old (λ number. GateDeed.Nop shard number stamp
             (low_mark stamp (running_of before))) result))
             × IfOk result (λ number. number ≡ next_number shard before)
@@ -172,10 +176,10 @@ impl Shared {
     /// A gatekeeper's clock. It is known by what the hand has seen then. It may wait.
     pub fn say<R: Wait>(&self, rt: &R, hand: &mut Hand, gate: u32) -> Clock
         requires hand { IsHand self.now hand.old }
-        requires gate { gate < length self.now.gates.items }
+        requires gate { gate < gate_count self.now }
         ensures hand { IsHand self.now hand.new }
         ensures hold { (before : List GateEntry)
-            × WasAtGate (length self.now.shards.items) hand.old hand.new gate before []
+            × WasAtGate (shard_count self.now) hand.old hand.new gate before []
             × (result ≡ clock_of gate before) }
         ensures known { IsKnown (seen_by hand.new) result }
     {
@@ -195,11 +199,11 @@ impl Shared {
         clock: &Clock,
     ) -> Result<(), AllocError>
         requires hand { IsHand self.now hand.old }
-        requires gate { gate < length self.now.gates.items }
+        requires gate { gate < gate_count self.now }
         requires clock { IsKnown (seen_by hand.old) clock.now }
         ensures hand { IsHand self.now hand.new }
         ensures hold { (before : List GateEntry)
-            × WasAtGate (length self.now.shards.items) hand.old hand.new gate before
+            × WasAtGate (shard_count self.now) hand.old hand.new gate before
             (gate_entries_of hand.old (λ _. GateDeed.Heard clock.now) result) }
     {
         gates_keep_their_laws();
@@ -222,13 +226,13 @@ impl Shared {
         number: u64,
     ) -> Result<Option<Message>, AllocError>
         requires hand { IsHand self.now hand.old }
-        requires gate { gate < length self.now.gates.items }
+        requires gate { gate < gate_count self.now }
         ensures hand { IsHand self.now hand.new }
         ensures hold { (before : List GateEntry)
-            × WasAtGate (length self.now.shards.items) hand.old hand.new gate before []
+            × WasAtGate (shard_count self.now) hand.old hand.new gate before []
             × IfOk result (λ found. found ≡ sent_as number (channel_of shard before)) }
         ensures seen { IfOk result (λ found. ForSome found (λ message.
-            ArrivesAsSeen (seen_by hand.new) (length self.now.shards.items) shard gate number message)) }
+            ArrivesAsSeen (seen_by hand.new) (shard_count self.now) shard gate number message)) }
     {
         let mut held = self.enter_gate(rt, hand, gate);
         let found = held.state().fetch(alloc, shard, number);

@@ -1,5 +1,5 @@
 //! The way into the lock of a gatekeeper, and out of it.
-ghost use Rattle.std.specs.Prelude.{◌≡◌, ◌<◌, List, [], length};
+ghost use Rattle.std.specs.Prelude.{◌≡◌, ◌<◌, List, []};
 ghost use Rattle.weave_entries.specs.declared.gate_log.GateEntry.{GateEntry};
 ghost use Rattle.seen_logs.specs.Seen.{IsWithin};
 ghost use Rattle.chronicle.specs.Holds.{machine_of};
@@ -8,6 +8,7 @@ ghost use Rattle.weaver_locks.specs.declared.hand.Hand.{Hand};
 ghost use Rattle.weaver_locks.specs.GateHolds.{WasAtGate};
 ghost use Rattle.weaver_locks.specs.Hands.{seen_by, IsHand};
 ghost use Rattle.weaver_locks.specs.InGate.{without_oracle, IsInGate};
+ghost use Rattle.weaver_locks.specs.Locks.{gate_count, shard_count};
 
 use crate::gate_laws::gates_keep_their_laws;
 use crate::hand::Hand;
@@ -26,7 +27,7 @@ impl Shared {
         gate: u32,
     ) -> Held<'_, NotedGate>
         requires hand { IsHand self.now hand.old }
-        requires gate { gate < length self.now.gates.items }
+        requires gate { gate < gate_count self.now }
         ensures inside { IsInGate self.now hand.old hand.new gate (machine_of result).gate.log [] result }
         ensures kept { IsKept (machine_of result).gate (machine_of result).notes }
         ensures within { IsWithin (without_oracle (seen_by hand.old))
@@ -52,14 +53,14 @@ impl Shared {
 
     // Leaves the lock of a gatekeeper, with what the hand has added to the log there.
     pub(crate) fn leave_gate(&self, mut held: Held<'_, NotedGate>, hand: &mut Hand, gate: u32)
-        requires gate { gate < length self.now.gates.items }
+        requires gate { gate < gate_count self.now }
         requires inside { (old : Hand) × (before : List GateEntry) × (added : List GateEntry)
             × IsHand self.now old × IsInGate self.now old hand.old gate before added held }
         ensures hand { (old : Hand) (before added : List GateEntry) → IsHand self.now old
             → IsInGate self.now old hand.old gate before added held.entry → IsHand self.now hand.new }
         ensures was { (old : Hand) (before added : List GateEntry) → IsHand self.now old
             → IsInGate self.now old hand.old gate before added held.entry
-            → WasAtGate (length self.now.shards.items) old hand.new gate before added }
+            → WasAtGate (shard_count self.now) old hand.new gate before added }
         ensures seen { (old : Hand) (before added : List GateEntry) → IsHand self.now old
             → IsInGate self.now old hand.old gate before added held.entry
             → seen_of (machine_of held.entry).gate (machine_of held.entry).notes ≡ without_oracle (seen_by hand.new) }

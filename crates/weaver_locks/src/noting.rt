@@ -65,7 +65,8 @@ pub(crate) fn note_gates(
     hand: &mut Hand,
 ) -> Result<Vec<NotedGate>, AllocError>
     requires hand { IsNewHand locks.now 0 hand.old }
-    requires kept { All (λ b. (notes : GateNotes) → GateNotesStart locks.now notes → gate.IsKept b.gate notes) bare.items }
+    requires kept { All (λ b. (notes : GateNotes) → GateNotesStart locks.now notes → gate.IsKept b.gate notes)
+        bare.items }
     ensures hand { OnOk result (IsNewHand locks.now 0 hand.new) }
     ensures gates { IfOk result (λ r. map (λ n. n.gate) r.items ≡ map (λ b. b.gate) bare.items) }
     ensures notes { IfOk result (λ r. All (λ n. GateNotesStart locks.now n.notes) r.items) }

@@ -80,17 +80,18 @@ pub(crate) fn note_all(
     hand: &mut Hand,
 ) -> Result<Machines, AllocError>
     requires hand { IsNewHand locks.now 0 hand.old }
-    requires gates { All (λ b. (notes : GateNotes) → GateNotesStart locks.now notes → gate.IsKept b.gate notes) gates.items }
+    requires gates { All (λ b. (notes : GateNotes) → GateNotesStart locks.now notes → gate.IsKept b.gate notes)
+        gates.items }
     requires store { StoreIsKept count (gates_start locks.now) (oracle_entries (lock_of locks.now.oracle).start) store }
     requires oracle { OracleIsKept count (gates_start locks.now) oracle }
-    requires shards { All (λ b. (notes : ShardNotes) → ShardNotesStart locks.now notes → shard.IsKept b.shard count notes)
-        shards.items }
+    requires shards { All (λ b. (notes : ShardNotes) → ShardNotesStart locks.now notes
+        → shard.IsKept b.shard count notes) shards.items }
     ensures hand { OnOk result (IsNewHand locks.now 0 hand.new) }
     ensures gates { IfOk result (λ m. map (λ n. n.gate) m.gates.items ≡ map (λ b. b.gate) gates.items) }
     ensures gate_notes { IfOk result (λ m. All (λ n. GateNotesStart locks.now n.notes) m.gates.items) }
     ensures store { IfOk result (λ m. m.store.store ≡ store) }
-    ensures store_frame { IfOk result (λ m. (m.store.shards ∷ []) ∷ lock_noted m.store.oracle ∷ map lock_noted m.store.gates
-        ≡ frame_for_store locks.now count) }
+    ensures store_frame { IfOk result (λ m.
+        (m.store.shards ∷ []) ∷ lock_noted m.store.oracle ∷ map lock_noted m.store.gates ≡ frame_for_store locks.now count) }
     ensures oracle { IfOk result (λ m. m.oracle.oracle ≡ oracle) }
     ensures oracle_frame { IfOk result (λ m. (m.oracle.shards ∷ []) ∷ map lock_noted m.oracle.gates
         ≡ frame_for_oracle locks.now count) }

@@ -1,13 +1,13 @@
 //! Machines are put behind locks.
-ghost use Rattle.std.specs.Prelude.{◌≡◌, ◌≤◌, ◌<◌, ℕ, IfOk, length, slice_index_or, vec_len};
+ghost use Rattle.std.specs.Prelude.{◌≡◌, ◌≤◌, ◌<◌, ℕ, IfOk, slice_index_or, vec_len};
 ghost use Rattle.weaver_locks.specs.Closing.{logs_of, MayStart};
 ghost use Rattle.weaver_locks.specs.Hands.{hand_number, seen_by, IsHand};
-ghost use Rattle.weaver_locks.specs.Locks.{hands_of, start_of};
+ghost use Rattle.weaver_locks.specs.Locks.{gate_count, hands_of, shard_count, start_of};
 
 use crate::bare::{bare_gates, bare_shards};
 use crate::dealing::deal_hands;
 use crate::hand::Hand;
-use crate::locks::{Locks, reserve_all};
+use crate::locks::reserve_all;
 use crate::noting_all::{fill_all, note_all};
 use crate::opening_all::open_all;
 use crate::opening_laws::new_locks_keep_their_laws;
@@ -31,8 +31,8 @@ impl Shared {
     ) -> Result<(Shared, Vec<Hand>), AllocError>
         requires hands { 1 ≤ hands }
         requires start { MayStart gates.items store oracle shards.items }
-        ensures gates { IfOk result (λ r. length r.0.gates.items ≡ vec_len gates) }
-        ensures shards { IfOk result (λ r. length r.0.shards.items ≡ vec_len shards) }
+        ensures gates { IfOk result (λ r. gate_count r.0 ≡ vec_len gates) }
+        ensures shards { IfOk result (λ r. shard_count r.0 ≡ vec_len shards) }
         ensures hand_count { IfOk result (λ r. hands_of r.0 ≡ hands) }
         ensures start { IfOk result (λ r. start_of r.0 ≡ logs_of gates.items store oracle shards.items) }
         ensures count { IfOk result (λ r. vec_len r.1 ≡ hands) }
@@ -43,13 +43,13 @@ impl Shared {
         new_locks_keep_their_laws();
         let gate_len = gates.len();
         let shard_len = shards.len();
-        let gate_count = gate_len as u32;
-        let shard_count = shard_len as u32;
-        let rooms = make_rooms(alloc, gate_count, shard_count, hands)?;
-        let ends = make_ends(alloc, gate_count, shard_count)?;
-        let (mut locks, parts) = reserve_all(alloc, gate_count, shard_count, hands)?;
+        let gate_locks = gate_len as u32;
+        let count = shard_len as u32;
+        let rooms = make_rooms(alloc, gate_locks, count, hands)?;
+        let ends = make_ends(alloc, gate_locks, count)?;
+        let (mut locks, parts) = reserve_all(alloc, gate_locks, count, hands)?;
         let bare = bare_gates(alloc, gates, &locks)?;
-        let bare_shards = bare_shards(alloc, shards, shard_count, &locks)?;
+        let bare_shards = bare_shards(alloc, shards, count, &locks)?;
         let (passes, places) = open_all(
             alloc,
             &mut locks,
@@ -66,22 +66,16 @@ impl Shared {
             store,
             oracle,
             bare_shards,
-            shard_count,
+            count,
             &locks,
             &mut dealt[0],
         )?;
         fill_all(&mut locks, places, machines);
-        let Locks {
-            gates,
-            store,
-            oracle,
-            shards,
-        } = locks;
         let shared = Shared {
-            gates,
-            store,
-            oracle,
-            shards,
+            gates: locks.gates,
+            store: locks.store,
+            oracle: locks.oracle,
+            shards: locks.shards,
             rooms,
             ends,
         };

@@ -43,25 +43,19 @@ pub(crate) fn open_all(
     ensures passes { IfOk result (λ r. HaveFirst (passes_of locks.new) locks.new r.0) }
     ensures places { IfOk result (λ r. AreEmpty locks.new r.1) }
 {
-    let Parts {
-        gates: gate_parts,
-        store: store_part,
-        oracle: oracle_part,
-        shards: shard_parts,
-    } = parts;
     let count = shards.len() as u32;
-    let (gate_passes, gate_places) = open_row(alloc, &mut locks.gates, gate_parts, gates, &())?;
+    let (gate_passes, gate_places) = open_row(alloc, &mut locks.gates, parts.gates, gates, &())?;
     let (shard_passes, shard_places) = open_row(
         alloc,
         &mut locks.shards,
-        shard_parts,
+        parts.shards,
         shards,
         &(),
     )?;
     let row = Snapshot::of(&locks.gates);
     let (oracle_passes, oracle_place) = open_oracle(
         &mut locks.oracle,
-        oracle_part,
+        parts.oracle,
         oracle,
         count,
         row,
@@ -70,7 +64,7 @@ pub(crate) fn open_all(
     let beside = Snapshot::of(&locks.oracle);
     let (store_passes, store_place) = open_store(
         &mut locks.store,
-        store_part,
+        parts.store,
         store,
         count,
         same_row,

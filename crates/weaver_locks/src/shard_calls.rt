@@ -1,10 +1,11 @@
 //! Calls of one hold of a shard.
-ghost use Rattle.std.specs.Prelude.{◌≡◌, ◌<◌, ◌≤◌, ◌+◌, List, [], is_some, length, IfErr, IfOk, OnOk, if◌then◌else◌};
+ghost use Rattle.std.specs.Prelude.{◌≡◌, ◌<◌, ◌≤◌, ◌+◌, List, [], is_some, IfErr, IfOk, OnOk, if◌then◌else◌};
 ghost use Rattle.weave_entries.specs.declared.shard_log.ShardEntry.{ShardEntry};
 ghost use Rattle.weave_entries.specs.ShardReplay.{arrived_at, processed_count};
 ghost use Rattle.shard_node.specs.Shards.{IsNext, IsRightlyUnapplied};
 ghost use Rattle.seen_logs.specs.References.{ArrivesAsSeen};
 ghost use Rattle.weaver_locks.specs.Hands.{seen_by, IsHand};
+ghost use Rattle.weaver_locks.specs.Locks.{gate_count, shard_count};
 ghost use Rattle.weaver_locks.specs.ShardHolds.{arrival_entries, shard_entries_of, WasAtShard};
 
 use crate::hand::Hand;
@@ -32,13 +33,13 @@ impl Shared {
         message: Message,
     ) -> Result<Arrival, AllocError>
         requires hand { IsHand self.now hand.old }
-        requires shard { shard < length self.now.shards.items }
-        requires gate { gate < length self.now.gates.items }
+        requires shard { shard < shard_count self.now }
+        requires gate { gate < gate_count self.now }
         requires number { 1 ≤ number }
-        requires seen { ArrivesAsSeen (seen_by hand.old) (length self.now.shards.items) shard gate number message }
+        requires seen { ArrivesAsSeen (seen_by hand.old) (shard_count self.now) shard gate number message }
         ensures hand { IsHand self.now hand.new }
         ensures hold { (before : List ShardEntry)
-            × WasAtShard (length self.now.shards.items) hand.old hand.new shard before
+            × WasAtShard (shard_count self.now) hand.old hand.new shard before
             (arrival_entries hand.old (ShardDeed.Arrived gate number message) result) []
             × IfOk result (λ arrival. arrival
             ≡ (if is_some (arrived_at gate number before) then Arrival.Repeat else Arrival.Kept)) }
@@ -65,11 +66,11 @@ impl Shared {
         gate: u32,
     ) -> Result<(), ApplyFault>
         requires hand { IsHand self.now hand.old }
-        requires shard { shard < length self.now.shards.items }
-        requires gate { gate < length self.now.gates.items }
+        requires shard { shard < shard_count self.now }
+        requires gate { gate < gate_count self.now }
         ensures hand { IsHand self.now hand.new }
         ensures hold { (before : List ShardEntry)
-            × WasAtShard (length self.now.shards.items) hand.old hand.new shard before
+            × WasAtShard (shard_count self.now) hand.old hand.new shard before
             (shard_entries_of hand.old (ShardDeed.Applied gate (processed_count gate before + 1)) result) []
             × OnOk result (IsNext gate before)
             × IfErr result (λ fault. IsRightlyUnapplied gate before fault) }

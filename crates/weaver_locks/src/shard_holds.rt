@@ -11,6 +11,7 @@ ghost use Rattle.shard_lock.specs.Notes.{frame_of};
 ghost use Rattle.weaver_locks.specs.declared.hand.Hand.{Hand};
 ghost use Rattle.weaver_locks.specs.Hands.{hand_number, IsHand};
 ghost use Rattle.weaver_locks.specs.InShard.{IsDoneInShard, IsInShard};
+ghost use Rattle.weaver_locks.specs.Locks.{shard_count};
 ghost use Rattle.weaver_locks.specs.ShardHolds.{WasAtShard};
 
 use crate::hand::Hand;
@@ -29,7 +30,7 @@ impl Shared {
         shard: u32,
     ) -> Held<'_, NotedShard>
         requires hand { IsHand self.now hand.old }
-        requires shard { shard < length self.now.shards.items }
+        requires shard { shard < shard_count self.now }
         ensures { IsInShard self.now hand.old hand.new shard result }
     {
         let mut held = self.shards[shard as usize].enter(rt, &mut hand.shards[shard as usize]);
@@ -47,8 +48,8 @@ impl Shared {
 
     /// Leaves the lock of a shard.
     pub(crate) fn leave_shard(&self, held: Held<'_, NotedShard>, hand: &mut Hand, shard: u32)
-        requires shard { shard < length self.now.shards.items }
-        requires shards { length hand.old.shards.items ≡ length self.now.shards.items }
+        requires shard { shard < shard_count self.now }
+        requires shards { length hand.old.shards.items ≡ shard_count self.now }
         requires lock { (c : _) → lock_in held ≡ lock_of (slice_index_or self.now.shards.items shard c) }
         requires pass { (p : _) → WentInWith (slice_index_or hand.old.shards.items shard p) held }
         requires frame { frame_of (machine_of held).shard (machine_of held).shards (machine_of held).notes
@@ -60,7 +61,7 @@ impl Shared {
         ensures done { (before : Hand) (found added : List ShardEntry) (asked : List OracleEntry)
             → IsDoneInShard self.now before hand.old shard (machine_of held.entry).shard.log found added asked
             → IsHand self.now hand.new
-            × WasAtShard (length self.now.shards.items) before hand.new shard found added asked }
+            × WasAtShard (shard_count self.now) before hand.new shard found added asked }
     {
         the_crates_below_keep_their_laws();
         held.leave(&mut hand.shards[shard as usize]);

@@ -1,9 +1,10 @@
 //! The call of one hold of a shard, with the oracle's within it.
-ghost use Rattle.std.specs.Prelude.{◌≡◌, ◌<◌, ℕ, length, Contains};
+ghost use Rattle.std.specs.Prelude.{◌≡◌, ◌<◌, ℕ, Contains};
 ghost use Rattle.weave_data.specs.Names.{shard_of};
 ghost use Rattle.weave_entries.specs.GateReplay.{running_of};
 ghost use Rattle.weave_account.specs.Account.{gate_log};
 ghost use Rattle.weaver_locks.specs.Hands.{hand_number, seen_by, IsHand};
+ghost use Rattle.weaver_locks.specs.Locks.{gate_count, shard_count};
 ghost use Rattle.weaver_locks.specs.ShardHolds.{VisitsIn};
 
 use crate::ask_laws::visits_keep_their_laws;
@@ -31,12 +32,12 @@ impl Shared {
         vertex: Name,
     ) -> Result<Option<Record>, VisitFault>
         requires hand { IsHand self.now hand.old }
-        requires shard { shard < length self.now.shards.items }
-        requires vertex { shard_of vertex (length self.now.shards.items) ≡ shard }
+        requires shard { shard < shard_count self.now }
+        requires vertex { shard_of vertex (shard_count self.now) ≡ shard }
         requires running { (home : ℕ) × Contains (running_of (gate_log (seen_by hand.old) home))
             (record { author = hand_number hand.old; request = request; stamp = stamp }) }
         ensures hand { IsHand self.now hand.new }
-        ensures hold { VisitsIn (length self.now.gates.items) (length self.now.shards.items) hand.old hand.new shard
+        ensures hold { VisitsIn (gate_count self.now) (shard_count self.now) hand.old hand.new shard
             request stamp vertex result }
     {
         the_crates_below_keep_their_laws();

@@ -32,9 +32,11 @@ pub struct Shared {
 }
 
 impl Shared {
+    ghost use Rattle.weaver_locks.specs.Locks.{shard_count};
+
     /// The number of shards. It takes no lock.
     pub fn shards(&self) -> u32
-        ensures { result ≡ length self.now.shards.items }
+        ensures { result ≡ shard_count self.now }
     {
         self.shards.len() as u32
     }

@@ -8,7 +8,7 @@ use Rattle.weave_account.specs.Clocks.{IsKnown}
 use Rattle.gate_lock.specs.declared.noted.NotedGate.{NotedGate}
 use Rattle.gate_lock.specs.Notes.{seen_of}
 use Rattle.weaver_locks.specs.GateHolds.{gate_entries_of}
-use Rattle.weaver_locks.proofs.Calling.{as_found, found_as, known_after, known_there, one_more}
+use Rattle.weaver_locks.proofs.Calling.{as_found, found_as, hears_no_more, known_after, known_there, one_more}
 use Rattle.weaver_locks.proofs.shared.Shared.begin_program.Goals as goal
 
 pub begin_program-begun-requires : goal.begin_program-begun-requires
@@ -59,6 +59,8 @@ returns-clause-hold g c =
           begun.ensures.notes begun.ensures.entry begun.ensures.refused),
       as_found (λ (h : ℕ) (l : List GateEntry). IfOk begun.result (λ (stamp : Stamp). stamp ≡ begun_stamp h (clock_of h l) c.args.last))
           c.state.result.now c.args.gate _ before found begun.ensures.stamp,
+      hears_no_more c.gates_keep_their_laws.ensures shared old c.enter_gate-held.new.hand c.args.gate c.enter_gate-held.result c.requires.gate
+          c.enter_gate-held.ensures.inside c.enter_gate-held.ensures.kept c.enter_gate-held.ensures.within c.args.last c.requires.last,
     )
 
 pub returns-clause-known : goal.returns-clause-known

@@ -4,7 +4,8 @@ use Rattle.std.proofs.lemmas.List.Elements.{All-weaker}
 use Rattle.gatekeeper.specs.Gates.{GateView}
 use Rattle.shard_node.specs.Shards.{ShardView}
 use Rattle.seen_logs.specs.Closed.{AreOfHands}
-use Rattle.seen_logs.specs.Seen.{AreLegal}
+use Rattle.weave_account.specs.declared.account.Account.{Account}
+use Rattle.seen_logs.specs.Seen.{AreLegal, IsWithin}
 use Rattle.chronicle.specs.Locks.{lock_of}
 use Rattle.chronicle.specs.Passes.{IsReady, number_of}
 use Rattle.lock_row.specs.Rows.{AreReady}
@@ -12,9 +13,9 @@ use Rattle.gate_lock.specs.declared.noted.NotedGate.{NotedGate}
 use Rattle.shard_lock.specs.declared.noted.NotedShard.{NotedShard}
 use Rattle.weaver_locks.specs.declared.hand.Hand.{Hand}
 use Rattle.weaver_locks.specs.Locks.{hands_of, start_of}
-use Rattle.weaver_locks.specs.Hands.{hand_number, IsHand}
-use Rattle.weaver_locks.specs.Closing.{AreInOrder, entries_by, logs_of, seen_by_number}
-use Rattle.weaver_locks.proofs.Closings.{all_passes, row_all, AreOut, in_order, legal, of_hands, made}
+use Rattle.weaver_locks.specs.Hands.{hand_number, seen_by, IsHand}
+use Rattle.weaver_locks.specs.Closing.{AreInOrder, AreEntriesOfHands, entries_by, logs_of, seen_by_number}
+use Rattle.weaver_locks.proofs.Closings.{all_passes, row_all, AreOut, entries, in_order, legal, of_hands, made, within}
 use Rattle.weaver_locks.proofs.shared.Shared.close.Goals as goal
 
 pub close_row-noted_gates-requires-clause-passes : goal.close_row-noted_gates-requires-clause-passes
@@ -119,6 +120,72 @@ returns-clause-legal c =
     = λ i. logs_of (c.gates_without_notes.ensures i) (c.into_store.ensures i) (c.into_oracle.ensures i) (c.shards_without_notes.ensures i) in
     subst (AreLegal (length shared.gates.items) (length shared.shards.items)) (sym same)
     (legal shared hands c.requires.each c.requires.all rooms.gates.items rooms.store.items rooms.oracle.items rooms.shards.items
+    (vec_len c.args.hands) noted_gates.items noted_store noted_oracle noted_shards.items out c.closed_logs_keep_their_laws.ensures)
+
+pub returns-clause-within : goal.returns-clause-within
+returns-clause-within c =
+    let shared = c.args.self in
+    let hands = c.args.hands.items in
+    let rooms = c.gather.new.rooms in
+    let noted_gates = c.close_row-noted_gates.result in
+    let noted_shards = c.close_row-noted_shards.result in
+    let noted_store = c.close-noted_store.result in
+    let noted_oracle = c.close-noted_oracle.result in
+    let store = c.close-noted_store.ensures in
+    let oracle = c.close-noted_oracle.ensures in
+    let out : AreOut shared hands c.requires.each c.requires.all rooms.gates.items rooms.store.items rooms.oracle.items rooms.shards.items
+    (vec_len c.args.hands) noted_gates.items noted_store noted_oracle noted_shards.items = record {
+      gate_count = omega (arith, c.close_row-noted_gates.ensures.count, noted_gates.ok.0, shared.gates.ok.0);
+      gate_room_count = c.gather.ensures.gate_count ∙ shared.roomy.gate_count;
+      shard_count = omega (arith, c.close_row-noted_shards.ensures.count, noted_shards.ok.0, shared.shards.ok.0);
+      shard_room_count = c.gather.ensures.shard_count ∙ shared.roomy.shard_count;
+      gates_gathered = c.gather.ensures.gates;
+      store_gathered = c.gather.ensures.store;
+      oracle_gathered = c.gather.ensures.oracle;
+      shards_gathered = c.gather.ensures.shards;
+      gates_closed = c.close_row-noted_gates.ensures.closed;
+      store_closed = record { frame_is = refl; longest = store.longest; prefixes = store.prefixes; own = store.own; authors = store.authors };
+      oracle_closed = record { frame_is = refl; longest = oracle.longest; prefixes = oracle.prefixes; own = oracle.own; authors = oracle.authors };
+      shards_closed = c.close_row-noted_shards.ensures.closed;
+    } in
+    let same : logs_of c.gates_without_notes.result.items c.into_store.result c.into_oracle.result c.shards_without_notes.result.items
+    ≡ logs_of (map (λ (n : NotedGate). n.gate) noted_gates.items) noted_store.store noted_oracle.oracle (map (λ (n : NotedShard). n.shard) noted_shards.items)
+    = λ i. logs_of (c.gates_without_notes.ensures i) (c.into_store.ensures i) (c.into_oracle.ensures i) (c.shards_without_notes.ensures i) in
+    subst (λ (a : Account). All (λ h. IsWithin (seen_by h) a) hands) (sym same)
+    (within shared hands c.requires.each c.requires.all rooms.gates.items rooms.store.items rooms.oracle.items rooms.shards.items
+    (vec_len c.args.hands) noted_gates.items noted_store noted_oracle noted_shards.items out c.closed_logs_keep_their_laws.ensures)
+
+pub returns-clause-entries : goal.returns-clause-entries
+returns-clause-entries c =
+    let shared = c.args.self in
+    let hands = c.args.hands.items in
+    let rooms = c.gather.new.rooms in
+    let noted_gates = c.close_row-noted_gates.result in
+    let noted_shards = c.close_row-noted_shards.result in
+    let noted_store = c.close-noted_store.result in
+    let noted_oracle = c.close-noted_oracle.result in
+    let store = c.close-noted_store.ensures in
+    let oracle = c.close-noted_oracle.ensures in
+    let out : AreOut shared hands c.requires.each c.requires.all rooms.gates.items rooms.store.items rooms.oracle.items rooms.shards.items
+    (vec_len c.args.hands) noted_gates.items noted_store noted_oracle noted_shards.items = record {
+      gate_count = omega (arith, c.close_row-noted_gates.ensures.count, noted_gates.ok.0, shared.gates.ok.0);
+      gate_room_count = c.gather.ensures.gate_count ∙ shared.roomy.gate_count;
+      shard_count = omega (arith, c.close_row-noted_shards.ensures.count, noted_shards.ok.0, shared.shards.ok.0);
+      shard_room_count = c.gather.ensures.shard_count ∙ shared.roomy.shard_count;
+      gates_gathered = c.gather.ensures.gates;
+      store_gathered = c.gather.ensures.store;
+      oracle_gathered = c.gather.ensures.oracle;
+      shards_gathered = c.gather.ensures.shards;
+      gates_closed = c.close_row-noted_gates.ensures.closed;
+      store_closed = record { frame_is = refl; longest = store.longest; prefixes = store.prefixes; own = store.own; authors = store.authors };
+      oracle_closed = record { frame_is = refl; longest = oracle.longest; prefixes = oracle.prefixes; own = oracle.own; authors = oracle.authors };
+      shards_closed = c.close_row-noted_shards.ensures.closed;
+    } in
+    let same : logs_of c.gates_without_notes.result.items c.into_store.result c.into_oracle.result c.shards_without_notes.result.items
+    ≡ logs_of (map (λ (n : NotedGate). n.gate) noted_gates.items) noted_store.store noted_oracle.oracle (map (λ (n : NotedShard). n.shard) noted_shards.items)
+    = λ i. logs_of (c.gates_without_notes.ensures i) (c.into_store.ensures i) (c.into_oracle.ensures i) (c.shards_without_notes.ensures i) in
+    subst (AreEntriesOfHands (hands_of shared) (start_of shared) (seen_by_number hands)) (sym same)
+    (entries shared hands c.requires.each c.requires.all rooms.gates.items rooms.store.items rooms.oracle.items rooms.shards.items
     (vec_len c.args.hands) noted_gates.items noted_store noted_oracle noted_shards.items out c.closed_logs_keep_their_laws.ensures)
 
 pub returns-clause-of_hands : goal.returns-clause-of_hands

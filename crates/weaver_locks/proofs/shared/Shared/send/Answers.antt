@@ -122,6 +122,7 @@ returns-clause-hold g c =
         flies = flies_there c.hands_keep_their_laws.ensures c.gates_keep_their_laws.ensures shared old c.args.gate c.requires.gate c.requires.hand
             mine held.ensures.inside.machine.home held.ensures.inside.found held.ensures.kept held.ensures.within c.args.ops.now c.args.verdict.now
             may;
+        as_seen = may.flies;
         own = may.own;
         was = was;
         never_idle = never_idle c.hands_keep_their_laws.ensures c.gates_keep_their_laws.ensures shared old c.args.gate c.requires.gate
