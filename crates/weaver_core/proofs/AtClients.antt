@@ -1,7 +1,7 @@
 -- A session with its log, and one of the sessions of a core.
-use Rattle.std.proofs.Common.{arith, ◌≡◌, ℕ, ◌+◌, ◌<◌, List, [], ◌∷◌, ◌++◌, length, map, get_or, AllPairs, Some, refl, sym, ap, subst, ◌∙◌}
+use Rattle.std.proofs.Common.{arith, ◌≡◌, ℕ, ◌+◌, ◌<◌, List, [], ◌∷◌, ◌++◌, length, map, get_or, AllPairs, Option, Some, refl, sym, ap, subst, ◌∙◌}
 use Rattle.std.specs.Prelude.{slice_get, slice_set}
-use Rattle.std.proofs.lemmas.List.{length-map, length-replicate, map-append}
+use Rattle.std.proofs.lemmas.List.{map-append}
 use Rattle.std.proofs.lemmas.List.FromFn.{map-range_with_len_more}
 use Rattle.program_defs.specs.declared.script.Script.{Script}
 use Rattle.weave_account.specs.Sessions.{requests_of_session}
@@ -9,7 +9,9 @@ use Rattle.weave_entries.specs.declared.session_log.SessionEntry.{SessionEntry}
 use Rattle.weave_entries.specs.declared.session_log.SessionDeed.{SessionDeed}
 use Rattle.weave_entries.specs.declared.session_log.SessionDeed.TheVariants.{Begun, Replied}
 use Rattle.weave_entries.specs.SessionReplay.{FitsSession, IsSessionLog, SessionState, session_after, session_of}
-use Rattle.weaver_core.specs.Clients.{AddsAt, AddsDeed, AreFirst, AreNumbered, AreSameClients, ClientTable, ClientView, IsClientOf, log_of, requests_in, session_at, spare_of}
+use Rattle.weaver_core.specs.Clients.{AddsAt, AddsDeed, AreFirst, AreNumbered, AreSameClients, ClientTable, IsClientOf, IsSameClient, SessionValues, log_of, no_values, requests_in, session_at, spare_of, values_at, values_of, with_running}
+use Rattle.weaver_core.specs.declared.client.Client.{Client}
+use Rattle.weaver_core.specs.declared.walks.Running.{Running}
 use Rattle.weaver_core.proofs.Tables.{each-push, each-set, image-changes, image-push, image-rests}
 
 -- the law of session_stamp on a log with one more entry
@@ -35,47 +37,78 @@ client-more laws number session log deed is fits =
       rising = subst (λ (rs : List ℕ). AllPairs (λ (a b : ℕ). a < b) rs) (sym same) is.rising;
     }
 
+-- and so does one more entry with its session
+pub client-adds : LogLaws → (number : ℕ) (old new : Client) (deed : SessionDeed) → IsClientOf number old.session old.log.items → FitsSession (session_of (requests_in old) (log_of old)) deed → new.session ≡ session_after old.session deed
+    → new.log.items ≡ old.log.items ++ record { author = number; deed = deed } ∷ [] → AddsDeed number old new deed
+client-adds laws number old new deed is fits session log = record {
+  log = log;
+  requests = ap (λ (s : SessionState). s.requests) session ∙ same-requests old.session deed;
+  client = subst (λ (entries : List SessionEntry). IsClientOf number new.session entries) (sym log)
+      (subst (λ (s : SessionState). IsClientOf number s (old.log.items ++ record { author = number; deed = deed } ∷ [])) (sym session) (client-more laws number old.session old.log.items deed is fits));
+}
+
 -- One of the sessions
 
 -- the table of these sessions
-abbrev pub table_of : List ClientView → ClientTable
-table_of clients = record { requests = map requests_in clients; logs = map log_of clients; spares = map spare_of clients }
+abbrev pub table_of : List Client → ClientTable
+table_of clients = record { requests = map requests_in clients; logs = map log_of clients; spares = map spare_of clients; values = map values_of clients }
 
 -- the session at the end of its log is that of the table, if only the room differs
 pub same-session : (old new : ClientTable) (s : ℕ) → AreSameClients old new → session_at new s ≡ session_at old s
 same-session old new s same = λ i. session_of (get_or (same.requests i) s []) (get_or (same.logs i) s [])
 
-module _ (clients : List ClientView) (s : ℕ) (before after : ClientView) (within : s < length clients) (at : slice_get clients s ≡ Some before) where
+module _ (clients : List Client) (s : ℕ) (before after : Client) (within : s < length clients) (at : slice_get clients s ≡ Some before) where
   -- one more entry
-  pub adds-at : AreNumbered clients → (deed : SessionDeed) → AddsDeed before after deed → AddsAt (table_of clients) (table_of (slice_set clients s after)) s deed
-  adds-at numbered deed adds =
-      let number = numbered s before at in
-      record {
-        logs = image-changes log_of clients s before at (λ (log : List SessionEntry). log ++ record { author = s; deed = deed } ∷ []) [] after
-            (adds.log ∙ ap (λ (n : ℕ). before.log ++ record { author = n; deed = deed } ∷ []) number);
-        requests = image-rests requests_in clients s before at after adds.requests;
-      }
+  pub adds-at : (deed : SessionDeed) → AddsDeed s before after deed → AddsAt (table_of clients) (table_of (slice_set clients s after)) s deed
+  adds-at deed adds = record {
+    logs = image-changes log_of clients s before at (λ (log : List SessionEntry). log ++ record { author = s; deed = deed } ∷ []) [] after adds.log;
+    requests = image-rests requests_in clients s before at after adds.requests;
+  }
+
+  -- the values stay, or become those of the session
+  pub values-rest : values_of after ≡ values_of before → map values_of (slice_set clients s after) ≡ map values_of clients
+  values-rest same = image-rests values_of clients s before at after same
+
+  pub values-set : (change : SessionValues → SessionValues) → values_of after ≡ change (values_of before) → map values_of (slice_set clients s after) ≡ slice_set (map values_of clients) s (change (values_at (map values_of clients) s))
+  values-set change is = image-changes values_of clients s before at change no_values after is
 
   -- or more room alone
-  pub clients-rest : after.log ≡ before.log → after.requests ≡ before.requests → AreSameClients (table_of clients) (table_of (slice_set clients s after))
-  clients-rest log requests = record { requests = image-rests requests_in clients s before at after requests; logs = image-rests log_of clients s before at after log }
+  pub clients-rest : IsSameClient before after → AreSameClients (table_of clients) (table_of (slice_set clients s after))
+  clients-rest same = record {
+    requests = image-rests requests_in clients s before at after (ap (λ (state : SessionState). state.requests) same.session);
+    logs = image-rests log_of clients s before at after same.log;
+    values = values-rest same.values;
+  }
 
-  -- the sessions are still numbered
-  pub still-numbered : AreNumbered clients → after.number ≡ before.number → AreNumbered (slice_set clients s after)
-  still-numbered numbered same = each-set (λ n (client : ClientView). client.number ≡ n) clients s after within numbered (same ∙ numbered s before at)
+  -- or another program
+  pub running-set : (running : Option Running) → after ≡ record before { running = running } → table_of (slice_set clients s after) ≡ record (table_of clients) { values = with_running (map values_of clients) s running }
+  running-set running is =
+      let requests = image-rests requests_in clients s before at after (ap requests_in is) in
+      let logs = image-rests log_of clients s before at after (ap log_of is) in
+      let spares = image-rests spare_of clients s before at after (ap spare_of is) in
+      let values = values-set (λ (values : SessionValues). record { running = running; replies = values.replies }) (ap values_of is) in
+      λ i. record { requests = requests i; logs = logs i; spares = spares i; values = values i }
+
+  -- the sessions are still at the ends of their logs
+  pub still-numbered : AreNumbered clients → IsClientOf s after.session after.log.items → AreNumbered (slice_set clients s after)
+  still-numbered numbered is = each-set (λ n (client : Client). IsClientOf n client.session client.log.items) clients s after within numbered is
+
+  pub numbered-same : AreNumbered clients → after.session ≡ before.session → after.log.items ≡ before.log.items → AreNumbered (slice_set clients s after)
+  numbered-same numbered session log =
+      still-numbered numbered (subst (λ (entries : List SessionEntry). IsClientOf s after.session entries) (sym log) (subst (λ (state : SessionState). IsClientOf s state before.log.items) (sym session) (numbered s before at)))
 
 -- one session more, before its first request
-pub first-client-more : (script : Script) (count : ℕ) (made then_made : List ClientView) (client : ClientView) (found : List ℕ) → AreFirst script count made → found ≡ requests_of_session script count
-    → client.number ≡ count → client.requests ≡ found → client.log ≡ [] → then_made ≡ made ++ client ∷ [] → AreFirst script (count + 1) then_made
-first-client-more script count made then_made client found are found-is number requests log is =
-    let many : length made ≡ count = sym (length-map made log_of) ∙ ap length are.logs ∙ length-replicate count [] in
+pub first-client-more : (script : Script) (count : ℕ) (made then_made : List Client) (client : Client) (found : List ℕ) → AreFirst script count made → found ≡ requests_of_session script count
+    → requests_in client ≡ found → log_of client ≡ [] → values_of client ≡ no_values → ((number : ℕ) → IsClientOf number client.session client.log.items) → then_made ≡ made ++ client ∷ [] → AreFirst script (count + 1) then_made
+first-client-more script count made then_made client found are found-is requests log values is-client is =
     subst (AreFirst script (count + 1)) (sym is) (record {
-      numbered = each-push (λ n (one : ClientView). one.number ≡ n) made client are.numbered (number ∙ sym many);
+      numbered = each-push (λ n (one : Client). IsClientOf n one.session one.log.items) made client are.numbered (is-client (length made));
       requests =
           map-append requests_in made (client ∷ [])
           ∙ (λ i. are.requests i ++ (requests ∙ found-is) i ∷ [])
           ∙ sym (map-range_with_len_more (requests_of_session script) 0 count count (omega arith));
       logs = image-push log_of made client [] count are.logs log;
+      values = image-push values_of made client no_values count are.values values;
     })
 
 -- room first, then an entry

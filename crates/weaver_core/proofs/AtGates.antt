@@ -1,7 +1,7 @@
 -- One of the gatekeepers of a core.
 use Rattle.std.proofs.Common.{◌≡◌, ℕ, ◌+◌, ◌<◌, List, [], ◌∷◌, ◌++◌, length, map, Some, refl, sym, ap, ◌∙◌, subst, arith}
 use Rattle.std.specs.Prelude.{slice_get, slice_set}
-use Rattle.std.proofs.lemmas.List.{length-replicate, length-map}
+use Rattle.std.proofs.lemmas.List.{length-replicate, length-map, length-set}
 use Rattle.graph_ops.specs.declared.op.Op.{Op}
 use Rattle.gatekeeper.specs.Gates.{Adds, GateView, HasRoom, IsNew, SendsFlight}
 use Rattle.weave_entries.specs.declared.gate_log.GateEntry.{GateEntry}
@@ -32,7 +32,13 @@ room-then-adds before more after entries author deed room adds =
 
 -- nothing differs in what was not changed
 pub unchanged : (before after : GateView) → after ≡ before → IsSameGate before after
-unchanged before after is = record { log = ap (λ (x : GateView). x.log) is; home = ap (λ (x : GateView). x.home) is; shards = ap (λ (x : GateView). x.shards) is }
+unchanged before after is = record { log = ap (λ (x : GateView). x.log) is; home = ap (λ (x : GateView). x.home) is; gates = ap (λ (x : GateView). x.gates) is; shards = ap (λ (x : GateView). x.shards) is }
+
+-- what a gatekeeper is made for stays
+pub record IsSameFrame (before after : GateView) : Type 0 where
+  pub home : after.home ≡ before.home
+  pub gates : after.gates ≡ before.gates
+  pub shards : after.shards ≡ before.shards
 
 module _ (shards : ℕ) (gates : List GateView) (g : ℕ) (before after : GateView) (within : g < length gates) (at : slice_get gates g ≡ Some before) where
   -- the table has one more entry
@@ -44,35 +50,37 @@ module _ (shards : ℕ) (gates : List GateView) (g : ℕ) (before after : GateVi
   table-rests same = ap (λ (logs : List (List GateEntry)). record { shards = shards; logs = logs }) (image-rests log_of gates g before at after same)
 
   -- the gatekeepers are still in order
-  pub still-in-order : AreInOrder shards gates → after.home ≡ before.home → after.shards ≡ before.shards → AreInOrder shards (slice_set gates g after)
-  still-in-order are home same = record {
-    homes = each-set (λ n (gate : GateView). gate.home ≡ n) gates g after within are.homes (home ∙ are.homes g before at);
-    each_shards = each-set (λ n (gate : GateView). gate.shards ≡ shards) gates g after within are.each_shards (same ∙ are.each_shards g before at);
-  }
+  pub still-in-order : AreInOrder (length gates) shards gates → IsSameFrame before after → AreInOrder (length (slice_set gates g after)) shards (slice_set gates g after)
+  still-in-order are same = subst (λ n. AreInOrder n shards (slice_set gates g after)) (sym (length-set gates g after)) (record {
+    each_gates = each-set (λ n (gate : GateView). gate.gates ≡ length gates) gates g after within are.each_gates (same.gates ∙ are.each_gates g before at);
+    homes = each-set (λ n (gate : GateView). gate.home ≡ n) gates g after within are.homes (same.home ∙ are.homes g before at);
+    each_shards = each-set (λ n (gate : GateView). gate.shards ≡ shards) gates g after within are.each_shards (same.shards ∙ are.each_shards g before at);
+  })
 
-  pub in-order-after : (author : ℕ) (deed : GateDeed) → AreInOrder shards gates → Adds before after author deed → AreInOrder shards (slice_set gates g after)
-  in-order-after author deed are adds = still-in-order are adds.home adds.shards
+  pub in-order-after : (author : ℕ) (deed : GateDeed) → AreInOrder (length gates) shards gates → Adds before after author deed → AreInOrder (length (slice_set gates g after)) shards (slice_set gates g after)
+  in-order-after author deed are adds = still-in-order are (record { home = adds.home; gates = adds.gates; shards = adds.shards })
 
-  pub in-order-still : AreInOrder shards gates → IsSameGate before after → AreInOrder shards (slice_set gates g after)
-  in-order-still are same = still-in-order are same.home same.shards
+  pub in-order-still : AreInOrder (length gates) shards gates → IsSameGate before after → AreInOrder (length (slice_set gates g after)) shards (slice_set gates g after)
+  in-order-still are same = still-in-order are (record { home = same.home; gates = same.gates; shards = same.shards })
 
 -- one gatekeeper more, before its first event
-pub first-more : (count gates shards : ℕ) (made then_made : List GateView) (gate : GateView) → AreFirst count shards made → length made ≡ count → IsNew count gates shards gate → then_made ≡ made ++ gate ∷ [] → AreFirst (count + 1) shards then_made
-first-more count gates shards made then_made gate are many new is =
-    subst (AreFirst (count + 1) shards) (sym is) (record {
+pub first-more : (first count shards : ℕ) (made then_made : List GateView) (gate : GateView) → AreFirst first count shards made → length made ≡ first → IsNew first count shards gate → then_made ≡ made ++ gate ∷ [] → AreFirst (first + 1) count shards then_made
+first-more first count shards made then_made gate are many new is =
+    subst (AreFirst (first + 1) count shards) (sym is) (record {
       in_order = record {
+        each_gates = each-push (λ n (one : GateView). one.gates ≡ count) made gate are.in_order.each_gates new.gates_are;
         homes = each-push (λ n (one : GateView). one.home ≡ n) made gate are.in_order.homes (new.home_is ∙ sym many);
         each_shards = each-push (λ n (one : GateView). one.shards ≡ shards) made gate are.in_order.each_shards new.shards_are;
       };
-      logs = image-push log_of made gate [] count are.logs new.log_is;
+      logs = image-push log_of made gate [] first are.logs new.log_is;
     })
 
 -- there are that many
-pub first-count : (count shards : ℕ) (made : List GateView) → AreFirst count shards made → length made ≡ count
-first-count count shards made are = sym (length-map made log_of) ∙ ap length are.logs ∙ length-replicate count []
+pub first-count : (first count shards : ℕ) (made : List GateView) → AreFirst first count shards made → length made ≡ first
+first-count first count shards made are = sym (length-map made log_of) ∙ ap length are.logs ∙ length-replicate first []
 
 -- what was sent, in terms of the table
-module _ (shards : ℕ) (gates : List GateView) (g : ℕ) (before after : GateView) (within : g < length gates) (at : slice_get gates g ≡ Some before) (are : AreInOrder shards gates)
+module _ (shards : ℕ) (gates : List GateView) (g : ℕ) (before after : GateView) (within : g < length gates) (at : slice_get gates g ≡ Some before) (are : AreInOrder (length gates) shards gates)
     (author : ℕ) (ops : List Op) (verdict : Verdict) (sends : SendsFlight before after author ops verdict) where
   pub sends-at : (flight : Begun) → flight_of (log_at (table_of shards gates) g) ≡ Some flight
       → AddsAt (table_of shards gates) (table_of shards (slice_set gates g after)) g author (Sent flight.request (messages_of shards (log_at (table_of shards gates) g) flight ops verdict))

@@ -136,7 +136,7 @@ module _ (script : Script) (old : gates.GateTable) (store : List StoreEntry) (or
         subst (λ (q : Request). IsTrue (has_64_bits (stamp_to_begin account q).clock)) one (subst (λ (s : Stamp). IsTrue (has_64_bits s.clock)) stamp-is did.small))
 
     same-machines : new ≡ old → clients.AreSameClients was is → after ≡ before
-    same-machines gates-are same = λ i. machines_of (gates-are i) store oracle shards (record { requests = same.requests i; logs = same.logs i; spares = is.spares }) notices
+    same-machines gates-are same = λ i. machines_of (gates-are i) store oracle shards (record { requests = same.requests i; logs = same.logs i; spares = is.spares; values = same.values i }) notices
 
     one-done : (a : StepAnswer) → BeginsOne old new was is r request a → MachinesDo script (step.Begin r) before after a
     one-done answer.Ok did = begun-done did
@@ -159,3 +159,20 @@ module _ (script : Script) (old : gates.GateTable) (store : List StoreEntry) (or
 
   pub begin-done : (new : gates.GateTable) (is : clients.ClientTable) (a : StepAnswer) → Begins script old new was is r a → MachinesDo script (step.Begin r) before (machines_of new store oracle shards is notices) a
   begin-done new is a did = one-done new is did.request did.request_is a did.begins
+
+  -- the values of the sessions stay
+  values-one : (new : gates.GateTable) (is : clients.ClientTable) (request : Request) (a : StepAnswer) → BeginsOne old new was is r request a → is.values ≡ was.values
+  values-one new is request answer.Ok did = did.values
+  values-one new is request answer.Busy did = did.clients_are.values
+  values-one new is request answer.Twice did = ap (λ (t : clients.ClientTable). t.values) did.2
+  values-one new is request answer.Early did = ap (λ (t : clients.ClientTable). t.values) did.2
+  values-one new is request answer.Idle none = absurd none
+  values-one new is request answer.Old none = absurd none
+  values-one new is request answer.Unknown none = absurd none
+  values-one new is request answer.Repeat none = absurd none
+  values-one new is request answer.Empty none = absurd none
+  values-one new is request (answer.Waits v) none = absurd none
+  values-one new is request (answer.Again s g) none = absurd none
+
+  pub begin-values : (new : gates.GateTable) (is : clients.ClientTable) (a : StepAnswer) → Begins script old new was is r a → is.values ≡ was.values
+  begin-values new is a did = values-one new is did.request a did.begins

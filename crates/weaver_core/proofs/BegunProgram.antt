@@ -47,21 +47,15 @@ use Rattle.path_program.specs.declared.any.AnyProgram.{AnyProgram}
 use Rattle.program_defs.specs.Agreement.{AreSameReads}
 use Rattle.weaver_core.specs.Cores.{AreOf, MachinesDo, MachinesView}
 use Rattle.weaver_core.specs.Staying.{StayLaws}
-use Rattle.weaver_core.specs.Walks.{IsKeptAs, IsKeptIn, IsLookAt, IsRunningAs, begun_with}
-use Rattle.weaver_core.proofs.CanVisit.{program-in}
-use Rattle.weaver_core.proofs.StepStays.{not-begun}
+use Rattle.weaver_core.specs.Walks.{IsLookAt, IsRunningIn}
+use Rattle.weaver_core.proofs.CanVisit.{inside}
+use Rattle.weaver_core.proofs.Idle.{not-begun}
+use Rattle.weaver_core.proofs.NoStamp.{any-none}
 use Rattle.weaver_core.proofs.Turns.{SessionLaws, begun-is, place-of, reply-is}
 
 -- Lists
 
-any-none : {A : Type 0} (p : A → Bool) (xs : List A) → list_any p xs ≡ false → find p xs ≡ None
-any-none p [] e = refl
-any-none p (x ∷ xs) e = elim (p x) as (λ b. (b || list_any p xs) ≡ false → cond b (Some x) (find p xs) ≡ None) [
-  | true ↦ λ h. absurd (let f : true ≡ false = h in cc)
-  | false ↦ λ h. any-none p xs h
-] e
-
-find-last : {A : Type 0} (p : A → Bool) (xs : List A) (x : A) → find p xs ≡ None → p x ≡ true → find p (xs ++ x ∷ []) ≡ Some x
+pub find-last : {A : Type 0} (p : A → Bool) (xs : List A) (x : A) → find p xs ≡ None → p x ≡ true → find p (xs ++ x ∷ []) ≡ Some x
 find-last p [] x none is = ap (λ b. cond b (Some x) None) is
 find-last p (y ∷ xs) x none is = elim (p y) as (λ b. cond b (Some y) (find p xs) ≡ None → cond b (Some y) (find p (xs ++ x ∷ [])) ≡ Some x) [
   | true ↦ λ h. absurd (none-some y (sym h))
@@ -76,14 +70,6 @@ none-left p (x ∷ xs) none =
 flat-none : {A B : Type 0} (f : A → List B) (xs : List A) → ((x : A) → Contains xs x → f x ≡ []) → flat_map f xs ≡ []
 flat-none f [] none = refl
 flat-none f (x ∷ xs) none = (λ i. none x (has_head x xs) i ++ flat-none f xs (λ y h. none y (has_tail x xs y h)) i)
-
--- a program of some log is among all that was begun
-pub inside : (b : Begun) (gates : List (List GateEntry)) (n : ℕ) → Contains (programs_of (slice_index_or gates n [])) b → Contains (flat_map begun_in gates) b
-inside b [] n has = absurd (has_none b has)
-inside b (log ∷ gates) zero has = has_flat begun_in (log ∷ gates) log b (has_head log gates) (program-in log b has)
-inside b (log ∷ gates) (suc n) has =
-    let from = flat_has begun_in gates b (inside b gates n has) in
-    has_flat begun_in (log ∷ gates) from.0 b (has_tail log gates from.0 from.1) from.2
 
 -- A request that has no stamp was read for by no one
 
@@ -208,25 +194,24 @@ module _ (stay : StayLaws) (sessions : SessionLaws) (rise : (script : Script) (s
       | inr on ↦ on
     ]
 
-    pub kept-begun : (last : Option Stamp) (walk : AnyProgram) → last ≡ last_begun next request.session → any_of walk ≡ program → HasRead walk [] → IsKeptIn script next r (begun_with r last walk)
-    kept-begun last walk is program-is has =
-        let running : IsRunningAs next r request program (record { author = 0; program = record { request = r; stamp = stamp; walk = walk } }) = record {
-          request_is = refl;
-          begun = begun-at-gate;
-          stamped = stamped;
-          runs = runs;
-          walk = record {
-            program_is = program-is;
-            reads = [];
-            has_read = has;
-            same = subst (λ (reads : List (Name × State)). AreSameReads [] reads) (sym (none-read script account are.core.account r unstamped)) (record { vertices = λ v. refl; states = λ v. refl });
-          };
-        } in
-        record {
-          request = request;
-          request_is = look.request_is;
-          kept = subst (λ (o : Option Stamp). IsKeptAs next r request request.work (begun_with r o walk)) (sym (is ∙ last-is)) (subst (λ (work : Work). IsKeptAs next r request work (begun_with r (Some stamp) walk)) (sym look.work_is) running);
-        }
+    pub running-begun : (walk : AnyProgram) → any_of walk ≡ program → HasRead walk [] → IsRunningIn script next r (record { request = r; stamp = stamp; walk = walk })
+    running-begun walk program-is has = record {
+      program = program;
+      look = look;
+      runs = record {
+        request_is = refl;
+        author = 0;
+        begun = begun-at-gate;
+        stamped = stamped;
+        runs = runs;
+        walk = record {
+          program_is = program-is;
+          reads = [];
+          has_read = has;
+          same = subst (λ (reads : List (Name × State)). AreSameReads [] reads) (sym (none-read script account are.core.account r unstamped)) (record { vertices = λ v. refl; states = λ v. refl });
+        };
+      };
+    }
 
 -- what a begin that was done leaves
 pub begun-account : (script : Script) (state : CoreState) (r : ℕ) (asked : Request) → request_at script r ≡ Some asked → answer_of script state (Begin r) ≡ Ok → (state_after script state (Begin r)).account ≡ after_begin state.account r asked

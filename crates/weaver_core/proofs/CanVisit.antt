@@ -1,6 +1,6 @@
 -- A running program can visit any vertex, and can be finished.
 use Rattle.std.proofs.Common.{◌≡◌, ◌≢◌, ◌⊎◌, ℕ, zero, suc, ◌<◌, false, List, [], ◌∷◌, ◌++◌, length, map, take, drop, Contains, IsTrue, Option, None, Some, inl, inr, refl, sym, ap, subst, ◌∙◌, arith}
-use Rattle.std.specs.Prelude.{◌↔◌, ◌==◌, IsSomeAnd}
+use Rattle.std.specs.Prelude.{◌↔◌, ◌==◌, IsSomeAnd, slice_index_or}
 use Rattle.std.specs.List.{flat_map, list_any}
 use Rattle.std.proofs.lemmas.Bool.{and_from, both_ways, eq-eqb, eqb-true}
 use Rattle.std.proofs.lemmas.List.Elements.{All-from_recursion, Contains-append_cases, Contains-append_right, Contains-get_or}
@@ -100,6 +100,14 @@ pub program-in : (log : List GateEntry) (b : Begun) → Contains (programs_of lo
 program-in log b h =
     let from = flat_has (λ (e : GateEntry). program_by e.author e.deed) log b h in
     has_flat (λ (e : GateEntry). begun_by e.author e.deed) log from.0 b from.1 (Contains-append_right (tx_by from.0.author from.0.deed) (program_by from.0.author from.0.deed) b from.2)
+
+-- a program of some log is among all that was begun
+pub inside : (b : Begun) (gates : List (List GateEntry)) (n : ℕ) → Contains (programs_of (slice_index_or gates n [])) b → Contains (flat_map begun_in gates) b
+inside b [] n has = absurd (has_none b has)
+inside b (log ∷ gates) zero has = has_flat begun_in (log ∷ gates) log b (has_head log gates) (program-in log b has)
+inside b (log ∷ gates) (suc n) has =
+    let from = flat_has begun_in gates b (inside b gates n has) in
+    has_flat begun_in (log ∷ gates) from.0 b (has_tail log gates from.0 from.1) from.2
 
 module _ (run : RunLaws) (script : Script) (account : Account) (limits : IsWithinLimits script) (is : IsAccount script account) (r : ℕ) (request : Request) (request-is : request_at script r ≡ Some request)
     (program : Program) (looks : request.work ≡ Look program) (begun : Begun) (begun-is : program_begun r (gate_log account request.gate) ≡ Some begun) (runs : is_ended account r ≡ false) where

@@ -17,7 +17,7 @@ use Rattle.report_rules.specs.declared.report.StepAnswer.{StepAnswer}
 use Rattle.weave_entries.specs.declared.oracle_log.OracleEntry.{OracleEntry}
 use Rattle.weave_entries.specs.declared.store_log.StoreEntry.{StoreEntry}
 use Rattle.weave_entries.specs.GateReplay.{Begun, begun_in}
-use Rattle.weave_account.specs.Account.{stamp_of}
+use Rattle.weave_account.specs.declared.account.Account.{Account}
 use Rattle.weave_account.specs.Sessions.{requests_of_session}
 use Rattle.step_rules.specs.CoreState.{CoreState, start_state}
 use Rattle.step_rules.specs.IsCore.{IsCore, IsSmallIfDone, IsStepOf}
@@ -26,8 +26,11 @@ use Rattle.weaver_core.specs.Clients.{ClientTable}
 use Rattle.weaver_core.specs.Cores.{AreOf, Frame, IsFrameOf, MachinesDo, MachinesView, machines_of}
 use Rattle.weaver_core.specs.GateTable.{GateTable}
 use Rattle.weaver_core.specs.ShardTable.{ShardTable}
-use Rattle.weaver_core.specs.Walks.{AreProgramsOf, IsKeptAs}
-use Rattle.weaver_core.specs.declared.walks.Walk.{Walk}
+use Rattle.proof_base.proofs.Members.{has_none}
+use Rattle.weave_account.specs.Account.{session_log}
+use Rattle.weave_entries.specs.declared.session_log.SessionEntry.{SessionEntry}
+use Rattle.weaver_core.specs.Clients.{SessionValues, no_values}
+use Rattle.weaver_core.specs.Splitting.{AreProgramsOf, AreValuesByLog}
 
 -- Before the first step
 
@@ -68,36 +71,33 @@ are-after script old new step tried are there answer did = record {
   core = subst (IsCore script) (sym did.state_is) (tried old.state step are.limits there did.small are.core);
 }
 
--- What is kept of the programs before the first step
+-- The values of the sessions before the first step
 
-none-begun : (n : ℕ) → flat_map begun_in (replicate n []) ≡ []
-none-begun zero = refl
-none-begun (suc n) = none-begun n
-
-none-kept : (n r : ℕ) → slice_index_or (replicate {A = Option Walk} n None) r None ≡ None
-none-kept zero r = refl
-none-kept (suc n) zero = refl
-none-kept (suc n) (suc r) = none-kept n r
+same-at : {A : Type 0} (n i : ℕ) (x : A) → slice_index_or (replicate n x) i x ≡ x
+same-at zero i x = refl
+same-at (suc n) zero x = refl
+same-at (suc n) (suc i) x = same-at n i x
 
 nothing-at : {A : Type 0} (n : ℕ) (x : A) → slice_get [] n ≡ Some x → ⊥
 nothing-at n x e = none-some x e
 
-pub programs-at-first : (script : Script) (machines : MachinesView) → machines.state ≡ start_state script → (walks : List (Option Walk)) → walks ≡ replicate (length script.requests) None → (marks : List (Option Name)) → marks ≡ [] → AreProgramsOf script machines.state.account walks marks
-programs-at-first script machines is walks walks-are marks marks-are =
-    subst (λ (state : CoreState). AreProgramsOf script state.account walks marks) (sym is) (record {
-      walks_are = record {
-        many = ap length walks-are ∙ length-replicate {A = Option Walk} (length script.requests) None;
-        each = λ r request at. kept request.work r request (ap (λ (all : List (Option Walk)). slice_index_or all r None) walks-are ∙ none-kept (length script.requests) r);
+values-at-first : (script : Script) (account : Account) → AreValuesByLog script account [] no_values
+values-at-first script account = record {
+  running = record { waits = refl; fed = λ one at program look. absurd (none-some one at) };
+  replies = record { requests = refl; each = λ reply has. absurd (has_none reply has) };
+}
+
+pub programs-at-first : (script : Script) (machines : MachinesView) → machines.state ≡ start_state script → machines.values ≡ replicate 64 no_values → (marks : List (Option Name)) → marks ≡ [] → AreProgramsOf script machines.state.account machines.values marks
+programs-at-first script machines is values-are marks marks-are =
+    subst (λ (state : CoreState). AreProgramsOf script state.account machines.values marks) (sym is) (subst (λ (values : List SessionValues). AreProgramsOf script (start_state script).account values marks) (sym values-are) (record {
+      values_are = record {
+        many = length-replicate 64 no_values;
+        each = λ s below.
+            subst (λ (v : SessionValues). AreValuesByLog script (start_state script).account (session_log (start_state script).account s) v) (sym (same-at 64 s no_values))
+            (subst (λ (l : List SessionEntry). AreValuesByLog script (start_state script).account l no_values) (sym (same-at 64 s [])) (values-at-first script (start_state script).account));
       };
       marks_are = record {
         few = let few : length marks ≡ 0 = ap length marks-are in omega (arith, few);
         each = λ n entry at. absurd (nothing-at n entry at);
       };
-    })
-  where
-    unbegun : (r : ℕ) → stamp_of (start_state script).account r ≡ None
-    unbegun r = ap (λ (all : List Begun). option_map (λ (begun : Begun). begun.stamp) (find (λ (begun : Begun). begun.request == r) all)) (none-begun script.gates)
-
-    kept : (work : Work) (r : ℕ) (request : Request) → slice_index_or walks r None ≡ None → IsKeptAs (start_state script).account r request work (slice_index_or walks r None)
-    kept (Change ops) r request none = none
-    kept (Look program) r request none = subst (λ (o : Option Walk). IsKeptAs (start_state script).account r request (Look program) o) (sym none) (unbegun r)
+    }))

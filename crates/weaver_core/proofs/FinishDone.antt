@@ -32,29 +32,31 @@ use Rattle.weave_entries.specs.declared.oracle_log.OracleEntry.{OracleEntry}
 use Rattle.weave_entries.specs.declared.session_log.SessionEntry.{SessionEntry}
 use Rattle.weave_entries.specs.declared.session_log.SessionDeed.TheVariants.{Replied}
 use Rattle.weave_entries.specs.declared.store_log.StoreEntry.{StoreEntry}
-use Rattle.weave_entries.specs.GateReplay.{ended_in, has_ended_in, program_begun}
+use Rattle.weave_entries.specs.GateReplay.{Begun, ended_in, has_ended_in, is_begun, program_begun, running_of}
 use Rattle.weave_entries.specs.SessionReplay.{begin_by, begins_in, has_begun_in, has_reply_in, replied_in, reply_by, session_stamp_of}
 use Rattle.weave_account.specs.declared.account.Account.{Account}
 use Rattle.weave_account.specs.Account.{gate_log, reads_of, session_log}
 use Rattle.weave_account.specs.IsAccount.{IsAccount}
 use Rattle.weave_account.specs.Sessions.{requests_of_session}
 use Rattle.step_rules.specs.Answers.{answer_of, answer_of_reply, for_request}
-use Rattle.step_rules.specs.CoreState.{with_session_deed}
+use Rattle.step_rules.specs.CoreState.{with_gate_deed, with_session_deed}
 use Rattle.step_rules.specs.Entries.{after_reply, after_work, at_request, with_finish}
 use Rattle.step_rules.specs.Requests.{has_begun, has_ended, has_reply, is_answered}
 use Rattle.weaver_core.specs.Clients as clients
 use Rattle.weaver_core.specs.Cores.{AreOf, MachinesDo, MachinesView, machines_of}
-use Rattle.weaver_core.specs.Finishing.{AreSameParts, CanBeFinished, Finishes, FinishesKept, IsFinishedWith}
+use Rattle.weaver_core.specs.Finishing.{AreSameParts, CanBeFinished, Finishes, IsFinished, IsRunningOn, last_author}
 use Rattle.weaver_core.specs.GateTable as gates
 use Rattle.weaver_core.specs.ShardTable.{ShardTable}
 use Rattle.weaver_core.specs.Staying.{StayLaws}
-use Rattle.weaver_core.specs.Walks.{IsFinishedAs, IsKeptAs, IsKeptIn, IsProgramAs, IsRunningAs}
-use Rattle.weaver_core.specs.declared.walks.Walking.{Walking}
-use Rattle.weaver_core.specs.declared.walks.Walk.{Walk}
-use Rattle.weaver_core.specs.declared.walks.Walk.TheVariants as kept
+use Rattle.weaver_core.specs.Walks.{IsRunningIn}
+use Rattle.weaver_core.specs.declared.walks.Running.{Running}
+use Rattle.weaver_core.specs.Splitting.{AreAllByLog, RepliesToProgram, ValuesAfterFinish}
+use Rattle.weaver_core.specs.Visiting.{Asks}
+use Rattle.path_program.specs.AnyPrograms.{next_read}
+use Rattle.weaver_core.proofs.Authors.{last-author-is}
+use Rattle.weaver_core.proofs.OpenRuns.{open-runs}
 use Rattle.weaver_core.proofs.BeginDone.{requests-are}
 use Rattle.weaver_core.proofs.CanVisit.{RunLaws, not-ended, runs-there}
-use Rattle.weaver_core.proofs.ProgramsSet.{log-more}
 use Rattle.weaver_core.proofs.Resting.{done, gate-frame, rests, same-sessions}
 use Rattle.weaver_core.proofs.VisitDone.{next-over}
 
@@ -69,21 +71,6 @@ is-open : (b w x : Bool) → (b && not w) ≡ true → (not b || w || x) ≡ x
 is-open false w x e = absurd (let f : false ≡ true = e in cc)
 is-open true true x e = absurd (let f : false ≡ true = e in cc)
 is-open true false x e = refl
-
--- what is not found is not there
-none-any : {A : Type 0} (p : A → Bool) (xs : List A) → find p xs ≡ None → list_any p xs ≡ false
-none-any p [] e = refl
-none-any p (x ∷ xs) e = elim (p x) as (λ b. cond b (Some x) (find p xs) ≡ None → (b || list_any p xs) ≡ false) [
-  | true ↦ λ h. absurd (none-some x (sym h))
-  | false ↦ λ h. none-any p xs h
-] e
-
-no-stamp : (r : ℕ) (log : List SessionEntry) → session_stamp_of r log ≡ None → has_begun_in r log ≡ false
-no-stamp r log e = none-any (λ (begun : ℕ × Stamp). begun.0 == r) (begins_in log) (by (find (λ (begun : ℕ × Stamp). begun.0 == r) (begins_in log)) refl e)
-  where
-    by : (o : Option (ℕ × Stamp)) → find (λ (begun : ℕ × Stamp). begun.0 == r) (begins_in log) ≡ o → option_map (λ (begun : ℕ × Stamp). begun.1) o ≡ None → find (λ (begun : ℕ × Stamp). begun.0 == r) (begins_in log) ≡ None
-    by None at h = at
-    by (Some begun) at h = absurd (none-some begun.1 (sym h))
 
 module _ (script : Script) (old : gates.GateTable) (store : List StoreEntry) (oracle : List OracleEntry) (shards : ShardTable) (was : clients.ClientTable) (notices : List Clock)
     (are : AreOf script (machines_of old store oracle shards was notices)) (r : ℕ) (request : Request) (request-is : request_at script r ≡ Some request) (program : Program) (looks : request.work ≡ Look program)
@@ -103,25 +90,45 @@ module _ (script : Script) (old : gates.GateTable) (store : List StoreEntry) (or
   abbrev next : Option Name
   next = next_visit (reads_of account r) program
 
-  -- what is kept is that of the program
-  its-walk : (walk : Option Walk) → IsKeptIn script account r walk → IsProgramAs account r request program walk
-  its-walk walk has =
-      let same : has.request ≡ request = same_Some has.request request (sym has.request_is ∙ request-is) in
-      subst (λ (work : Work). IsKeptAs account r request work walk) looks (subst (λ (one : Request). IsKeptAs account r one one.work walk) same has.kept)
+  -- if its session waits for its reply, it is running there
+  record IsItsRun : Type 0 where
+    running : Running
+    running_is : (clients.values_at was.values request.session).running ≡ Some running
+    runs : IsRunningIn script account r running
 
-  pub can-be-finished : ((one : Script) (q : ℕ) (asked : Request) → request_at one q ≡ Some asked → Contains (requests_of_session one asked.session) q) → (walk : Option Walk) → IsKeptIn script account r walk → CanBeFinished old was request.gate request.session r walk
-  can-be-finished among walk has =
+  its-run : AreAllByLog script account was.values → clients.is_open_in r session ≡ true → IsItsRun
+  its-run all waits =
+      let one = open-runs stay script account are.limits are.core.account was.values all r request request-is (are.limits.sessions r request request-is) program looks waits in
+      record { running = one.running; running_is = one.running_is; runs = one.runs }
+
+  same-request : (running : Running) (runs : IsRunningIn script account r running) → runs.look.request ≡ request
+  same-request running runs = same_Some runs.look.request request (sym runs.look.request_is ∙ request-is)
+
+  begun-here : (running : Running) (runs : IsRunningIn script account r running) → program_begun r log ≡ Some (record { author = runs.runs.author; request = r; stamp = running.stamp })
+  begun-here running runs = ap (λ (one : Request). program_begun r (gate_log account one.gate)) (sym (same-request running runs)) ∙ runs.runs.begun
+
+  author-is : (running : Running) (runs : IsRunningIn script account r running) → last_author r log ≡ runs.runs.author
+  author-is running runs = last-author-is script account are.core.account request.gate r (record { author = runs.runs.author; request = r; stamp = running.stamp }) (begun-here running runs)
+
+  pub can-be-finished : AreAllByLog script account was.values → CanBeFinished old was request.gate request.session r
+  can-be-finished all =
       let home = are.limits.homes r request request-is in
       let below = are.limits.sessions r request request-is in
       let many = are.frame.gates in
-      let all = are.core.sessions in
+      let sixty-four = are.core.sessions in
       record {
         gate = omega (arith, home, many);
-        session_there = omega (arith, below, all);
-        among = subst (λ rs. Contains rs r) (sym (requests-are script old store oracle shards was notices are r request.session below)) (among script r request request-is);
-        runs = λ running is.
-            let runs = subst (λ (o : Option Walk). IsProgramAs account r request program o) is (its-walk walk has) in
-            runs-there run script account are.limits are.core.account r request request-is program looks (record { author = running.author; request = r; stamp = running.program.stamp }) runs.begun runs.runs;
+        session_there = omega (arith, below, sixty-four);
+        among = subst (λ rs. Contains rs r) (sym (requests-are script old store oracle shards was notices are r request.session below)) (stay.among script r request request-is);
+        runs = λ waits.
+            let one = its-run all waits in
+            record {
+              running = one.running;
+              running_is = one.running_is;
+              request_is = one.runs.runs.request_is;
+              there = subst (λ n. IsTrue (list_any (is_begun n r) (running_of log))) (sym (author-is one.running one.runs))
+                  (runs-there run script account are.limits are.core.account r request request-is program looks (record { author = one.runs.runs.author; request = r; stamp = one.running.stamp }) (begun-here one.running one.runs) one.runs.runs.runs);
+            };
       }
 
   abbrev tests : Bool
@@ -133,65 +140,71 @@ module _ (script : Script) (old : gates.GateTable) (store : List StoreEntry) (or
   answered-is : is_answered account r request request.work ≡ not (is_some next)
   answered-is = ap (is_answered account r request) looks
 
-  module _ (new : gates.GateTable) (is : clients.ClientTable) (walk then_walk : Option Walk) (has : IsKeptIn script account r walk) (free : (a b : List (Name × State)) (one : Program) → AreSameReads a b → next_visit a one ≡ next_visit b one) where
+  module _ (all : AreAllByLog script account was.values) (new : gates.GateTable) (is : clients.ClientTable) (free : (a b : List (Name × State)) (one : Program) → AreSameReads a b → next_visit a one ≡ next_visit b one) where
     abbrev after : MachinesView
     after = machines_of new store oracle shards is notices
 
-    same-parts : AreSameParts old new was is → after ≡ before
+    pub same-parts : AreSameParts old new was is → after ≡ before
     same-parts same = ap (λ (t : gates.GateTable). machines_of t store oracle shards is notices) same.gates_are ∙ same-sessions old store oracle shards was notices is same.clients_are
 
     idles : tests ≡ true → AreSameParts old new was is → MachinesDo script (step.Reply r) before after answer.Idle
     idles test same = rests script (step.Reply r) before after answer.Idle (answer-is true test) refl (same-parts same)
 
     -- a running program has not ended
-    still-runs : (running : Walking) → IsRunningAs account r request program running → has_ended account r request ≡ false
+    still-runs : (running : Running) → IsRunningIn script account r running → has_ended account r request ≡ false
     still-runs running runs = elim (cases_Bool (has_ended_in r log)) [
       | inl ended ↦
           let from = any_has (λ ended. ended == r) (ended_in log) ended in
-          absurd (not-ended run script account are.limits are.core.account r request request-is program looks (record { author = running.author; request = r; stamp = running.program.stamp }) runs.begun runs.runs
+          absurd (not-ended run script account are.limits are.core.account r request request-is program looks (record { author = runs.runs.author; request = r; stamp = running.stamp }) (begun-here running runs) runs.runs.runs
           (subst (λ n. Contains (ended_in log) n) (eqb-true from.0 r from.2) from.1))
       | inr runs-on ↦ runs-on
     ]
 
-    finished-done : clients.is_open_at was request.session r ≡ true → (running : Walking) → IsRunningAs account r request program running → (result : Answer) → IsFinishedWith old new was is request.gate request.session r running result
-        → MachinesDo script (step.Reply r) before after answer.Ok
-    finished-done waits running runs result did =
-        let over : next ≡ None = sym (next-over free running.program.walk program (reads_of account r) did.asks runs.walk) ∙ did.over in
+    -- the walk of the program that is running is its own
+    its-next : (running : Running) (runs : IsRunningIn script account r running) → Asks running.walk → next_read running.walk ≡ next
+    its-next running runs asks =
+        next-over free running.walk runs.program (reads_of account r) asks runs.runs.walk
+        ∙ ap (next_visit (reads_of account r)) (same-program (same-request running runs))
+      where
+        same-program : runs.look.request ≡ request → runs.program ≡ program
+        same-program same = let both : Look runs.program ≡ Look program = sym runs.look.work_is ∙ ap (λ (one : Request). one.work) same ∙ looks in cc
+
+    one-running : (a b : Running) → (clients.values_at was.values request.session).running ≡ Some a → (clients.values_at was.values request.session).running ≡ Some b → a ≡ b
+    one-running a b at bt = same_Some a b (sym at ∙ bt)
+
+    finished-done : IsFinished old new was is request.gate request.session r → MachinesDo script (step.Reply r) before after answer.Ok
+    finished-done did =
+        let one = its-run all did.is_open in
+        let running = did.running in
+        let same = one-running one.running running one.running_is did.running_is in
+        let runs = subst (IsRunningIn script account r) same one.runs in
+        let over : next ≡ None = sym (its-next running runs did.is_reply.asks) ∙ did.is_reply.over in
+        let adds = did.finished.adds in
         done script (step.Reply r) before after
-        (answer-is false (is-open (has_begun account r request) (has_reply account r request) (not (is_answered account r request request.work)) waits ∙ ap not answered-is ∙ ap (λ (o : Option Name). not (not (is_some o))) over))
-        (ap (λ (all : Account). record { account = all; notices = notices })
-        ((λ i. record account { gates = did.adds.logs i; sessions = did.replied.logs i })
-        ∙ ap (λ (all : Account). with_session_deed all request.session (Replied r))
-        (sym (ap (after_work account r request) looks ∙ ap (λ (b : Bool). if b then account else with_finish account r request.gate (program_begun r log)) (still-runs running runs) ∙ ap (with_finish account r request.gate) runs.begun))
+        (answer-is false (is-open (has_begun account r request) (has_reply account r request) (not (is_answered account r request request.work)) did.is_open ∙ ap not answered-is ∙ ap (λ (o : Option Name). not (not (is_some o))) over))
+        (ap (λ (logs : Account). record { account = logs; notices = notices })
+        ((λ i. record account { gates = adds.logs i; sessions = did.finished.replied.logs i })
+        ∙ ap (λ n. with_session_deed (with_gate_deed account request.gate n (FinishedDeed r)) request.session (Replied r)) (author-is running runs)
+        ∙ ap (λ (logs : Account). with_session_deed logs request.session (Replied r))
+        (sym (ap (after_work account r request) looks ∙ ap (λ (b : Bool). if b then account else with_finish account r request.gate (program_begun r log)) (still-runs running runs) ∙ ap (with_finish account r request.gate) (begun-here running runs)))
         ∙ sym (ap (at_request (after_reply account r) account) request-is)))
-        (ap (λ (rs : List (List ℕ)). record (machines_of new store oracle shards was notices).frame { requests = rs }) did.replied.requests ∙ gate-frame old store oracle shards was notices new request.gate running.author (FinishedDeed r) did.adds)
+        (ap (λ (rs : List (List ℕ)). record (machines_of new store oracle shards was notices).frame { requests = rs }) did.finished.replied.requests ∙ gate-frame old store oracle shards was notices new request.gate (last_author r log) (FinishedDeed r) adds)
         tt
 
-    finish-ok : clients.is_open_at was request.session r ≡ true → (result : Answer) → (o : Option Walk) → IsProgramAs account r request program o → FinishesKept old new was is request.gate request.session r o (Some result) → MachinesDo script (step.Reply r) before after answer.Ok
-    finish-ok waits result None kept did = absurd did
-    finish-ok waits result (Some (kept.Finished earlier)) kept did = absurd did
-    finish-ok waits result (Some (kept.Running running)) runs did = finished-done waits running runs result did
+    going-idle : IsRunningOn was request.session r → tests ≡ true
+    going-idle on =
+        let one = its-run all on.is_open in
+        let running = on.running in
+        let same = one-running one.running running one.running_is on.running_is in
+        let runs = subst (IsRunningIn script account r) same one.runs in
+        let going : is_some next ≡ true = ap is_some (sym (its-next running runs on.going.asks)) ∙ on.going.next in
+        is-open (has_begun account r request) (has_reply account r request) (not (is_answered account r request request.work)) on.is_open ∙ ap not answered-is ∙ ap (λ b. not (not b)) going
 
-    finish-idle : clients.is_open_at was request.session r ≡ true → (o : Option Walk) → IsProgramAs account r request program o → FinishesKept old new was is request.gate request.session r o None → MachinesDo script (step.Reply r) before after answer.Idle
-    finish-idle waits None none same =
-        let unbegun : has_begun account r request ≡ false = no-stamp r session (are.core.account.sessions.stamps r request request-is ∙ none) in
-        absurd (both_ways (has_begun account r request && not (has_reply account r request)) (ap (λ b. b && not (has_reply account r request)) unbegun) waits)
-    finish-idle waits (Some (kept.Finished earlier)) ends same =
-        let replied = (stay.replied script account are.limits are.core.account r request request-is (ap is_look looks)).0 ends.ended in
-        absurd (both_ways (has_begun account r request && not (has_reply account r request)) (ap (λ b. has_begun account r request && not b) replied ∙ and-false (has_begun account r request)) waits)
-      where
-        and-false : (b : Bool) → (b && not true) ≡ false
-        and-false true = refl
-        and-false false = refl
-    finish-idle waits (Some (kept.Running running)) runs did =
-        let going : is_some next ≡ true = ap is_some (sym (next-over free running.program.walk program (reads_of account r) did.2 runs.walk)) ∙ did.1 in
-        idles (is-open (has_begun account r request) (has_reply account r request) (not (is_answered account r request request.work)) waits ∙ ap not answered-is ∙ ap (λ b. not (not b)) going) did.0
-
-    pub finish-done : (a : StepAnswer) → Finishes old new was is request.gate request.session r walk then_walk a → MachinesDo script (step.Reply r) before after a
-    finish-done answer.Ok did = finish-ok did.is_open did.result walk (its-walk walk has) did.finishes
+    pub finish-done : (a : StepAnswer) → Finishes old new was is request.gate request.session r a → MachinesDo script (step.Reply r) before after a
+    finish-done answer.Ok did = finished-done did
     finish-done answer.Idle did = elim did.1 [
-      | inl closed ↦ idles (not-open (has_begun account r request) (has_reply account r request) (not (is_answered account r request request.work)) closed.0) closed.1
-      | inr waits ↦ finish-idle waits.0 walk (its-walk walk has) waits.1
+      | inl closed ↦ idles (not-open (has_begun account r request) (has_reply account r request) (not (is_answered account r request request.work)) closed) did.0
+      | inr on ↦ idles (going-idle on) did.0
     ]
     finish-done answer.Twice none = absurd none
     finish-done answer.Early none = absurd none
@@ -203,56 +216,29 @@ module _ (script : Script) (old : gates.GateTable) (store : List StoreEntry) (or
     finish-done (answer.Waits v) none = absurd none
     finish-done (answer.Again s g) none = absurd none
 
-    -- What is kept then
+    -- what it leaves of the values of the session
+    values-one : (a : StepAnswer) → Finishes old new was is request.gate request.session r a → ValuesAfterFinish before after request.session r a
+    values-one answer.Ok did =
+        let one = its-run all did.is_open in
+        let same = one-running one.running did.running one.running_is did.running_is in
+        record {
+          running = did.running;
+          running_is = did.running_is;
+          request_is = ap (λ (o : Running). o.request) (sym same) ∙ one.runs.runs.request_is;
+          reply = did.reply;
+          is_reply = did.is_reply;
+          values = did.finished.values;
+        }
+    values-one answer.Idle did = did.0.clients_are.values
+    values-one answer.Twice none = absurd none
+    values-one answer.Early none = absurd none
+    values-one answer.Busy none = absurd none
+    values-one answer.Old none = absurd none
+    values-one answer.Unknown none = absurd none
+    values-one answer.Repeat none = absurd none
+    values-one answer.Empty none = absurd none
+    values-one (answer.Waits v) none = absurd none
+    values-one (answer.Again s g) none = absurd none
 
-    kept-if-same : AreSameParts old new was is → then_walk ≡ walk → IsKeptIn script after.state.account r then_walk
-    kept-if-same same walk-is = subst (λ (v : MachinesView). IsKeptIn script v.state.account r then_walk) (sym (same-parts same)) (subst (IsKeptIn script account r) (sym walk-is) has)
-
-    pub kept-refused : AreSameParts old new was is → then_walk ≡ walk → IsKeptIn script after.state.account r then_walk
-    kept-refused = kept-if-same
-
-    module _ (is-next : IsAccount script after.state.account) (plain-free : (a b : List (Name × State)) (one : Program) (result : Answer) → AreSameReads a b → IsPlainAnswer (graph_read a) one result → IsPlainAnswer (graph_read b) one result) where
-      session-next : clients.AddsAt was is request.session (Replied r) → session_log after.state.account request.session ≡ session ++ record { author = request.session; deed = Replied r } ∷ []
-      session-next adds = log-more account after.state.account request.session (Replied r) (let below = are.limits.sessions r request request-is in let all = are.core.sessions in omega (arith, below, all)) adds.logs (λ q shard. refl)
-
-      kept-finished : (running : Walking) → IsRunningAs account r request program running → (result : Answer) → IsFinishedWith old new was is request.gate request.session r running result → then_walk ≡ Some (kept.Finished result) → IsKeptIn script after.state.account r then_walk
-      kept-finished running runs result did walk-is =
-          let log-is = session-next did.replied in
-          let ends : IsFinishedAs after.state.account r program result = record {
-            stamped = ap is_some (sym (is-next.sessions.stamps r request request-is) ∙ ap (session_stamp_of r) log-is
-                ∙ ap (λ (begins : List (ℕ × Stamp)). option_map (λ (begun : ℕ × Stamp). begun.1) (find (λ (begun : ℕ × Stamp). begun.0 == r) begins))
-                (flat_map-append (λ (entry : SessionEntry). begin_by entry.deed) session (record { author = request.session; deed = Replied r } ∷ []) ∙ append-nil (begins_in session))
-                ∙ are.core.account.sessions.stamps r request request-is ∙ runs.stamped);
-            ended = (stay.replied script after.state.account are.limits is-next r request request-is (ap is_look looks)).1
-                (subst (λ (l : List SessionEntry). IsTrue (has_reply_in r l)) (sym log-is)
-                (subst (λ (rs : List ℕ). IsTrue (list_any (λ replied. replied == r) rs)) (sym (flat_map-append (λ (entry : SessionEntry). reply_by entry.deed) session (record { author = request.session; deed = Replied r } ∷ [])))
-                (any_from (λ replied. replied == r) (replied_in session ++ r ∷ []) r (has_last (replied_in session) r) (eq-eqb r r refl))));
-            plain = plain-free runs.walk.reads (reads_of account r) program result runs.walk.same (subst (λ (one : Program). IsPlainAnswer (graph_read runs.walk.reads) one result) runs.walk.program_is (did.plain runs.walk.reads runs.walk.has_read));
-          } in
-          record { request = request; request_is = request-is; kept = subst (λ (o : Option Walk). IsKeptAs after.state.account r request request.work o) (sym walk-is) (subst (λ (work : Work). IsKeptAs after.state.account r request work (Some (kept.Finished result))) (sym looks) ends) }
-
-      kept-ok : (result : Answer) → (o : Option Walk) → IsProgramAs account r request program o → FinishesKept old new was is request.gate request.session r o (Some result) → then_walk ≡ Some (kept.Finished result) → IsKeptIn script after.state.account r then_walk
-      kept-ok result None kept did walk-is = absurd did
-      kept-ok result (Some (kept.Finished earlier)) kept did walk-is = absurd did
-      kept-ok result (Some (kept.Running running)) runs did walk-is = kept-finished running runs result did walk-is
-
-      rested : (o : Option Walk) → FinishesKept old new was is request.gate request.session r o None → AreSameParts old new was is
-      rested None same = same
-      rested (Some (kept.Finished earlier)) same = same
-      rested (Some (kept.Running running)) did = did.0
-
-      pub kept-after : (a : StepAnswer) → Finishes old new was is request.gate request.session r walk then_walk a → IsKeptIn script after.state.account r then_walk
-      kept-after answer.Ok did = kept-ok did.result walk (its-walk walk has) did.finishes did.walk_is
-      kept-after answer.Idle did = elim did.1 [
-        | inl closed ↦ kept-if-same closed.1 did.0
-        | inr waits ↦ kept-if-same (rested walk waits.1) did.0
-      ]
-      kept-after answer.Twice none = absurd none
-      kept-after answer.Early none = absurd none
-      kept-after answer.Busy none = absurd none
-      kept-after answer.Old none = absurd none
-      kept-after answer.Unknown none = absurd none
-      kept-after answer.Repeat none = absurd none
-      kept-after answer.Empty none = absurd none
-      kept-after (answer.Waits v) none = absurd none
-      kept-after (answer.Again s g) none = absurd none
+    pub finish-values : (a : StepAnswer) → Finishes old new was is request.gate request.session r a → RepliesToProgram script r before after a
+    finish-values a did other at = subst (λ (one : Request). ValuesAfterFinish before after one.session r a) (same_Some request other (sym request-is ∙ at)) (values-one a did)

@@ -41,8 +41,7 @@ use Rattle.weave_account.specs.PairsByPlace.{added_at, placed_by, placed_pair, v
 use Rattle.weave_account.specs.Shards.{ShardFitsAs}
 use Rattle.weaver_core.specs.Reporting.{pair_found, pairs_before, pairs_found, pairs_found_from}
 use Rattle.weaver_core.specs.Walks.{IsMarkOf, IsMarkedAs}
-use Rattle.weaver_core.proofs.BegunProgram.{inside}
-use Rattle.weaver_core.proofs.CanVisit.{commit-judged}
+use Rattle.weaver_core.proofs.CanVisit.{commit-judged, inside}
 use Rattle.weaver_core.proofs.Turns.{place-of}
 
 -- Pairs one by one

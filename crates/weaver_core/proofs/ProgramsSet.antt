@@ -1,4 +1,4 @@
--- What is kept of the programs after a step of a request.
+-- The logs after a step of a request.
 use Rattle.std.proofs.Common.{◌≡◌, ◌≢◌, ◌⊎◌, ℕ, ◌<◌, Bool, true, false, List, [], ◌∷◌, ◌++◌, length, Option, None, Some, inl, inr, refl, sym, ap, subst, ◌∙◌}
 use Rattle.std.specs.Prelude.{◌||◌, ◌==◌, slice_index_or, slice_set, cond, if◌then◌else◌}
 use Rattle.std.specs.List.{find, list_any}
@@ -24,10 +24,7 @@ use Rattle.step_rules.specs.Answers.{answer_of}
 use Rattle.step_rules.specs.CoreState.{CoreState}
 use Rattle.step_rules.specs.Entries.{state_with}
 use Rattle.step_rules.specs.Trace.{is_ok, state_after}
-use Rattle.weaver_core.specs.Staying.{StayLaws}
-use Rattle.weaver_core.specs.Walks.{AreWalksOf, IsKeptAs}
-use Rattle.weaver_core.specs.declared.walks.Walk.{Walk}
-use Rattle.weaver_core.proofs.ProgramsStay.{StaysAt, kept-stays}
+use Rattle.weaver_core.proofs.ProgramsStay.{StaysAt}
 
 -- a step is done, or leaves all as it was
 pub step-cases : (script : Script) (state : CoreState) (step : Step) → (state_after script state step ≡ state) ⊎ (state_after script state step ≡ state_with script state step)
@@ -36,26 +33,6 @@ step-cases script state step = by (is_ok (answer_of script state step))
     by : (b : Bool) → ((if b then state_with script state step else state) ≡ state) ⊎ ((if b then state_with script state step else state) ≡ state_with script state step)
     by true = inr refl
     by false = inl refl
-
--- Of one request something else is kept
-
-module _ (laws : StayLaws) (script : Script) (account next : Account) (limits : IsWithinLimits script) (is : IsAccount script account) (is-next : IsAccount script next) (goes : GoesOn account next) (r : ℕ)
-    (others : (q : ℕ) (request : Request) → request_at script q ≡ Some request → q ≢ r → StaysAt account next q request) where
-  pub walks-set : (walks : List (Option Walk)) (walk : Option Walk) → AreWalksOf script account walks → r < length walks → ((request : Request) → request_at script r ≡ Some request → IsKeptAs next r request request.work walk)
-      → AreWalksOf script next (slice_set walks r walk)
-  walks-set walks walk are within now = record {
-    many = length-set walks r walk ∙ are.many;
-    each = λ q request at. elim (cases_eq q r) [
-      | inl same ↦ subst (λ (o : Option Walk). IsKeptAs next q request request.work o) (sym (ap (λ n. slice_index_or (slice_set walks r walk) n None) same ∙ get_or-set_same walks r walk None within))
-          (subst (λ n. IsKeptAs next n request request.work walk) (sym same) (now request (ap (request_at script) (sym same) ∙ at)))
-      | inr other ↦ subst (λ (o : Option Walk). IsKeptAs next q request request.work o) (sym (get_or-set_other walks r q walk None other))
-          (kept-stays laws script account next limits is is-next goes q request at request.work refl (others q request at other) (slice_index_or walks q None) (are.each q request at))
-    ];
-  }
-
-  -- or the same
-  pub walks-rest : (walks : List (Option Walk)) → AreWalksOf script account walks → r < length walks → ((request : Request) → request_at script r ≡ Some request → IsKeptAs next r request request.work (slice_index_or walks r None)) → AreWalksOf script next walks
-  walks-rest walks are within now = subst (AreWalksOf script next) (set-get_or walks r None) (walks-set walks (slice_index_or walks r None) are within now)
 
 -- One more entry of a session
 
@@ -81,6 +58,11 @@ module _ (log : List SessionEntry) (author q : ℕ) where
       ap (λ (begins : List (ℕ × Stamp)). option_map (λ (begun : ℕ × Stamp). begun.1) (find (λ (begun : ℕ × Stamp). begun.0 == q) begins))
       (flat_map-append (λ (entry : SessionEntry). begin_by entry.deed) log (record { author = author; deed = Replied r } ∷ []) ∙ append-nil (begins_in log))
 
+  pub stamp-replied : session_stamp_of q (log ++ record { author = author; deed = Replied q } ∷ []) ≡ session_stamp_of q log
+  stamp-replied =
+      ap (λ (begins : List (ℕ × Stamp)). option_map (λ (begun : ℕ × Stamp). begun.1) (find (λ (begun : ℕ × Stamp). begun.0 == q) begins))
+      (flat_map-append (λ (entry : SessionEntry). begin_by entry.deed) log (record { author = author; deed = Replied q } ∷ []) ∙ append-nil (begins_in log))
+
   reply-rests : (deed : SessionDeed) → request_of deed ≢ q → has_reply_in q (log ++ record { author = author; deed = deed } ∷ []) ≡ has_reply_in q log
   reply-rests (Begun r stamp) other =
       ap (list_any (λ replied. replied == q)) (flat_map-append (λ (entry : SessionEntry). reply_by entry.deed) log (record { author = author; deed = Begun r stamp } ∷ []) ∙ append-nil (replied_in log))
@@ -93,7 +75,7 @@ module _ (account next : Account) (s : ℕ) (deed : SessionDeed) (within : s < l
   pub log-more : session_log next s ≡ session_log account s ++ record { author = s; deed = deed } ∷ []
   log-more = ap (λ (logs : List (List SessionEntry)). slice_index_or logs s []) sessions-are ∙ get_or-set_same account.sessions s (session_log account s ++ record { author = s; deed = deed } ∷ []) [] within
 
-  log-other : (t : ℕ) → t ≢ s → session_log next t ≡ session_log account t
+  pub log-other : (t : ℕ) → t ≢ s → session_log next t ≡ session_log account t
   log-other t other = ap (λ (logs : List (List SessionEntry)). slice_index_or logs t []) sessions-are ∙ get_or-set_other account.sessions s t (session_log account s ++ record { author = s; deed = deed } ∷ []) [] other
 
   -- of any other request the sessions say the same

@@ -56,10 +56,8 @@ use Rattle.step_rules.specs.Requests.{ops_in}
 use Rattle.step_rules.specs.Trace.{is_ok, state_after}
 use Rattle.weaver_core.specs.Cores.{AreOf, MachinesDo, MachinesView}
 use Rattle.weaver_core.specs.Staying.{CoreLaws, StayLaws}
-use Rattle.weaver_core.specs.Walks.{AreMarksOf, AreProgramsOf, AreWalksOf, HasReadAll, IsKeptAs, IsMarkedAs, IsOtherStep, IsProgramAs}
+use Rattle.weaver_core.specs.Walks.{AreMarksOf, HasReadAll, IsMarkedAs, IsOtherStep}
 use Rattle.weaver_core.specs.declared.walks.Running.{Running}
-use Rattle.weaver_core.specs.declared.walks.Walk.{Walk}
-use Rattle.weaver_core.specs.declared.walks.Walk.TheVariants as kept
 
 -- two tests that imply each other
 same-tests : (s t : Bool) → (s ≡ true → t ≡ true) → (t ≡ true → s ≡ true) → s ≡ t
@@ -69,7 +67,7 @@ same-tests false false f g = refl
 
 -- Lists
 
-find-more : {A : Type 0} (p : A → Bool) (xs ys : List A) (x : A) → find p xs ≡ Some x → find p (xs ++ ys) ≡ Some x
+pub find-more : {A : Type 0} (p : A → Bool) (xs ys : List A) (x : A) → find p xs ≡ Some x → find p (xs ++ ys) ≡ Some x
 find-more p [] ys x e = absurd (none-some x e)
 find-more p (y ∷ xs) ys x e = elim (p y) as (λ b. cond b (Some y) (find p xs) ≡ Some x → cond b (Some y) (find p (xs ++ ys)) ≡ Some x) [
   | true ↦ λ h. h
@@ -110,35 +108,6 @@ module _ (laws : StayLaws) (script : Script) (account next : Account) (limits : 
         let now = laws.replied script next limits is-next r request at looks in
         let was = laws.replied script account limits is r request at looks in
         same-tests (is_ended next r) (is_ended account r) (λ h. was.1 (sym same ∙ now.0 h)) (λ h. now.1 (same ∙ was.0 h))
-
-  program-kept : (r : ℕ) (request : Request) (program : Program) → request_at script r ≡ Some request → request.work ≡ Look program → StaysAt account next r request → (walk : Option Walk)
-      → IsProgramAs account r request program walk → IsProgramAs next r request program walk
-  program-kept r request program at looks stays None none = sym (is-next.sessions.stamps r request at) ∙ stays.stamps ∙ is.sessions.stamps r request at ∙ none
-  program-kept r request program at looks stays (Some (kept.Running running)) runs =
-      let more = goes.gates request.gate in
-      record {
-        request_is = runs.request_is;
-        begun = ap (program_begun r) more.1 ∙ program-stays r (gate_log account request.gate) more.0 _ runs.begun;
-        stamped = sym (is-next.sessions.stamps r request at) ∙ stays.stamps ∙ is.sessions.stamps r request at ∙ runs.stamped;
-        runs = ended-stays r request at (ap is_look looks) stays.replies ∙ runs.runs;
-        walk = read-stays running.program program account next r (laws.same_reads script account next limits is goes r stays.visits) runs.walk;
-      }
-  program-kept r request program at looks stays (Some (kept.Finished answer)) ends = record {
-    stamped = ap is_some (sym (is-next.sessions.stamps r request at) ∙ stays.stamps ∙ is.sessions.stamps r request at) ∙ ends.stamped;
-    ended = ended-stays r request at (ap is_look looks) stays.replies ∙ ends.ended;
-    plain = subst (λ (reads : List (Name × State)). IsPlainAnswer (graph_read reads) program answer) (sym (laws.same_reads script account next limits is goes r stays.visits)) ends.plain;
-  }
-
-  pub kept-stays : (r : ℕ) (request : Request) → request_at script r ≡ Some request → (work : Work) → request.work ≡ work → StaysAt account next r request → (walk : Option Walk)
-      → IsKeptAs account r request work walk → IsKeptAs next r request work walk
-  kept-stays r request at (Change ops) work-is stays walk h = h
-  kept-stays r request at (Look program) work-is stays walk h = program-kept r request program at work-is stays walk h
-
-  pub walks-stay : ((r : ℕ) (request : Request) → request_at script r ≡ Some request → StaysAt account next r request) → (walks : List (Option Walk)) → AreWalksOf script account walks → AreWalksOf script next walks
-  walks-stay stays walks are = record {
-    many = are.many;
-    each = λ r request at. kept-stays r request at request.work refl (stays r request at) (slice_index_or walks r None) (are.each r request at);
-  }
 
   -- The marks
 
@@ -295,22 +264,3 @@ module _ (there : (entry : SettledEntry) → settled_entry (oracle_entry entry) 
 
   pub step-same : (step : Step) → IsStepOf script step → IsOtherStep step → SameLogs account (state_after script state step).account
   step-same step is other = either-same (is_ok (answer_of script state step)) (state_with script state step) state (done-same step is other) (same-same account)
-
--- what is kept of the programs stays
-pub same-logs-stay : (laws : StayLaws) (script : Script) (account next : Account) → IsWithinLimits script → IsAccount script account → IsAccount script next → GoesOn account next → SameLogs account next
-    → (walks : List (Option Walk)) (marks : List (Option Name)) → AreProgramsOf script account walks marks → AreProgramsOf script next walks marks
-same-logs-stay laws script account next limits is is-next goes same walks marks are = record {
-  walks_are = walks-stay laws script account next limits is is-next goes (λ r request at. record {
-    stamps = ap (λ sessions. session_stamp_of r (slice_index_or sessions request.session [])) same.sessions_are;
-    replies = ap (λ sessions. has_reply_in r (slice_index_or sessions request.session [])) same.sessions_are;
-    visits = same.visits_are r;
-  }) walks are.walks_are;
-  marks_are = marks-stay laws script account next limits is is-next goes same.more same.oracle_is same.asked marks are.marks_are;
-}
-
-pub other-stay : (laws : StayLaws) (core : CoreLaws) (script : Script) (old new : MachinesView) (step : Step) → AreOf script old → IsStepOf script step → IsOtherStep step → (answer : StepAnswer) → MachinesDo script step old new answer
-    → (walks : List (Option Walk)) (marks : List (Option Name)) → AreProgramsOf script old.state.account walks marks → AreProgramsOf script new.state.account walks marks
-other-stay laws core script old new step are there other answer did walks marks kept =
-    subst (λ (state : CoreState). AreProgramsOf script state.account walks marks) (sym did.state_is)
-    (same-logs-stay laws script old.state.account (state_after script old.state step).account are.limits are.core.account (core.tried script old.state step are.limits there did.small are.core).account
-    (core.goes_on script old.state step are.limits there are.core) (step-same laws.there script old.state are.core.account.shards.as_many step there other) walks marks kept)

@@ -1,7 +1,9 @@
 -- `reply` of a transaction, by what the sessions did.
-use Rattle.std.proofs.Common.{◌≡◌, ℕ, Bool, true, false, not, List, Contains, IsTrue, Some, refl, sym, ap, subst, ◌∙◌, arith}
+use Rattle.std.proofs.Common.{◌≡◌, ℕ, Bool, true, false, not, List, [], Contains, IsTrue, Option, Some, refl, sym, ap, subst, ◌∙◌, arith}
 use Rattle.std.specs.Prelude.{◌&&◌, ◌||◌, ◌==◌, if◌then◌else◌}
+use Rattle.std.proofs.lemmas.Option.{same_Some}
 use Rattle.vector_stamp.specs.declared.clock.Clock.{Clock}
+use Rattle.vector_stamp.specs.declared.clock.Stamp.{Stamp}
 use Rattle.program_defs.specs.Limits.{IsWithinLimits}
 use Rattle.program_defs.specs.Works.{is_change}
 use Rattle.program_defs.specs.declared.script.Request.{Request}
@@ -28,11 +30,12 @@ use Rattle.step_rules.specs.CoreState.{with_session_deed}
 use Rattle.step_rules.specs.Entries.{after_reply, after_work, at_request}
 use Rattle.step_rules.specs.Requests.{has_begun, has_ended, has_reply, is_answered}
 use Rattle.weaver_core.specs.Clients as clients
-use Rattle.weaver_core.specs.Cores.{AreOf, MachinesDo, MachinesView, machines_of}
+use Rattle.weaver_core.specs.Cores.{AreOf, MachinesDo, MachinesView, RepliesToChange, machines_of, values_after_reply}
 use Rattle.weaver_core.specs.GateTable as gates
-use Rattle.weaver_core.specs.Replying.{IsThere, Replies, RepliesToOne, can_have_reply, is_flying}
+use Rattle.weaver_core.specs.Replying.{IsThere, Replies, RepliesToOne, can_have_reply, is_flying, reply_of_change}
 use Rattle.weaver_core.proofs.BeginDone.{requests-are}
 use Rattle.weaver_core.proofs.Resting.{done, rests, session-gains}
+use Rattle.weaver_core.proofs.Turns.{last-any}
 
 -- the laws of weave_account that are cited
 pub record ReplyLaws : Type 0 where
@@ -94,13 +97,13 @@ module _ (script : Script) (old : gates.GateTable) (store : List StoreEntry) (or
     told : (b : Bool) → can_have_reply old was request r ≡ b → for_request (answer_of_reply account r) (request_at script r) ≡ (if not b then answer.Idle else answer.Ok)
     told b can = ap (for_request (answer_of_reply account r)) request-is ∙ ap (λ (t : Bool). if t then answer.Idle else answer.Ok) (tests ∙ ap not can)
 
-    one-done : (a : StepAnswer) → RepliesToOne old was is r request a → MachinesDo script (step.Reply r) before (machines_of old store oracle shards is notices) a
+    one-done : (a : StepAnswer) → RepliesToOne old store was is r request a → MachinesDo script (step.Reply r) before (machines_of old store oracle shards is notices) a
     one-done answer.Ok did =
-        let gains = session-gains old store oracle shards was notices is request.session (Replied r) did.1 in
-        done script (step.Reply r) before _ (told true did.0)
+        let gains = session-gains old store oracle shards was notices is request.session (Replied r) did.adds in
+        done script (step.Reply r) before _ (told true did.can_be)
         (ap (λ (all : Account). record { account = all; notices = notices })
         (gains ∙ ap (λ (all : Account). with_session_deed all request.session (Replied r)) (sym (work-is request request.work change)) ∙ sym (ap (at_request (after_reply account r) account) request-is)))
-        (ap (λ (rs : List (List ℕ)). record before.frame { requests = rs }) did.1.requests) tt
+        (ap (λ (rs : List (List ℕ)). record before.frame { requests = rs }) did.adds.requests) tt
     one-done answer.Idle did = rests script (step.Reply r) before _ answer.Idle (told false did.0) refl (ap (λ (t : clients.ClientTable). machines_of old store oracle shards t notices) did.1)
     one-done answer.Twice none = absurd none
     one-done answer.Early none = absurd none
@@ -112,5 +115,24 @@ module _ (script : Script) (old : gates.GateTable) (store : List StoreEntry) (or
     one-done (answer.Waits v) none = absurd none
     one-done (answer.Again s g) none = absurd none
 
-  pub reply-done : (is : clients.ClientTable) → IsTrue (is_transaction script r) → (a : StepAnswer) → Replies script old was is r a → MachinesDo script (step.Reply r) before (machines_of old store oracle shards is notices) a
+  pub reply-done : (is : clients.ClientTable) → IsTrue (is_transaction script r) → (a : StepAnswer) → Replies script old store was is r a → MachinesDo script (step.Reply r) before (machines_of old store oracle shards is notices) a
   reply-done is transaction a did = one-done is did.request did.request_is transaction a did.replies
+
+  -- the values are those after the reply
+  values-one : (is : clients.ClientTable) (request : Request) (a : StepAnswer) → RepliesToOne old store was is r request a → is.values ≡ values_after_reply before request.session r a
+  values-one is request answer.Ok did =
+      did.values ∙ ap (λ (last : Option Stamp). clients.with_reply_at was.values request.session (reply_of_change store last r)) (last-any (clients.requests_at was request.session) [] (clients.log_at was request.session))
+  values-one is request answer.Idle did = ap (λ (t : clients.ClientTable). t.values) did.1
+  values-one is request answer.Twice none = absurd none
+  values-one is request answer.Early none = absurd none
+  values-one is request answer.Busy none = absurd none
+  values-one is request answer.Old none = absurd none
+  values-one is request answer.Unknown none = absurd none
+  values-one is request answer.Repeat none = absurd none
+  values-one is request answer.Empty none = absurd none
+  values-one is request (answer.Waits v) none = absurd none
+  values-one is request (answer.Again s g) none = absurd none
+
+  pub reply-values : (is : clients.ClientTable) (a : StepAnswer) → Replies script old store was is r a → RepliesToChange script r before (machines_of old store oracle shards is notices) a
+  reply-values is a did request at =
+      values-one is did.request a did.replies ∙ ap (λ (one : Request). values_after_reply before one.session r a) (same_Some did.request request (sym did.request_is ∙ at))

@@ -1,10 +1,17 @@
 -- The parts of a report are those of the account.
-use Rattle.std.proofs.Common.{◌≡◌, ℕ, zero, suc, ◌+◌, ◌<◌, ◌≤◌, true, false, is_some, List, [], ◌∷◌, length, map, Option, None, Some, refl, sym, ap, subst, ◌∙◌, arith}
-use Rattle.std.specs.Prelude.{IsSomeAnd, slice_index_or}
-use Rattle.std.specs.List.{AllByRecursion, range_with_len}
+use Rattle.std.proofs.Common.{◌≡◌, ℕ, zero, suc, ◌<◌, true, false, List, [], ◌∷◌, length, map, Contains, Option, None, Some, inl, inr, refl, sym, ap, subst, ◌∙◌, arith}
+use Rattle.std.specs.Prelude.{IsSomeAnd, slice_get, slice_index_or}
+use Rattle.std.specs.List.{AllByRecursion}
+use Rattle.std.specs.List.{range_with_len}
+use Rattle.std.proofs.lemmas.Bool.{cases_Bool}
+use Rattle.std.proofs.lemmas.List.{length-map}
+use Rattle.std.proofs.lemmas.List.FromFn.{length-range_with_len}
+use Rattle.std.proofs.lemmas.Option.{slice_get_within}
+use Rattle.proof_base.proofs.Members.{map_has}
 use Rattle.vector_stamp.specs.declared.clock.Stamp.{Stamp}
 use Rattle.graph_ops.specs.declared.op.Op.{Op}
-use Rattle.program_defs.specs.declared.program.Answer.{Answer}
+use Rattle.program_defs.specs.Limits.{IsWithinLimits}
+use Rattle.program_defs.specs.Works.{is_look}
 use Rattle.program_defs.specs.declared.program.Program.{Program}
 use Rattle.program_defs.specs.declared.script.Request.{Request}
 use Rattle.program_defs.specs.declared.script.Script.{Script}
@@ -12,62 +19,81 @@ use Rattle.program_defs.specs.declared.script.Work.{Work}
 use Rattle.program_defs.specs.declared.script.Work.TheVariants.{Change, Look}
 use Rattle.report_rules.specs.Lookups.{request_at}
 use Rattle.report_rules.specs.declared.report.Reply.{Reply}
+use Rattle.report_rules.specs.declared.report.ReplyState.{ReplyState}
 use Rattle.report_rules.specs.declared.report.Report.{Report}
-use Rattle.weave_entries.specs.declared.store_log.StoreEntry.{StoreEntry}
 use Rattle.weave_account.specs.declared.account.Account.{Account}
-use Rattle.weave_account.specs.Account.{pairs_in, stamp_of}
+use Rattle.weave_account.specs.Account.{is_ended, pairs_in, session_log, stamp_of}
+use Rattle.weave_account.specs.IsAccount.{IsAccount}
 use Rattle.weave_account.specs.Pairs.{ArePairsOf}
 use Rattle.weave_account.specs.Report.{IsReplyInAccount, IsStateOf, MatchesAccount}
-use Rattle.weaver_core.specs.Reporting.{AreStampsOf, reply_kept, state_kept, state_stamped, state_walked}
-use Rattle.weaver_core.specs.Walks.{AreWalksOf, IsFinishedAs, IsKeptAs, IsProgramAs}
-use Rattle.weaver_core.specs.declared.walks.Walk.{Walk}
-use Rattle.weaver_core.specs.declared.walks.Walk.TheVariants as kept
+use Rattle.weaver_core.specs.Clients.{SessionValues, values_at}
+use Rattle.weaver_core.specs.Reporting.{AreRequestsReplies, AreStampsOf, IsFoundAmong, IsRequestsReply, IsStateFound, state_replied, state_stamped}
+use Rattle.weaver_core.specs.Splitting.{AreAllByLog}
+use Rattle.weaver_core.specs.Staying.{StayLaws}
 
--- the replies are of the requests in their order
-numbers-of : (stamps : List (Option Stamp)) (walks : List (Option Walk)) (store : List StoreEntry) (rs : List ℕ) → map (λ (reply : Reply). reply.request) (map (reply_kept stamps walks store) rs) ≡ rs
-numbers-of stamps walks store [] = refl
-numbers-of stamps walks store (r ∷ rs) = ap (λ rest. r ∷ rest) (numbers-of stamps walks store rs)
+-- what holds at each place holds of all
+all-places : {A : Type 0} (P : A → Type 0) (xs : List A) → ((i : ℕ) (x : A) → slice_get xs i ≡ Some x → P x) → AllByRecursion P xs
+all-places P [] each = tt
+all-places P (x ∷ xs) each = (each zero x refl, all-places P xs (λ i y at. each (suc i) y at))
 
--- what holds of each number below a count holds of the whole range
-each-number : (P : Reply → Type 0) (f : ℕ → Reply) (first count : ℕ) → ((r : ℕ) → first ≤ r → r < first + count → P (f r)) → AllByRecursion P (map f (range_with_len first count))
-each-number P f first zero each = tt
-each-number P f first (suc count) each = (each first (omega arith) (omega arith), each-number P f (first + 1) count (λ r low high. each r (omega (arith, low)) (omega (arith, high))))
-
-module _ (script : Script) (account : Account) (stamps : List (Option Stamp)) (walks : List (Option Walk)) (stamps-are : AreStampsOf account stamps) (many : length stamps ≡ length script.requests) (walks-are : AreWalksOf script account walks)
-    (there : (r : ℕ) → r < length script.requests → (request : Request) × (request_at script r ≡ Some request)) where
+module _ (stay : StayLaws) (script : Script) (account : Account) (limits : IsWithinLimits script) (is : IsAccount script account) (values : List SessionValues) (all : AreAllByLog script account values)
+    (stamps : List (Option Stamp)) (stamps-are : AreStampsOf account stamps) (many : length stamps ≡ length script.requests) where
   -- the state of a transaction
   change-is : (r : ℕ) (ops : List Op) (stamp : Option Stamp) → IsStateOf account r stamp (Change ops) (state_stamped account.store r stamp)
   change-is r ops None = refl
   change-is r ops (Some stamp) = refl
 
-  -- the state of a program
-  ended-state : (r : ℕ) (program : Program) (answer : Answer) → IsFinishedAs account r program answer → (stamp : Option Stamp) → is_some stamp ≡ true → IsStateOf account r stamp (Look program) (state_walked (kept.Finished answer))
-  ended-state r program answer ends None some = absurd (let e : false ≡ true = some in cc)
-  ended-state r program answer ends (Some stamp) some = (ends.ended, ends.plain)
+  module _ (r : ℕ) (request : Request) (at : request_at script r ≡ Some request) where
+    abbrev replies : List Reply
+    replies = (values_at values request.session).replies
 
-  program-is : (r : ℕ) (request : Request) (program : Program) (stamp : Option Stamp) → stamp ≡ stamp_of account r → (walk : Option Walk) → IsProgramAs account r request program walk → IsStateOf account r stamp (Look program) (state_kept account.store r stamp walk)
-  program-is r request program stamp is None none = subst (λ (o : Option Stamp). IsStateOf account r o (Look program) (state_stamped account.store r o)) (sym (is ∙ none)) refl
-  program-is r request program stamp is (Some (kept.Running running)) runs = subst (λ (o : Option Stamp). IsStateOf account r o (Look program) (state_walked (kept.Running running))) (sym (is ∙ runs.stamped)) (runs.runs, refl)
-  program-is r request program stamp is (Some (kept.Finished answer)) ends = ended-state r program answer ends stamp (ap is_some is ∙ ends.stamped)
+    -- the state of a program that has begun
+    found-is : (program : Program) → request.work ≡ Look program → (stamp : Stamp) → stamp_of account r ≡ Some stamp → (found : Option Reply) → IsFoundAmong replies r found → IsStateOf account r (Some stamp) (Look program) (state_replied found)
+    found-is program looks stamp stamped None none = (running, refl)
+      where
+        running : is_ended account r ≡ false
+        running = elim (cases_Bool (is_ended account r)) [
+          | inl ended ↦
+              let replied = (stay.replied_tested r (session_log account request.session)).0 ((stay.replied script account limits is r request at (ap is_look looks)).0 ended) in
+              let kept = (all.each request.session (limits.sessions r request at)).replies in
+              let from = map_has (λ (one : Reply). one.request) replies r (subst (λ (rs : List ℕ). Contains rs r) (sym kept.requests) replied) in
+              absurd (none from.0 from.1 from.2)
+          | inr on ↦ on
+        ]
+    found-is program looks stamp stamped (Some reply) found =
+        let kept = (all.each request.session (limits.sessions r request at)).replies.each reply found.0 in
+        let stamp-is : reply.stamp ≡ Some stamp = kept.stamp_is ∙ ap (stamp_of account) found.1 ∙ stamped in
+        subst (λ (work : Work). IsStateOf account r (Some stamp) work reply.state) looks
+        (subst (λ (o : Option Stamp). IsStateOf account r o request.work reply.state) stamp-is
+        (subst (λ (o : Option Request). IsSomeAnd o (λ (one : Request). IsStateOf account r reply.stamp one.work reply.state)) at
+        (subst (λ n. IsSomeAnd (request_at script n) (λ (one : Request). IsStateOf account n reply.stamp one.work reply.state)) found.1 kept.state_is)))
 
-  state-is : (r : ℕ) (request : Request) (work : Work) (stamp : Option Stamp) → stamp ≡ stamp_of account r → (walk : Option Walk) → IsKeptAs account r request work walk → IsStateOf account r stamp work (state_kept account.store r stamp walk)
-  state-is r request (Change ops) stamp is walk none = subst (λ (o : Option Walk). IsStateOf account r stamp (Change ops) (state_kept account.store r stamp o)) (sym none) (change-is r ops stamp)
-  state-is r request (Look program) stamp is walk has = program-is r request program stamp is walk has
+    state-is : (work : Work) → request.work ≡ work → (stamp : Option Stamp) → stamp ≡ stamp_of account r → (state : ReplyState) → IsStateFound account.store replies r stamp work state → IsStateOf account r stamp work state
+    state-is (Change ops) work-is stamp stamp-is state found = subst (λ (one : ReplyState). IsStateOf account r stamp (Change ops) one) (sym found) (change-is r ops stamp)
+    state-is (Look program) work-is None stamp-is state found = found
+    state-is (Look program) work-is (Some stamp) stamp-is state found =
+        subst (λ (one : ReplyState). IsStateOf account r (Some stamp) (Look program) one) (sym found.state_is) (found-is program work-is stamp (sym stamp-is) found.found found.is_found)
 
-  reply-is : (r : ℕ) → r < length script.requests → IsReplyInAccount script account (reply_kept stamps walks account.store r)
-  reply-is r below =
-      let request = there r below in
-      let stamp = slice_index_or stamps r None in
-      let is = stamps-are r (omega (arith, below, many)) in
-      record {
-        stamp_is = is;
-        state_is = subst (λ (o : Option Request). IsSomeAnd o (λ (one : Request). IsStateOf account r stamp one.work (state_kept account.store r stamp (slice_index_or walks r None)))) (sym request.1)
-            (state-is r request.0 request.0.work stamp is (slice_index_or walks r None) (walks-are.each r request.0 request.1));
-      }
+    reply-is : (reply : Reply) → IsRequestsReply account.store values stamps r request reply → r < length script.requests → IsReplyInAccount script account reply
+    reply-is reply one below =
+        let known = stamps-are r (omega (arith, below, many)) in
+        let stamp-is = one.stamp_is ∙ known in
+        let state = state-is request.work refl reply.stamp stamp-is reply.state (subst (λ (o : Option Stamp). IsStateFound account.store replies r o request.work reply.state) (sym one.stamp_is) one.state_is) in
+        record {
+          stamp_is = stamp-is ∙ ap (stamp_of account) (sym one.request_is);
+          state_is = subst (λ n. IsSomeAnd (request_at script n) (λ (k : Request). IsStateOf account n reply.stamp k.work reply.state)) (sym one.request_is)
+              (subst (λ (o : Option Request). IsSomeAnd o (λ (k : Request). IsStateOf account r reply.stamp k.work reply.state)) (sym at) state);
+        }
 
-  pub parts-match : (report : Report) → report.replies ≡ map (reply_kept stamps walks account.store) (range_with_len 0 (length script.requests)) → ArePairsOf account report.pairs (pairs_in account) → MatchesAccount script account report
-  parts-match report replies pairs = record {
-    requests = ap (map (λ (reply : Reply). reply.request)) replies ∙ numbers-of stamps walks account.store (range_with_len 0 (length script.requests));
-    replies = subst (AllByRecursion (IsReplyInAccount script account)) (sym replies) (each-number (IsReplyInAccount script account) (reply_kept stamps walks account.store) 0 (length script.requests) (λ r low high. reply-is r (omega (arith, high))));
+  pub parts-match : ((r : ℕ) → r < length script.requests → (request : Request) × (request_at script r ≡ Some request)) → (report : Report) → AreRequestsReplies account.store values stamps script.requests (length script.requests) report.replies → ArePairsOf account report.pairs (pairs_in account) → MatchesAccount script account report
+  parts-match there report replies pairs = record {
+    requests = replies.numbered;
+    replies = all-places (IsReplyInAccount script account) report.replies (λ r reply at.
+        let below : r < length script.requests = omega (arith, slice_get_within report.replies r reply at, count report.replies replies.numbered) in
+        let request = there r below in
+        reply-is r request.0 request.1 reply (replies.each r reply at request.0 request.1) below);
     pairs = pairs;
   }
+    where
+      count : (xs : List Reply) → map (λ (reply : Reply). reply.request) xs ≡ range_with_len 0 (length script.requests) → length xs ≡ length script.requests
+      count xs e = sym (length-map xs (λ (reply : Reply). reply.request)) ∙ ap length e ∙ length-range_with_len 0 (length script.requests)

@@ -91,7 +91,7 @@ module _ (old : gates.GateTable) (store : List StoreEntry) (oracle : List Oracle
 
   -- sessions of which only the room differs are the same machines
   pub same-sessions : (is : clients.ClientTable) → clients.AreSameClients was is → machines_of old store oracle shards is notices ≡ before
-  same-sessions is same = λ i. machines_of old store oracle shards (record { requests = same.requests i; logs = same.logs i; spares = is.spares }) notices
+  same-sessions is same = λ i. machines_of old store oracle shards (record { requests = same.requests i; logs = same.logs i; spares = is.spares; values = same.values i }) notices
 
   pub same-gates : (new : gates.GateTable) → new ≡ old → machines_of new store oracle shards was notices ≡ before
   same-gates new same = ap (λ (g : gates.GateTable). machines_of g store oracle shards was notices) same

@@ -59,3 +59,7 @@ on_ok_two (Err e) P R Q go p r = tt
 pub either_both : {A E : Type 0} (result : Result A E) (P : A → Type 0) (R S X : Type 0) → ((a : A) → P a → X) → (R → S → X) → IfOk result P → OnErr result R → OnErr result S → X
 either_both (Ok a) P R S X done refused p r s = done a p
 either_both (Err e) P R S X done refused p r s = refused r s
+
+pub either_two : {A E : Type 0} (result : Result A E) (P S : A → Type 0) (R X : Type 0) → ((a : A) → P a → S a → X) → (R → X) → IfOk result P → IfOk result S → OnErr result R → X
+either_two (Ok a) P S R X done refused p s r = done a p s
+either_two (Err e) P S R X done refused p s r = refused r

@@ -58,7 +58,7 @@ pub place-of : {A : Type 0} (xs : List A) (x : A) → Contains xs x → (i : ℕ
 place-of xs x has = (has.0, slice_get-get_or xs has.0 x has.1 ∙ ap Some has.2)
 
 -- the last of a list with one more
-last-of : (xs : List SessionEntry) (x : SessionEntry) → last_entry (xs ++ x ∷ []) ≡ Some x
+pub last-of : (xs : List SessionEntry) (x : SessionEntry) → last_entry (xs ++ x ∷ []) ≡ Some x
 last-of xs x =
     let place : length (xs ++ x ∷ []) - 1 ≡ length xs = omega (arith, length-step xs x) in
     ap (slice_get (xs ++ x ∷ [])) place ∙ get-here xs x []
@@ -90,7 +90,7 @@ module _ (requests : List ℕ) (rise : AllPairs (λ (a b : ℕ). a < b) requests
 -- The state at the end
 
 module _ (requests : List ℕ) where
-  one-more : (log : List SessionEntry) (entry : SessionEntry) → session_of requests (log ++ entry ∷ []) ≡ session_after (session_of requests log) entry.deed
+  pub one-more : (log : List SessionEntry) (entry : SessionEntry) → session_of requests (log ++ entry ∷ []) ≡ session_after (session_of requests log) entry.deed
   one-more log entry = fold-append (λ session (e : SessionEntry). session_after session e.deed) (session_start requests) log (entry ∷ [])
 
   pub requests-same : (log : List SessionEntry) → (session_of requests log).requests ≡ requests
@@ -118,7 +118,7 @@ last-any a b = by_last (λ log. (session_of a log).last ≡ (session_of b log).l
     by-deed (Replied r) one other so = so
 
 -- whether a deed begins a request
-abbrev is_begin : SessionDeed → Bool
+abbrev pub is_begin : SessionDeed → Bool
 is_begin (Begun r stamp) = true
 is_begin (Replied r) = false
 
@@ -128,7 +128,7 @@ pub record EndsWith (requests : List ℕ) (session : SessionState) (deed : Sessi
   pub at : slice_get requests (session.begun - 1) ≡ Some (request_by deed)
   pub waits : session.waits ≡ is_begin deed
 
-abbrev Rule : ℕ → List ℕ → List SessionEntry → SessionEntry → Type 0
+abbrev pub Rule : ℕ → List ℕ → List SessionEntry → SessionEntry → Type 0
 Rule number requests before entry = (entry.author ≡ number) × FitsSession (session_of requests before) entry.deed
 
 ends-so : (requests : List ℕ) (log : List SessionEntry) (deed : SessionDeed) → FitsSession (session_of requests log) deed → EndsWith requests (session_after (session_of requests log) deed) deed

@@ -7,7 +7,8 @@ use Rattle.std.proofs.lemmas.Bool.{cases_lt}
 use Rattle.std.proofs.lemmas.Option.{none-some, same_Some}
 use Rattle.weave_entries.specs.declared.session_log.SessionEntry.{SessionEntry}
 use Rattle.weave_entries.specs.SessionReplay.{IsSessionLog, SessionState, next_request, replied_count, session_of}
-use Rattle.weaver_core.specs.Clients.{ClientView, IsFirstUnanswered, IsUnanswered, last_entry, last_request, least_unanswered, lesser, log_of, request_by, requests_in, unanswered_at, unanswered_by, unanswered_in}
+use Rattle.weaver_core.specs.Clients.{IsFirstUnanswered, IsUnanswered, last_entry, last_request, least_unanswered, lesser, log_of, request_by, requests_in, unanswered_at, unanswered_by, unanswered_in}
+use Rattle.weaver_core.specs.declared.client.Client.{Client}
 use Rattle.weaver_core.proofs.AtClients.{table_of}
 use Rattle.weaver_core.proofs.Tables.{image-at}
 use Rattle.weaver_core.proofs.Turns.{ends-with, none-last, requests-same}
@@ -97,15 +98,15 @@ mapped-from f (z ∷ xs) (suc i) y at = mapped-from f xs i y at
 
 -- All sessions
 
-module _ (clients : List ClientView) where
+module _ (clients : List Client) where
   -- that of a session, by the table
-  by-table : (s : ℕ) (client : ClientView) → slice_get clients s ≡ Some client → unanswered_at (table_of clients) s ≡ unanswered_by client
+  by-table : (s : ℕ) (client : Client) → slice_get clients s ≡ Some client → unanswered_at (table_of clients) s ≡ unanswered_by client
   by-table s client at = λ i. unanswered_in (image-at requests_in clients s client at [] i) (image-at log_of clients s client at [] i)
 
   is-least : (most s r : ℕ) → unanswered_at (table_of clients) s ≡ Some r → least_unanswered most clients ≤ r
   is-least most s r is = by (slice_get clients s) refl
     where
-      by : (o : Option ClientView) → slice_get clients s ≡ o → least_unanswered most clients ≤ r
+      by : (o : Option Client) → slice_get clients s ≡ o → least_unanswered most clients ≤ r
       by (Some client) at = least-of (map unanswered_by clients) most s r (mapped unanswered_by clients s client at ∙ ap Some (sym (by-table s client at) ∙ is))
       by None none = absurd (none-some r (sym (ap (λ (rs : List ℕ). unanswered_in rs (get_or (map log_of clients) s [])) (mapped-past requests_in clients s [] none)) ∙ is))
 

@@ -1,5 +1,5 @@
 -- What the report of machines owes, but for its order: over the stamps that were noted.
-use Rattle.std.proofs.Common.{◌≡◌, ◌≢◌, ℕ, ◌+◌, ◌<◌, List, ◌∷◌, length, map, replicate, Contains, IsTrue, Option, None, Some, sym, ap, subst, ◌∙◌, arith}
+use Rattle.std.proofs.Common.{◌≡◌, ◌≢◌, ℕ, ◌+◌, ◌<◌, AllPairs, List, [], ◌∷◌, length, map, replicate, take, drop, inl, inr, Contains, IsTrue, Option, None, Some, sym, ap, subst, ◌∙◌, arith}
 use Rattle.std.specs.Prelude.{◌↔◌, slice_index_or, IsSomeAnd}
 use Rattle.std.specs.List.{range_with_len}
 use Rattle.std.proofs.lemmas.List.{length-replicate}
@@ -31,13 +31,21 @@ use Rattle.weave_account.specs.Oracle.{IsAskedByCommit}
 use Rattle.weave_account.specs.Pairs.{ArePairsOf}
 use Rattle.weave_account.specs.PairsByPlace.{placed_by, placed_pairs}
 use Rattle.weave_account.specs.Report.{MatchesAccount}
-use Rattle.weaver_core.specs.Clients.{ClientTable}
+use Rattle.weave_account.specs.Account.{session_log}
+use Rattle.weave_account.specs.Sessions.{requests_of_session}
+use Rattle.weave_entries.specs.SessionReplay.{replied_count, session_of}
+use Rattle.report_rules.specs.declared.report.Reply.{Reply}
+use Rattle.std.proofs.lemmas.Bool.{cases_lt}
+use Rattle.std.proofs.lemmas.List.{get_or_past, take-append-drop}
+use Rattle.proof_base.proofs.Ordered.{pairs_cons, pairs_front, pairs_head, pairs_none, pairs_tail}
+use Rattle.weaver_core.specs.Clients.{ClientTable, HaveRisingReplies, SessionValues, no_values, values_at}
 use Rattle.weaver_core.specs.Cores.{AreOf, machines_of}
 use Rattle.weaver_core.specs.GateTable.{GateTable}
 use Rattle.weaver_core.specs.Noting.{all_noted}
-use Rattle.weaver_core.specs.Reporting.{AreOfHomes, AreStampsOf, all_pairs_found, pairs_found, reply_kept, request_with}
-use Rattle.weaver_core.specs.Walks.{AreProgramsOf, IsMarkedAs}
-use Rattle.weaver_core.specs.declared.walks.Walk.{Walk}
+use Rattle.weaver_core.specs.Reporting.{AreOfHomes, AreRequestsReplies, AreStampsOf, all_pairs_found, pairs_found, request_with}
+use Rattle.weaver_core.specs.Splitting.{AreAllByLog, AreProgramsOf}
+use Rattle.weaver_core.specs.Staying.{StayLaws}
+use Rattle.weaver_core.specs.Walks.{IsMarkedAs}
 use Rattle.weaver_core.proofs.Found.{begun-with, found-at, judged-with, request-found}
 use Rattle.weaver_core.proofs.Marked.{all-are, unvisited-by}
 use Rattle.weaver_core.proofs.Noting.{count-noted, stamps-noted}
@@ -46,6 +54,18 @@ use Rattle.weaver_core.proofs.Reported.{parts-match}
 use Rattle.weaver_core.proofs.Resting.{some-one}
 use Rattle.weaver_core.proofs.Stamped.{stamp-is}
 use Rattle.weaver_core.proofs.Turns.{SessionLaws, place-of}
+
+-- the first ones of numbers that rise rise
+part-rises : (n : ℕ) (xs : List ℕ) → AllPairs (λ (a b : ℕ). a < b) xs → AllPairs (λ (a b : ℕ). a < b) (take n xs)
+part-rises n xs rise = pairs_front (λ (a b : ℕ). a < b) (take n xs) (drop n xs) (subst (AllPairs (λ (a b : ℕ). a < b)) (sym (take-append-drop n xs)) rise)
+
+-- and so do the replies whose requests rise
+image-rises : (replies : List Reply) → AllPairs (λ (a b : ℕ). a < b) (map (λ (one : Reply). one.request) replies) → AllPairs (λ (a b : Reply). a.request < b.request) replies
+image-rises [] rise = pairs_none (λ (a b : Reply). a.request < b.request)
+image-rises (reply ∷ replies) rise =
+    pairs_cons (λ (a b : Reply). a.request < b.request) reply replies
+    (λ other has. pairs_head (λ (a b : ℕ). a < b) reply.request (map (λ (one : Reply). one.request) replies) other.request rise (has_map (λ (one : Reply). one.request) replies other has))
+    (image-rises replies (pairs_tail (λ (a b : ℕ). a < b) reply.request (map (λ (one : Reply). one.request) replies) rise))
 
 -- the laws of weave_account that are cited
 pub record ReportLaws : Type 0 where
@@ -93,7 +113,7 @@ module _ (laws : ReportLaws) (sessions : SessionLaws) (script : Script) (gates :
   pub settled-homes : (entry : OracleEntry) → Contains oracle entry → AreOfHomes (settled_entry entry)
   settled-homes entry has event h = (laws.coherent script account are.limits are.core.account).homes event (laws.settled script account are.limits are.core.account entry has event h)
 
-  module _ (walks : List (Option Walk)) (marks : List (Option Name)) (kept : AreProgramsOf script account walks marks) where
+  module _ (stay : StayLaws) (marks : List (Option Name)) (kept : AreProgramsOf script account was.values marks) where
     found : (q : ℕ) (event : Stamp) → stamp_of account q ≡ Some event → request_with stamps event ≡ Some q
     found q event at =
         let is = are.core.account in
@@ -118,6 +138,18 @@ module _ (laws : ReportLaws) (sessions : SessionLaws) (script : Script) (gates :
         all-are account (request_with stamps) found placed-one marks oracle 0 (laws.settled script account are.limits is) (λ m entry at. let same : m ≡ 0 + m = omega arith in subst (λ k. IsMarkedAs account (settled_entry entry) (slice_index_or marks k None)) same (kept.marks_are.each m entry at)) (laws.placed script account are.limits is)
 
     -- and the report of these parts is the account's but for its order
-    pub unordered-matches : (report : Report) → report.replies ≡ map (reply_kept stamps walks store) (range_with_len 0 (length script.requests)) → report.pairs ≡ all_pairs_found (request_with stamps) store marks oracle → MatchesAccount script account report
+    pub unordered-matches : (report : Report) → AreRequestsReplies store was.values stamps script.requests (length script.requests) report.replies → report.pairs ≡ all_pairs_found (request_with stamps) store marks oracle → MatchesAccount script account report
     unordered-matches report replies pairs =
-        parts-match script account stamps walks stamps-are many kept.walks_are (some-one script) report replies (subst (λ (ps : List Pair). ArePairsOf account ps (pairs_in account)) (sym pairs) pairs-are)
+        parts-match stay script account are.limits are.core.account was.values kept.values_are stamps stamps-are many (some-one script) report replies (subst (λ (ps : List Pair). ArePairsOf account ps (pairs_in account)) (sym pairs) pairs-are)
+
+  -- the replies of a session rise
+  pub replies-rise : (stay : StayLaws) → AreAllByLog script account was.values → HaveRisingReplies was.values
+  replies-rise stay all s = elim (cases_lt s 64) [
+    | inl below ↦
+        let mine = (all.each s below).replies in
+        let right = are.core.account.sessions.logs s in
+        let rise = part-rises (replied_count (session_of (requests_of_session script s) (session_log account s))) (requests_of_session script s) (stay.rise script s) in
+        image-rises (values_at was.values s).replies (subst (λ (rs : List ℕ). AllPairs (λ (a b : ℕ). a < b) rs) (sym (mine.requests ∙ stay.replied_first s (requests_of_session script s) (session_log account s) right)) rise)
+    | inr past ↦
+        subst (λ (v : SessionValues). AllPairs (λ (a b : Reply). a.request < b.request) v.replies) (sym (get_or_past was.values s no_values (let many = all.many in omega (arith, many, past)))) (pairs_none (λ (a b : Reply). a.request < b.request))
+  ]

@@ -47,7 +47,7 @@ account-after core script old new one are there a did = (
 
 module _ (stay : StayLaws) (mark-laws : MarkLaws) (free : (a b : List (Name × State)) (program : Program) → AreSameReads a b → next_visit a program ≡ next_visit b program)
     (script : Script) (gates : GateTable) (store : List StoreEntry) (oracle : List OracleEntry) (shards : ShardTable) (was : ClientTable) (notices : List Clock)
-    (are : AreOf script (machines_of gates store oracle shards was notices)) (r author : ℕ) (running : Running) (runs : IsRunningIn script (machines_of gates store oracle shards was notices).state.account r (record { author = author; program = running })) (asks : Asks running.walk)
+    (are : AreOf script (machines_of gates store oracle shards was notices)) (r : ℕ) (running : Running) (runs : IsRunningIn script (machines_of gates store oracle shards was notices).state.account r running) (asks : Asks running.walk)
     (new : ShardTable) (then_oracle : List OracleEntry) (now : Running) (marks then_marks : List (Option Name)) where
   abbrev account : Account
   account = (machines_of gates store oracle shards was notices).state.account
@@ -61,15 +61,16 @@ module _ (stay : StayLaws) (mark-laws : MarkLaws) (free : (a b : List (Name × S
   same-account : Same → next ≡ account
   same-account same = λ i. (machines_of gates store (same.oracle_is i) (same.shards_are i) was notices).state.account
 
-  pub runs-if-same : Same → IsRunningIn script next r (record { author = author; program = now })
+  pub runs-if-same : Same → IsRunningIn script next r now
   runs-if-same same =
       let p = same.program in
-      subst (λ (all : Account). IsRunningIn script all r (record { author = author; program = now })) (sym (same-account same)) (record {
+      subst (λ (all : Account). IsRunningIn script all r now) (sym (same-account same)) (record {
         program = runs.program;
         look = runs.look;
         runs = record {
           request_is = p.request_is ∙ runs.runs.request_is;
-          begun = runs.runs.begun ∙ (λ i. Some (record { author = author; request = r; stamp = sym p.stamp_is i }));
+          author = runs.runs.author;
+          begun = runs.runs.begun ∙ (λ i. Some (record { author = runs.runs.author; request = r; stamp = sym p.stamp_is i }));
           stamped = runs.runs.stamped ∙ ap Some (sym p.stamp_is);
           runs = runs.runs.runs;
           walk = record {
@@ -101,13 +102,14 @@ module _ (stay : StayLaws) (mark-laws : MarkLaws) (free : (a b : List (Name × S
     next-is = sym (next-over free running.walk runs.program (reads_of account r) asks runs.runs.walk) ∙ did.next_is
 
     module _ (within : s < length shards.logs) where
-      runs-if-visited : IsRunningIn script next r (record { author = author; program = now })
+      runs-if-visited : IsRunningIn script next r now
       runs-if-visited = record {
         program = runs.program;
         look = runs.look;
         runs = record {
           request_is = did.read.request_is ∙ runs.runs.request_is;
-          begun = runs.runs.begun ∙ (λ i. Some (record { author = author; request = r; stamp = sym did.read.stamp_is i }));
+          author = runs.runs.author;
+          begun = runs.runs.begun ∙ (λ i. Some (record { author = runs.runs.author; request = r; stamp = sym did.read.stamp_is i }));
           stamped = runs.runs.stamped ∙ ap Some (sym did.read.stamp_is);
           runs = runs.runs.runs;
           walk = read-more script account next are.core.account is-next r runs.look.request runs.program s (updates_seen oracle log running.stamp v) v (made_entry (entries_asked oracle log running.stamp v)) running.stamp within refl shards-are
@@ -119,7 +121,7 @@ module _ (stay : StayLaws) (mark-laws : MarkLaws) (free : (a b : List (Name × S
       marks-if-visited marked = marks-after stay mark-laws script account next are.limits are.core.account is-next goes r running.stamp runs.runs.stamped v within refl refl shards-are did.visited.oracle_is marks then_marks did.marks_are marked
 
   module _ (is-next : IsAccount script next) (goes : GoesOn account next) (there : (v : Name) → shard_of v script.shards < length shards.logs) where
-    pub runs-after : (a : StepAnswer) → Visits script.shards shards new oracle then_oracle running now marks then_marks a → IsRunningIn script next r (record { author = author; program = now })
+    pub runs-after : (a : StepAnswer) → Visits script.shards shards new oracle then_oracle running now marks then_marks a → IsRunningIn script next r now
     runs-after answer.Ok did = runs-if-visited is-next goes did (there did.vertex)
     runs-after answer.Idle did = runs-if-same did.0
     runs-after (answer.Again s g) did = runs-if-same did.0

@@ -41,6 +41,20 @@ pub next-over : ((a b : List (Name × State)) (program : Program) → AreSameRea
 next-over free walk program all asks has =
     asks has.reads has.has_read ∙ ap (next_visit has.reads) has.program_is ∙ free has.reads all program has.same
 
+-- a visit leaves the stamp
+pub visit-stamp : (shards : ℕ) (old new : ShardTable) (oracle then_oracle : List OracleEntry) (was is : Running) (marks then_marks : List (Option Name)) (a : StepAnswer) → Visits shards old new oracle then_oracle was is marks then_marks a → is.stamp ≡ was.stamp
+visit-stamp shards old new oracle then_oracle was is marks then_marks answer.Ok did = did.read.stamp_is
+visit-stamp shards old new oracle then_oracle was is marks then_marks answer.Idle did = did.0.program.stamp_is
+visit-stamp shards old new oracle then_oracle was is marks then_marks (answer.Again s g) did = did.0.program.stamp_is
+visit-stamp shards old new oracle then_oracle was is marks then_marks answer.Twice none = absurd none
+visit-stamp shards old new oracle then_oracle was is marks then_marks answer.Early none = absurd none
+visit-stamp shards old new oracle then_oracle was is marks then_marks answer.Busy none = absurd none
+visit-stamp shards old new oracle then_oracle was is marks then_marks answer.Old none = absurd none
+visit-stamp shards old new oracle then_oracle was is marks then_marks answer.Unknown none = absurd none
+visit-stamp shards old new oracle then_oracle was is marks then_marks answer.Repeat none = absurd none
+visit-stamp shards old new oracle then_oracle was is marks then_marks answer.Empty none = absurd none
+visit-stamp shards old new oracle then_oracle was is marks then_marks (answer.Waits v) none = absurd none
+
 module _ (script : Script) (gates : GateTable) (store : List StoreEntry) (oracle : List OracleEntry) (shards : ShardTable) (was : ClientTable) (notices : List Clock)
     (are : AreOf script (machines_of gates store oracle shards was notices)) (r : ℕ) where
   abbrev before : MachinesView
@@ -56,13 +70,13 @@ module _ (script : Script) (gates : GateTable) (store : List StoreEntry) (oracle
   visit-account : (request : Request) → request_at script r ≡ Some request → account_with script before.state (step.Visit r) ≡ after_visit script account r (program_begun r (gate_log account request.gate)) (next_vertex account r request.work)
   visit-account request is = ap (at_request (λ (one : Request). after_visit script account r (program_begun r (gate_log account one.gate)) (next_vertex account r one.work)) account) is
 
-  module _ (author : ℕ) (running : Running) (runs : IsRunningIn script account r (record { author = author; program = running })) (free : (a b : List (Name × State)) (program : Program) → AreSameReads a b → next_visit a program ≡ next_visit b program) (asks : Asks running.walk)
+  module _ (running : Running) (runs : IsRunningIn script account r running) (free : (a b : List (Name × State)) (program : Program) → AreSameReads a b → next_visit a program ≡ next_visit b program) (asks : Asks running.walk)
       (senders : shards.gates ≡ script.gates) where
     abbrev request : Request
     request = runs.look.request
 
     abbrev begun : Begun
-    begun = record { author = author; request = r; stamp = running.stamp }
+    begun = record { author = runs.runs.author; request = r; stamp = running.stamp }
 
     its-next : next_vertex account r request.work ≡ next_read running.walk
     its-next = ap (next_vertex account r) runs.look.work_is ∙ sym (next-over free running.walk runs.program (reads_of account r) asks runs.runs.walk)

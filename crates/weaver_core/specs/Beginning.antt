@@ -40,6 +40,7 @@ pub record IsBegun (old new : gates.GateTable) (was is : clients.ClientTable) (r
   pub small : IsTrue (has_64_bits stamp.clock)
   pub gate : gates.AddsAt old new request.gate 0 (begin_deed r stamp request.work)
   pub session : clients.AddsAt was is request.session (Begun r stamp)
+  pub values : is.values ≡ was.values
   pub free : is_held_up old request ≡ false
 
 -- a transaction is in flight

@@ -1,5 +1,5 @@
 -- The sessions of a core with their logs, as contracts see them.
-use Rattle.std.specs.Prelude.{◌≡◌, ◌<◌, ◌≤◌, ◌-◌, ◌==◌, ℕ, Bool, false, min, not, nat_le, ◌&&◌, fold, length, List, [], ◌∷◌, ◌++◌, map, replicate, AllPairs, slice_get, slice_index_or, slice_set, Option, None, Some, if◌then◌else◌}
+use Rattle.std.specs.Prelude.{◌≡◌, ◌<◌, ◌≤◌, ◌-◌, ◌==◌, ℕ, Bool, false, min, not, nat_le, ◌&&◌, fold, length, List, [], ◌∷◌, ◌++◌, map, replicate, AllPairs, slice_get, slice_index_or, slice_set, vec_capacity, vec_len, Option, None, Some, if◌then◌else◌}
 use Rattle.std.specs.List.{find, flat_map, range_with_len}
 use Rattle.std.specs.Option.{option_map}
 use Rattle.vector_stamp.specs.declared.clock.Stamp.{Stamp}
@@ -11,17 +11,37 @@ use Rattle.weave_entries.specs.SessionReplay.{SessionState, IsSessionLog, sessio
 use Rattle.report_rules.specs.Lookups.{is_some_and}
 use Rattle.weave_account.specs.Sessions.{requests_of_session}
 use Rattle.step_rules.specs.Requests.{waits_before}
+use Rattle.report_rules.specs.declared.report.Reply.{Reply}
+use Rattle.weaver_core.specs.declared.client.Client.{Client}
+use Rattle.weaver_core.specs.declared.walks.Running.{Running}
 use Rattle.weaver_core.specs.declared.client.Standing.{Standing}
 use Rattle.weaver_core.specs.declared.client.Standing.TheVariants.{Twice, Early, Next}
 
 -- One session
 
--- its number, its requests, its log, and for how many more entries there is room
-pub record ClientView : Type 0 where
-  pub number : ℕ
-  pub requests : List ℕ
-  pub log : List SessionEntry
-  pub spare : ℕ
+-- its requests
+abbrev pub requests_in : Client → List ℕ
+requests_in client = client.session.requests
+
+-- its log
+abbrev pub log_of : Client → List SessionEntry
+log_of client = client.log.items
+
+-- what a session has beside its log: the program that is running, if there is one, and its replies
+pub record SessionValues : Type 0 where
+  pub running : Option Running
+  pub replies : List Reply
+
+-- before its first request
+abbrev pub no_values : SessionValues
+no_values = record { running = None; replies = [] }
+
+abbrev pub values_of : Client → SessionValues
+values_of client = record { running = client.running; replies = client.replies.items }
+
+-- for how many more entries and replies there is room
+abbrev pub spare_of : Client → ℕ
+spare_of client = min (vec_capacity client.log - vec_len client.log) (vec_capacity client.replies - vec_len client.replies)
 
 -- The session is at the end of the log, which keeps the rules of a session's log; its requests rise. No public contract cites this.
 pub record IsClientOf (number : ℕ) (session : SessionState) (log : List SessionEntry) : Type 0 where
@@ -46,11 +66,25 @@ is_open_in r log = has_begun_in r log && not (has_reply_in r log)
 abbrev pub unanswered_in : List ℕ → List SessionEntry → Option ℕ
 unanswered_in requests log = slice_get requests (replied_count (session_of requests log))
 
--- the log has one more entry, and all else is as before but for the room
-pub record AddsDeed (old new : ClientView) (deed : SessionDeed) : Type 0 where
-  pub log : new.log ≡ old.log ++ record { author = old.number; deed = deed } ∷ []
-  pub number : new.number ≡ old.number
-  pub requests : new.requests ≡ old.requests
+-- it is a session at the end of its log, of some number
+abbrev pub IsAClient : Client → Type 0
+IsAClient client = (number : ℕ) × IsClientOf number client.session client.log.items
+
+-- nothing but the room may differ
+pub record IsSameClient (old new : Client) : Type 0 where
+  pub session : new.session ≡ old.session
+  pub log : new.log.items ≡ old.log.items
+  pub values : values_of new ≡ values_of old
+
+-- the log has one more entry, with this number as its author, and the session is at its end
+pub record AddsDeed (number : ℕ) (old new : Client) (deed : SessionDeed) : Type 0 where
+  pub log : log_of new ≡ log_of old ++ record { author = number; deed = deed } ∷ []
+  pub requests : requests_in new ≡ requests_in old
+  pub client : IsClientOf number new.session new.log.items
+
+-- one more reply, after which no program is running
+abbrev pub with_reply : SessionValues → Reply → SessionValues
+with_reply values reply = record { running = None; replies = values.replies ++ reply ∷ [] }
 
 -- The last entry of a log. No public contract cites this.
 
@@ -82,11 +116,12 @@ open_by_last r log = is_some_and (λ (entry : SessionEntry). is_begin_of r entry
 
 -- All sessions
 
--- the requests, the log and the room of each session, in the order of numbers
+-- the requests, the log, the room and the values of each session, in the order of numbers
 pub record ClientTable : Type 0 where
   pub requests : List (List ℕ)
   pub logs : List (List SessionEntry)
   pub spares : List ℕ
+  pub values : List SessionValues
 
 -- the requests of a session
 abbrev pub requests_at : ClientTable → ℕ → List ℕ
@@ -95,6 +130,22 @@ requests_at clients session = slice_index_or clients.requests session []
 -- the log of a session; empty if there is none of this number
 abbrev pub log_at : ClientTable → ℕ → List SessionEntry
 log_at clients session = slice_index_or clients.logs session []
+
+-- the values of a session
+abbrev pub values_at : List SessionValues → ℕ → SessionValues
+values_at values session = slice_index_or values session no_values
+
+-- the same but for the program that is running in a session
+abbrev pub with_running : List SessionValues → ℕ → Option Running → List SessionValues
+with_running values session running = slice_set values session (record { running = running; replies = (values_at values session).replies })
+
+-- and with one more reply of a session
+abbrev pub with_reply_at : List SessionValues → ℕ → Reply → List SessionValues
+with_reply_at values session reply = slice_set values session (with_reply (values_at values session) reply)
+
+-- the replies of each session are of rising requests
+abbrev pub HaveRisingReplies : List SessionValues → Type 0
+HaveRisingReplies values = (session : ℕ) → AllPairs (λ (a b : Reply). a.request < b.request) (values_at values session).replies
 
 -- a session at the end of its log
 abbrev pub session_at : ClientTable → ℕ → SessionState
@@ -127,6 +178,7 @@ pub record IsFirstUnanswered (clients : ClientTable) (most first : ℕ) : Type 0
 pub record AreSameClients (old new : ClientTable) : Type 0 where
   pub requests : new.requests ≡ old.requests
   pub logs : new.logs ≡ old.logs
+  pub values : new.values ≡ old.values
 
 -- a session's log has one more entry, and all else is as before but for the room
 pub record AddsAt (old new : ClientTable) (session : ℕ) (deed : SessionDeed) : Type 0 where
@@ -139,19 +191,9 @@ stamp_in logs r = option_map (λ (begun : ℕ × Stamp). begun.1) (find (λ (beg
 
 -- The table inside. No public contract cites what follows.
 
--- the requests, the log and the room of a session
-abbrev pub requests_in : ClientView → List ℕ
-requests_in client = client.requests
-
-abbrev pub log_of : ClientView → List SessionEntry
-log_of client = client.log
-
-abbrev pub spare_of : ClientView → ℕ
-spare_of client = client.spare
-
 -- the first request of a session without a reply, if there is one
-abbrev pub unanswered_by : ClientView → Option ℕ
-unanswered_by client = unanswered_in client.requests client.log
+abbrev pub unanswered_by : Client → Option ℕ
+unanswered_by client = unanswered_in (requests_in client) (log_of client)
 
 -- the lesser of a number and one that may be there
 abbrev pub lesser : ℕ → Option ℕ → ℕ
@@ -159,15 +201,16 @@ lesser number None = number
 lesser number (Some other) = min number other
 
 -- the least of a number and the sessions' first requests without a reply
-abbrev pub least_unanswered : ℕ → List ClientView → ℕ
+abbrev pub least_unanswered : ℕ → List Client → ℕ
 least_unanswered most clients = fold lesser most (map unanswered_by clients)
 
--- each session has its place as its number
-abbrev pub AreNumbered : List ClientView → Type 0
-AreNumbered clients = (number : ℕ) (client : ClientView) → slice_get clients number ≡ Some client → client.number ≡ number
+-- each session has its place as its number, and is at the end of its log
+abbrev pub AreNumbered : List Client → Type 0
+AreNumbered clients = (number : ℕ) (client : Client) → slice_get clients number ≡ Some client → IsClientOf number client.session client.log.items
 
 -- the first sessions of a script, before their first requests
-pub record AreFirst (script : Script) (count : ℕ) (clients : List ClientView) : Type 0 where
+pub record AreFirst (script : Script) (count : ℕ) (clients : List Client) : Type 0 where
   pub numbered : AreNumbered clients
   pub requests : map requests_in clients ≡ map (requests_of_session script) (range_with_len 0 count)
   pub logs : map log_of clients ≡ replicate count []
+  pub values : map values_of clients ≡ replicate count no_values

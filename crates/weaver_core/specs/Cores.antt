@@ -1,22 +1,26 @@
 -- A core as contracts see it.
-use Rattle.std.specs.Prelude.{◌≡◌, ℕ, List, length, map, IsTrue, ⊤}
+use Rattle.std.specs.Prelude.{◌≡◌, ℕ, List, length, map, IsTrue, Some, if◌then◌else◌, ⊤}
 use Rattle.std.specs.List.{range_with_len}
 use Rattle.program_defs.specs.declared.script.Script.{Script}
 use Rattle.program_defs.specs.Limits.{IsWithinLimits}
 use Rattle.program_defs.specs.declared.script.Step.{Step}
 use Rattle.program_defs.specs.declared.script.Step.TheVariants.{Visit, Reply}
+use Rattle.program_defs.specs.declared.script.Request.{Request}
+use Rattle.report_rules.specs.Lookups.{request_at}
 use Rattle.report_rules.specs.Meetings.{is_transaction}
 use Rattle.report_rules.specs.declared.report.StepAnswer.{StepAnswer}
 use Rattle.weave_account.specs.Sessions.{requests_of_session}
 use Rattle.step_rules.specs.CoreState.{CoreState}
 use Rattle.step_rules.specs.Answers.{answer_of}
 use Rattle.step_rules.specs.IsCore.{IsCore, IsStepOf, IsSmallIfDone}
-use Rattle.step_rules.specs.Trace.{state_after}
+use Rattle.step_rules.specs.Requests.{last_begun}
+use Rattle.step_rules.specs.Trace.{is_ok, state_after}
 use Rattle.vector_stamp.specs.declared.clock.Clock.{Clock}
 use Rattle.weave_entries.specs.declared.oracle_log.OracleEntry.{OracleEntry}
 use Rattle.weave_entries.specs.declared.store_log.StoreEntry.{StoreEntry}
-use Rattle.weaver_core.specs.Clients.{ClientTable}
+use Rattle.weaver_core.specs.Clients.{ClientTable, SessionValues, with_reply_at}
 use Rattle.weaver_core.specs.GateTable.{GateTable}
+use Rattle.weaver_core.specs.Replying.{reply_of_change}
 use Rattle.weaver_core.specs.ShardTable.{ShardTable}
 
 -- the script, the logs and the notices
@@ -40,10 +44,16 @@ pub record Frame : Type 0 where
   pub senders : ℕ
   pub requests : List (List ℕ)
 
--- the logs and notices of machines, and what they are made for
+-- the logs and notices of machines, what they are made for, and the values of the sessions
 pub record MachinesView : Type 0 where
   pub frame : Frame
   pub state : CoreState
+  pub values : List SessionValues
+
+-- nothing but the values may differ
+pub record AreSameMachines (old new : MachinesView) : Type 0 where
+  pub frame : new.frame ≡ old.frame
+  pub state : new.state ≡ old.state
 
 -- they are made for the script
 pub record IsFrameOf (script : Script) (frame : Frame) : Type 0 where
@@ -85,4 +95,16 @@ machines_of gates store oracle shards clients notices = record {
     account = record { gates = gates.logs; store = store; oracle = oracle; shards = shards.logs; sessions = clients.logs };
     notices = notices;
   };
+  values = clients.values;
 }
+
+-- The replies of transactions
+
+-- the values after `reply` of a request of this session, by its answer
+abbrev pub values_after_reply : MachinesView → ℕ → ℕ → StepAnswer → List SessionValues
+values_after_reply old session r answer =
+    if is_ok answer then with_reply_at old.values session (reply_of_change old.state.account.store (last_begun old.state.account session) r) else old.values
+
+-- the values are those after `reply` of the script's request, a transaction
+abbrev pub RepliesToChange : Script → ℕ → MachinesView → MachinesView → StepAnswer → Type 0
+RepliesToChange script r old new answer = (request : Request) → request_at script r ≡ Some request → new.values ≡ values_after_reply old request.session r answer

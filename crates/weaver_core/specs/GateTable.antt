@@ -24,18 +24,20 @@ pub record AddsAt (old new : GateTable) (home author : ℕ) (deed : GateDeed) : 
 abbrev pub log_of : GateView → List GateEntry
 log_of gate = gate.log
 
--- each gatekeeper has its number as its home, and is made for this number of shards
-pub record AreInOrder (shards : ℕ) (gates : List GateView) : Type 0 where
+-- each gatekeeper has its number as its home, and is made for these numbers of gatekeepers and shards
+pub record AreInOrder (count shards : ℕ) (gates : List GateView) : Type 0 where
+  pub each_gates : (home : ℕ) (gate : GateView) → slice_get gates home ≡ Some gate → gate.gates ≡ count
   pub homes : (home : ℕ) (gate : GateView) → slice_get gates home ≡ Some gate → gate.home ≡ home
   pub each_shards : (home : ℕ) (gate : GateView) → slice_get gates home ≡ Some gate → gate.shards ≡ shards
 
--- the first gatekeepers, before their first events
-pub record AreFirst (count shards : ℕ) (gates : List GateView) : Type 0 where
-  pub in_order : AreInOrder shards gates
-  pub logs : map log_of gates ≡ replicate count []
+-- the first gatekeepers of this number, before their first events
+pub record AreFirst (first count shards : ℕ) (gates : List GateView) : Type 0 where
+  pub in_order : AreInOrder count shards gates
+  pub logs : map log_of gates ≡ replicate first []
 
 -- nothing but the room of a gatekeeper may differ
 pub record IsSameGate (old new : GateView) : Type 0 where
   pub log : new.log ≡ old.log
   pub home : new.home ≡ old.home
+  pub gates : new.gates ≡ old.gates
   pub shards : new.shards ≡ old.shards

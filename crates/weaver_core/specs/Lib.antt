@@ -14,3 +14,4 @@ pub mod Walks
 pub mod Visiting
 pub mod Finishing
 pub mod Staying
+pub mod Splitting

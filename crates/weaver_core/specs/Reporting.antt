@@ -1,6 +1,6 @@
 -- How a core finds its report. No public contract cites this.
-use Rattle.std.specs.Prelude.{◌≡◌, ◌<◌, ◌==◌, ◌&&◌, ℕ, suc, Bool, length, List, [], ◌∷◌, ◌++◌, ◌+◌, Contains, Option, None, Some, slice_get, slice_index_or, if◌then◌else◌}
-use Rattle.std.specs.List.{filter_map}
+use Rattle.std.specs.Prelude.{◌≡◌, ◌≢◌, ◌<◌, ◌==◌, ◌&&◌, ℕ, suc, Bool, length, List, [], ◌∷◌, ◌++◌, ◌+◌, map, Contains, Option, None, Some, slice_get, slice_index_or, if◌then◌else◌}
+use Rattle.std.specs.List.{filter_map, range_with_len}
 use Rattle.std.specs.Map.{lookup}
 use Rattle.std.specs.Option.{option_and_then, option_map}
 use Rattle.weave_data.specs.declared.name.Name.{Name}
@@ -8,10 +8,13 @@ use Rattle.vector_stamp.specs.declared.clock.EventId.{EventId}
 use Rattle.vector_stamp.specs.declared.clock.Stamp.{Stamp}
 use Rattle.vector_stamp.specs.Order.{id_of}
 use Rattle.vector_stamp.specs.Settling.{SettledEntry}
+use Rattle.program_defs.specs.declared.script.Request.{Request}
+use Rattle.program_defs.specs.declared.script.Work.{Work}
+use Rattle.program_defs.specs.declared.script.Work.TheVariants.{Change, Look}
 use Rattle.report_rules.specs.declared.report.Pair.{Pair}
 use Rattle.report_rules.specs.declared.report.Reply.{Reply}
 use Rattle.report_rules.specs.declared.report.ReplyState.{ReplyState}
-use Rattle.report_rules.specs.declared.report.ReplyState.TheVariants.{Unbegun, Begun, Finished}
+use Rattle.report_rules.specs.declared.report.ReplyState.TheVariants.{Unbegun, Begun}
 use Rattle.weave_account.specs.Report.{state_of_tx}
 use Rattle.weave_account.specs.declared.account.Account.{Account}
 use Rattle.weave_account.specs.Account.{stamp_of}
@@ -19,8 +22,7 @@ use Rattle.weave_entries.specs.declared.store_log.StoreEntry.{StoreEntry}
 use Rattle.weave_entries.specs.declared.oracle_log.OracleEntry.{OracleEntry}
 use Rattle.weave_entries.specs.OracleReplay.{settled_entry}
 use Rattle.weave_entries.specs.StoreReplay.{Judgement, judgement_of}
-use Rattle.weaver_core.specs.declared.walks.Walk.{Walk}
-use Rattle.weaver_core.specs.declared.walks.Walk.TheVariants as kept
+use Rattle.weaver_core.specs.Clients.{SessionValues, values_at}
 
 -- The replies
 
@@ -33,23 +35,44 @@ abbrev pub state_stamped : List StoreEntry → ℕ → Option Stamp → ReplySta
 state_stamped store r None = Unbegun
 state_stamped store r (Some stamp) = state_of_tx (judgement_of r store)
 
--- the state of a program that has begun, by what is kept of it
-abbrev pub state_walked : Walk → ReplyState
-state_walked (kept.Running running) = Begun
-state_walked (kept.Finished answer) = Finished answer
+-- the reply to a request among those of its session, or that there is none
+abbrev pub IsFoundAmong : List Reply → ℕ → Option Reply → Type 0
+IsFoundAmong replies r None = (reply : Reply) → Contains replies reply → reply.request ≢ r
+IsFoundAmong replies r (Some reply) = Contains replies reply × (reply.request ≡ r)
 
--- the state of a request by what is kept of it, which is nothing unless it is a program that has begun
-abbrev pub state_kept : List StoreEntry → ℕ → Option Stamp → Option Walk → ReplyState
-state_kept store r stamp None = state_stamped store r stamp
-state_kept store r stamp (Some walk) = state_walked walk
+-- the state of a program that has begun, by its reply
+abbrev pub state_replied : Option Reply → ReplyState
+state_replied None = Begun
+state_replied (Some reply) = reply.state
 
--- the reply of a request by the stamps, by what is kept of it, and by the store's log
-abbrev pub reply_kept : List (Option Stamp) → List (Option Walk) → List StoreEntry → ℕ → Reply
-reply_kept stamps walks store r = record {
-  request = r;
-  stamp = slice_index_or stamps r None;
-  state = state_kept store r (slice_index_or stamps r None) (slice_index_or walks r None);
-}
+-- and of one that has this stamp, if it was begun
+abbrev pub state_by_reply : Option Stamp → Option Reply → ReplyState
+state_by_reply None reply = Unbegun
+state_by_reply (Some stamp) reply = state_replied reply
+
+-- the reply to a program that has begun was found, and this is its state
+pub record IsReplyFound (replies : List Reply) (r : ℕ) (state : ReplyState) : Type 0 where
+  pub found : Option Reply
+  pub is_found : IsFoundAmong replies r found
+  pub state_is : state ≡ state_replied found
+
+-- the state of a request that has this stamp, if it was begun: a transaction's by the store's log, a program's by its reply
+abbrev pub IsStateFound : List StoreEntry → List Reply → ℕ → Option Stamp → Work → ReplyState → Type 0
+IsStateFound store replies r stamp (Change ops) state = state ≡ state_stamped store r stamp
+IsStateFound store replies r None (Look program) state = state ≡ Unbegun
+IsStateFound store replies r (Some stamp) (Look program) state = IsReplyFound replies r state
+
+-- the reply of a request, by the stamps, by the replies of its session, and by the store's log
+pub record IsRequestsReply (store : List StoreEntry) (values : List SessionValues) (stamps : List (Option Stamp)) (r : ℕ) (request : Request) (reply : Reply) : Type 0 where
+  pub request_is : reply.request ≡ r
+  pub stamp_is : reply.stamp ≡ slice_index_or stamps r None
+  pub state_is : IsStateFound store (values_at values request.session).replies r (slice_index_or stamps r None) request.work reply.state
+
+-- one reply for each of these requests
+pub record AreRequestsReplies (store : List StoreEntry) (values : List SessionValues) (stamps : List (Option Stamp)) (requests : List Request) (count : ℕ) (replies : List Reply) : Type 0 where
+  pub numbered : map (λ (reply : Reply). reply.request) replies ≡ range_with_len 0 count
+  pub each : (r : ℕ) (reply : Reply) → slice_get replies r ≡ Some reply → (request : Request) → slice_get requests r ≡ Some request
+      → IsRequestsReply store values stamps r request reply
 
 -- The requests of events
 

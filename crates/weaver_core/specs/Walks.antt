@@ -1,20 +1,17 @@
--- What a core keeps of the programs, and what the logs say of it. No public contract cites this.
-use Rattle.std.specs.Prelude.{◌≡◌, ℕ, ◌≤◌, true, false, length, List, [], ◌∷◌, slice_get, slice_index_or, Option, None, Some, is_some, ⊤}
+-- The programs that are running, and what the logs say of them.
+use Rattle.std.specs.Prelude.{◌≡◌, ℕ, ◌≤◌, false, length, List, [], ◌∷◌, slice_get, slice_index_or, Option, None, Some, ⊤}
+use Rattle.std.specs.Option.{option_map}
 use Rattle.weave_data.specs.declared.name.Name.{Name}
 use Rattle.vector_stamp.specs.declared.clock.Stamp.{Stamp}
 use Rattle.vector_stamp.specs.Settling.{SettledEntry}
 use Rattle.graph_ops.specs.Operations.{State}
 use Rattle.graph_ops.specs.declared.op.Op.{Op}
 use Rattle.program_defs.specs.Agreement.{AreSameReads}
-use Rattle.program_defs.specs.PlainAnswer.{IsPlainAnswer}
-use Rattle.program_defs.specs.Visits.{graph_read}
-use Rattle.program_defs.specs.declared.program.Answer.{Answer}
 use Rattle.program_defs.specs.declared.program.Program.{Program}
 use Rattle.program_defs.specs.declared.script.Request.{Request}
 use Rattle.program_defs.specs.declared.script.Script.{Script}
 use Rattle.program_defs.specs.declared.script.Step.{Step}
 use Rattle.program_defs.specs.declared.script.Step.TheVariants.{Begin, Visit, Reply}
-use Rattle.program_defs.specs.declared.script.Work.{Work}
 use Rattle.program_defs.specs.declared.script.Work.TheVariants.{Change, Look}
 use Rattle.report_rules.specs.Lookups.{request_at}
 use Rattle.report_rules.specs.declared.report.Pair.{Pair}
@@ -27,11 +24,9 @@ use Rattle.weave_account.specs.Oracle.{IsAskedByCommit}
 use Rattle.weave_account.specs.Pairs.{IsPairInAccount}
 use Rattle.path_program.specs.AnyPrograms.{HasRead, any_of}
 use Rattle.path_program.specs.declared.any.AnyProgram.{AnyProgram}
-use Rattle.weaver_core.specs.declared.walks.Walking.{Walking}
-use Rattle.weaver_core.specs.declared.walks.Walk.{Walk}
-use Rattle.weaver_core.specs.declared.walks.Walk.TheVariants as kept
+use Rattle.weaver_core.specs.declared.walks.Running.{Running}
 
--- One program
+-- One program. Public contracts cite `HasReadAll` and `IsLookAt` alone.
 
 -- a walk is of the program, and has read these states and no others, in whatever order
 pub record HasReadAll (walk : AnyProgram) (program : Program) (all : List (Name × State)) : Type 0 where
@@ -40,30 +35,14 @@ pub record HasReadAll (walk : AnyProgram) (program : Program) (all : List (Name 
   pub has_read : HasRead walk reads
   pub same : AreSameReads reads all
 
--- the program was begun so, is not finished, and has read what the shards' logs say
-pub record IsRunningAs (account : Account) (r : ℕ) (request : Request) (program : Program) (running : Walking) : Type 0 where
-  pub request_is : running.program.request ≡ r
-  pub begun : program_begun r (gate_log account request.gate) ≡ Some (record { author = running.author; request = r; stamp = running.program.stamp })
-  pub stamped : stamp_of account r ≡ Some running.program.stamp
+-- the program was begun, is not finished, and has read what the shards' logs say
+pub record IsRunningAs (account : Account) (r : ℕ) (request : Request) (program : Program) (running : Running) : Type 0 where
+  pub request_is : running.request ≡ r
+  pub author : ℕ
+  pub begun : program_begun r (gate_log account request.gate) ≡ Some (record { author = author; request = r; stamp = running.stamp })
+  pub stamped : stamp_of account r ≡ Some running.stamp
   pub runs : is_ended account r ≡ false
-  pub walk : HasReadAll running.program.walk program (reads_of account r)
-
--- the program is finished, and this is a plain answer over what it read
-pub record IsFinishedAs (account : Account) (r : ℕ) (program : Program) (answer : Answer) : Type 0 where
-  pub stamped : is_some (stamp_of account r) ≡ true
-  pub ended : is_ended account r ≡ true
-  pub plain : IsPlainAnswer (graph_read (reads_of account r)) program answer
-
--- what is kept of a program is as the logs say: nothing before its begin, then its walk, and then its answer
-abbrev pub IsProgramAs : Account → ℕ → Request → Program → Option Walk → Type 0
-IsProgramAs account r request program None = stamp_of account r ≡ None
-IsProgramAs account r request program (Some (kept.Running running)) = IsRunningAs account r request program running
-IsProgramAs account r request program (Some (kept.Finished answer)) = IsFinishedAs account r program answer
-
--- nothing is kept of a transaction
-abbrev pub IsKeptAs : Account → ℕ → Request → Work → Option Walk → Type 0
-IsKeptAs account r request (Change ops) walk = walk ≡ None
-IsKeptAs account r request (Look program) walk = IsProgramAs account r request program walk
+  pub walk : HasReadAll running.walk program (reads_of account r)
 
 -- the request of this number is a transaction
 pub record IsChangeAt (script : Script) (r : ℕ) : Type 0 where
@@ -83,24 +62,11 @@ pub record IsLook (script : Script) (r : ℕ) : Type 0 where
   pub program : Program
   pub look : IsLookAt script r program
 
--- it is a request, of which this is kept
-pub record IsKeptIn (script : Script) (account : Account) (r : ℕ) (walk : Option Walk) : Type 0 where
-  pub request : Request
-  pub request_is : request_at script r ≡ Some request
-  pub kept : IsKeptAs account r request request.work walk
-
 -- it is a program, which is running so
-pub record IsRunningIn (script : Script) (account : Account) (r : ℕ) (running : Walking) : Type 0 where
+pub record IsRunningIn (script : Script) (account : Account) (r : ℕ) (running : Running) : Type 0 where
   pub program : Program
   pub look : IsLookAt script r program
   pub runs : IsRunningAs account r look.request program running
-
--- All programs
-
--- what is kept of each request, by its number
-pub record AreWalksOf (script : Script) (account : Account) (walks : List (Option Walk)) : Type 0 where
-  pub many : length walks ≡ length script.requests
-  pub each : (r : ℕ) (request : Request) → request_at script r ≡ Some request → IsKeptAs account r request request.work (slice_index_or walks r None)
 
 -- The vertices of visits
 
@@ -123,10 +89,9 @@ pub record AreMarksOf (account : Account) (marks : List (Option Name)) : Type 0 
   pub few : length marks ≤ length account.oracle
   pub each : (n : ℕ) (entry : OracleEntry) → slice_get account.oracle n ≡ Some entry → IsMarkedAs account (settled_entry entry) (slice_index_or marks n None)
 
--- what is kept of a program that the core itself began with this stamp
-abbrev pub begun_with : ℕ → Option Stamp → AnyProgram → Option Walk
-begun_with r None walk = None
-begun_with r (Some stamp) walk = Some (kept.Running (record { author = 0; program = record { request = r; stamp = stamp; walk = walk } }))
+-- the program that the core itself began with this stamp
+abbrev pub begun_with : ℕ → Option Stamp → AnyProgram → Option Running
+begun_with r stamp walk = option_map (λ (one : Stamp). record { request = r; stamp = one; walk = walk }) stamp
 
 -- the step is of no request
 abbrev pub IsOtherStep : Step → Type 0
@@ -134,8 +99,3 @@ IsOtherStep (Begin r) = ⊥
 IsOtherStep (Visit r) = ⊥
 IsOtherStep (Reply r) = ⊥
 IsOtherStep _ = ⊤
-
--- walks and marks are as the logs say
-pub record AreProgramsOf (script : Script) (account : Account) (walks : List (Option Walk)) (marks : List (Option Name)) : Type 0 where
-  pub walks_are : AreWalksOf script account walks
-  pub marks_are : AreMarksOf account marks

@@ -1,13 +1,16 @@
-//! A session with its log.
-ghost use Rattle.std.specs.Prelude.{◌≡◌, ◌<◌, ◌≤◌, [], Contains, AllPairs, OnOk, OnErr, true, false};
+//! A session with its log, its running program and its replies.
+ghost use Rattle.std.specs.Prelude.{◌≡◌, ℕ, ◌<◌, ◌≤◌, [], Contains, AllPairs, OnOk, option_copied, true, false};
+ghost use Rattle.report_rules.specs.declared.report.Reply.{Reply};
 ghost use Rattle.weave_entries.specs.SessionReplay.{FitsSession, RepliesToLast, session_of};
 ghost use Rattle.weave_entries.specs.declared.session_log.SessionDeed.TheVariants as deed;
-ghost use Rattle.weaver_core.specs.Clients.{AddsDeed, IsInTurn, begun_by_last, is_begin_of, is_open_in, last_request, open_by_last, request_by, standing_of, unanswered_in};
+ghost use Rattle.weaver_core.specs.Clients.{AddsDeed, IsAClient, IsClientOf, IsInTurn, IsSameClient, begun_by_last, is_begin_of, is_open_in, last_request, log_of, no_values, open_by_last, request_by, requests_in, spare_of, standing_of, unanswered_in, values_of, with_reply};
+ghost use Rattle.weaver_core.specs.Reporting.{IsFoundAmong};
 
+use crate::walks::Running;
+use report_rules::Reply;
 use session_stamp::Session;
 use session_stamp::laws::a_log_goes_on;
 use std::alloc::{AllocError, Global};
-use std::marker::Model;
 use vector_stamp::Stamp;
 use weave_entries::laws::{begun_and_replied_are_decided, sessions_go_in_turn};
 use weave_entries::{SessionDeed, SessionEntry};
@@ -23,51 +26,42 @@ pub enum Standing {
     Next,
 }
 
-/// A session with its log. Contracts see its number, its requests, the log, and for how many more entries there is room.
+/// A session's client: what it has to begin, what it has begun, and what it was answered. All of it says what the log says, if it is one of a core.
 #[derive(Drop)]
-pub(crate) struct Client {
-    number: u32,
-    session: Session,
-    log: Vec<SessionEntry>,
-}
-
-impl Model for Client {
-    ghost use Rattle.std.specs.Prelude.{◌-◌, vec_len, vec_capacity};
-    ghost use Rattle.weaver_core.specs.Clients.{ClientView, IsClientOf};
-
-    ghost Value = { ClientView };
-
-    ghost view = { λ c. record {
-      number = c.number;
-      requests = c.session.requests;
-      log = c.log.items;
-      spare = vec_capacity c.log - vec_len c.log;
-    } };
-
-    ghost invariant = { λ c. IsClientOf c.number c.session c.log.items };
+pub struct Client {
+    /// The session's requests, at the end of the log.
+    pub session: Session,
+    /// The program that has begun and has no reply, if there is one.
+    pub running: Option<Running>,
+    /// The replies, in the order of the requests.
+    pub replies: Vec<Reply>,
+    pub log: Vec<SessionEntry>,
 }
 
 impl Client {
     /// A session before its first request. It takes no memory.
-    pub(crate) fn new(alloc: Global, number: u32, requests: Vec<u32>) -> Client
+    pub(crate) fn new(alloc: Global, requests: Vec<u32>) -> Client
         requires { AllPairs (λ a b. a < b) requests.items }
-        ensures number { result.number ≡ number }
-        ensures requests { result.requests ≡ requests.items }
-        ensures log { result.log ≡ [] }
+        ensures requests { requests_in result ≡ requests.items }
+        ensures log { log_of result ≡ [] }
+        ensures values { values_of result ≡ no_values }
+        ensures client { (number : ℕ) → IsClientOf number result.session result.log.items }
     {
         a_log_goes_on();
         Client {
-            number,
             session: Session::new(requests),
+            running: None,
+            replies: Vec::new(alloc),
             log: Vec::new(alloc),
         }
     }
 
     /// How one of its requests is. It looks at no more than the last entry.
     pub(crate) fn standing(&self, request: u32) -> Standing
-        requires { Contains self.now.requests request }
-        ensures standing { result ≡ standing_of request self.now.requests self.now.log }
-        ensures next { result ≡ Standing.Next → IsInTurn (session_of self.now.requests self.now.log) request }
+        requires client { IsAClient self.now }
+        requires among { Contains (requests_in self.now) request }
+        ensures standing { result ≡ standing_of request (requests_in self.now) (log_of self.now) }
+        ensures next { result ≡ Standing.Next → IsInTurn (session_of (requests_in self.now) (log_of self.now)) request }
     {
         begun_and_replied_are_decided();
         sessions_go_in_turn();
@@ -82,9 +76,10 @@ impl Client {
 
     /// Whether one of its requests has begun and has no reply. It looks at no more than the last entry.
     pub(crate) fn is_open(&self, request: u32) -> bool
-        requires { Contains self.now.requests request }
-        ensures open { result ≡ is_open_in request self.now.log }
-        ensures last { result ≡ true → RepliesToLast (session_of self.now.requests self.now.log) request }
+        requires client { IsAClient self.now }
+        requires among { Contains (requests_in self.now) request }
+        ensures open { result ≡ is_open_in request (log_of self.now) }
+        ensures last { result ≡ true → RepliesToLast (session_of (requests_in self.now) (log_of self.now)) request }
     {
         begun_and_replied_are_decided();
         sessions_go_in_turn();
@@ -93,7 +88,8 @@ impl Client {
 
     /// Its first request without a reply, if there is one. It looks at no more than the last entry.
     pub(crate) fn first_unanswered(&self) -> Option<u32>
-        ensures { result ≡ unanswered_in self.now.requests self.now.log }
+        requires { IsAClient self.now }
+        ensures { result ≡ unanswered_in (requests_in self.now) (log_of self.now) }
     {
         match self.session.next() {
             Ok(next) => next,
@@ -101,58 +97,62 @@ impl Client {
         }
     }
 
-    /// The stamp that was begun last.
-    pub(crate) fn last(&self) -> Option<Stamp>
-        ensures { result ≡ (session_of self.now.requests self.now.log).last }
+    /// The reply to a request, if it has one. It costs a binary search.
+    pub(crate) fn reply(&self, request: u32) -> Option<&Reply>
+        requires { AllPairs (λ (a b : Reply). a.request < b.request) self.now.replies.items }
+        ensures { IsFoundAmong self.now.replies.items request (option_copied result) }
     {
-        self.session.last()
+        let replies = self.replies.as_slice();
+        match replies.binary_search_by_key(&request, |reply| reply.request) {
+            Ok(place) => Some(&replies[place]),
+            Err(_) => None,
+        }
     }
 
-    /// Takes the room for one more entry. The one error is out of memory.
+    /// Takes the room for one more entry and one more reply. The one error is out of memory.
     pub(crate) fn reserve(&mut self) -> Result<(), AllocError>
-        ensures log { self.new.log ≡ self.old.log }
-        ensures number { self.new.number ≡ self.old.number }
-        ensures requests { self.new.requests ≡ self.old.requests }
-        ensures room { OnOk result (1 ≤ self.new.spare) }
-        ensures refused { OnErr result (self.new ≡ self.old) }
+        ensures same { IsSameClient self.old self.new }
+        ensures room { OnOk result (1 ≤ spare_of self.new) }
     {
         self.log.reserve(1)?;
+        self.replies.reserve(1)?;
         Ok(())
     }
 
     /// The next request was begun with this stamp. It takes no memory.
-    pub(crate) fn begun(&mut self, request: u32, stamp: Stamp)
-        requires room { 1 ≤ self.old.spare }
-        requires turn { FitsSession (session_of self.old.requests self.old.log) (deed.Begun request stamp) }
-        ensures { AddsDeed self.old self.new (deed.Begun request stamp) }
+    pub(crate) fn begun(&mut self, number: u32, request: u32, stamp: Stamp)
+        requires client { IsClientOf number self.old.session self.old.log.items }
+        requires room { 1 ≤ spare_of self.old }
+        requires turn { FitsSession (session_of (requests_in self.old) (log_of self.old)) (deed.Begun request stamp) }
+        ensures begun { AddsDeed number self.old self.new (deed.Begun request stamp) }
+        ensures values { values_of self.new ≡ values_of self.old }
     {
         a_log_goes_on();
         self.session.begun(stamp);
         self.log.push_reserved(SessionEntry {
-            author: self.number,
+            author: number,
             deed: SessionDeed::Begun { request, stamp },
         });
     }
 
-    /// The last begun request has its reply. It takes no memory.
-    pub(crate) fn replied(&mut self, request: u32)
-        requires room { 1 ≤ self.old.spare }
-        requires turn { FitsSession (session_of self.old.requests self.old.log) (deed.Replied request) }
-        ensures { AddsDeed self.old self.new (deed.Replied request) }
+    /// The last begun request has its reply, and no program is running. It takes no memory.
+    pub(crate) fn replied(&mut self, number: u32, reply: Reply)
+        requires client { IsClientOf number self.old.session self.old.log.items }
+        requires room { 1 ≤ spare_of self.old }
+        requires turn { FitsSession (session_of (requests_in self.old) (log_of self.old)) (deed.Replied reply.request) }
+        ensures replied { AddsDeed number self.old self.new (deed.Replied reply.request) }
+        ensures values { values_of self.new ≡ with_reply (values_of self.old) reply }
     {
         a_log_goes_on();
         self.session.replied();
         self.log.push_reserved(SessionEntry {
-            author: self.number,
-            deed: SessionDeed::Replied { request },
+            author: number,
+            deed: SessionDeed::Replied {
+                request: reply.request,
+            },
         });
-    }
-
-    /// The log.
-    pub(crate) fn log(&self) -> &[SessionEntry]
-        ensures { result.now ≡ self.now.log }
-    {
-        self.log.as_slice()
+        self.running = None;
+        self.replies.push_reserved(reply);
     }
 }
 

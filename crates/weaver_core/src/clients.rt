@@ -1,14 +1,19 @@
 //! The sessions of a core, by their numbers.
-ghost use Rattle.std.specs.Prelude.{◌≡◌, ◌<◌, ◌≤◌, [], None, Contains, length, map, replicate, slice_index_or, IfOk, OnOk, true};
+ghost use Rattle.std.specs.Prelude.{◌≡◌, ◌<◌, ◌≤◌, [], None, Contains, length, map, replicate, slice_index_or, option_copied, IfOk, OnOk, true};
 ghost use Rattle.std.specs.List.{range_with_len};
 ghost use Rattle.weave_account.specs.Sessions.{requests_of_session};
 ghost use Rattle.weave_entries.specs.SessionReplay.{FitsSession, RepliesToLast};
 ghost use Rattle.weave_entries.specs.declared.session_log.SessionDeed.TheVariants as deed;
-ghost use Rattle.weaver_core.specs.Clients.{AddsAt, AreFirst, AreSameClients, IsFirstUnanswered, IsInTurn, is_open_at, least_unanswered, lesser, log_of, requests_at, session_at, standing_at};
+ghost use Rattle.weaver_core.specs.Clients.{AddsAt, AreFirst, AreNumbered, AreSameClients, HaveRisingReplies, IsFirstUnanswered, IsInTurn, is_open_at, least_unanswered, lesser, log_of, no_values, requests_at, requests_in, session_at, standing_at, values_at, values_of, with_reply_at, with_running};
+ghost use Rattle.weaver_core.specs.Finishing.{IsOutcomeOf};
+ghost use Rattle.weaver_core.specs.Reporting.{IsFoundAmong};
 ghost use Rattle.weaver_core.specs.Noting.{all_noted, noted, noted_all, noted_by};
 
 use crate::client::{Client, Standing};
+use crate::finishing::outcome_of;
+use crate::walks::Running;
 use program_defs::Script;
+use report_rules::Reply;
 use std::alloc::{AllocError, Global};
 use std::marker::Model;
 use vector_stamp::Stamp;
@@ -23,7 +28,7 @@ pub(crate) struct Clients {
 
 impl Model for Clients {
     ghost use Rattle.std.specs.Prelude.{map};
-    ghost use Rattle.weaver_core.specs.Clients.{AreNumbered, ClientTable, log_of, requests_in, spare_of};
+    ghost use Rattle.weaver_core.specs.Clients.{AreNumbered, ClientTable, log_of, requests_in, spare_of, values_of};
 
     ghost Value = { ClientTable };
 
@@ -31,6 +36,7 @@ impl Model for Clients {
       requests = map requests_in c.clients.items;
       logs = map log_of c.clients.items;
       spares = map spare_of c.clients.items;
+      values = map values_of c.clients.items;
     } };
 
     ghost invariant = { λ c. AreNumbered c.clients.items };
@@ -43,9 +49,30 @@ impl Clients {
         ensures requests { IfOk result (λ made. made.requests
             ≡ map (requests_of_session script.now) (range_with_len 0 64)) }
         ensures logs { IfOk result (λ made. made.logs ≡ replicate 64 []) }
+        ensures values { IfOk result (λ made. made.values ≡ replicate 64 no_values) }
     {
         let clients = first_clients(alloc, script)?;
         Ok(Clients { clients })
+    }
+
+    /// These sessions, each at the end of its log, in the order of their numbers. It takes no memory.
+    pub(crate) fn of(clients: Vec<Client>) -> Clients
+        requires { AreNumbered clients.items }
+        ensures requests { result.requests ≡ map requests_in clients.items }
+        ensures logs { result.logs ≡ map log_of clients.items }
+        ensures values { result.values ≡ map values_of clients.items }
+    {
+        Clients { clients }
+    }
+
+    /// The sessions, in the order of their numbers. It takes no memory.
+    pub(crate) fn into_clients(self) -> Vec<Client>
+        ensures numbered { AreNumbered result.items }
+        ensures requests { map requests_in result.items ≡ self.requests }
+        ensures logs { map log_of result.items ≡ self.logs }
+        ensures values { map values_of result.items ≡ self.values }
+    {
+        self.clients
     }
 
     /// How a request of a session is that is to begin.
@@ -80,10 +107,10 @@ impl Clients {
         requires { session < length self.now.logs }
         ensures { result ≡ (session_at self.now session).last }
     {
-        self.clients[session as usize].last()
+        self.clients[session as usize].session.last()
     }
 
-    /// Takes the room for one more entry of a session. The one error is out of memory.
+    /// Takes the room for one more entry and one more reply of a session. The one error is out of memory.
     pub(crate) fn reserve(&mut self, session: u32) -> Result<(), AllocError>
         requires { session < length self.old.logs }
         ensures same { AreSameClients self.old self.new }
@@ -98,21 +125,59 @@ impl Clients {
         requires there { session < length self.old.logs }
         requires room { 1 ≤ slice_index_or self.old.spares session 0 }
         requires turn { FitsSession (session_at self.old session) (deed.Begun request stamp) }
-        ensures { AddsAt self.old self.new session (deed.Begun request stamp) }
+        ensures begun { AddsAt self.old self.new session (deed.Begun request stamp) }
+        ensures values { self.new.values ≡ self.old.values }
     {
         let client = &mut self.clients[session as usize];
-        client.begun(request, stamp);
+        client.begun(session, request, stamp);
     }
 
-    /// The last begun request of a session has its reply. It takes no memory.
-    pub(crate) fn replied(&mut self, session: u32, request: u32)
+    /// The last begun request of a session has its reply, and no program of the session is running. It takes no memory.
+    pub(crate) fn replied(&mut self, session: u32, reply: Reply)
         requires there { session < length self.old.logs }
         requires room { 1 ≤ slice_index_or self.old.spares session 0 }
-        requires turn { FitsSession (session_at self.old session) (deed.Replied request) }
-        ensures { AddsAt self.old self.new session (deed.Replied request) }
+        requires turn { FitsSession (session_at self.old session) (deed.Replied reply.request) }
+        ensures replied { AddsAt self.old self.new session (deed.Replied reply.request) }
+        ensures values { self.new.values ≡ with_reply_at self.old.values session reply }
     {
         let client = &mut self.clients[session as usize];
-        client.replied(request);
+        client.replied(session, reply);
+    }
+
+    /// The program that is running in a session, if there is one, is taken out.
+    pub(crate) fn take(&mut self, session: u32) -> Option<Running>
+        requires { session < length self.old.logs }
+        ensures taken { result ≡ (values_at self.old.values session).running }
+        ensures left { self.new ≡ record self.old { values = with_running self.old.values session None } }
+    {
+        let client = &mut self.clients[session as usize];
+        client.running.take()
+    }
+
+    /// This program is running in a session, or none.
+    pub(crate) fn put(&mut self, session: u32, running: Option<Running>)
+        requires { session < length self.old.logs }
+        ensures { self.new ≡ record self.old { values = with_running self.old.values session running } }
+    {
+        let client = &mut self.clients[session as usize];
+        client.running = running;
+    }
+
+    /// The reply to a request of a session, if it has one. It costs a binary search among the session's replies.
+    pub(crate) fn reply(&self, session: u32, request: u32) -> Option<&Reply>
+        requires there { session < length self.now.logs }
+        requires rising { HaveRisingReplies self.now.values }
+        ensures { IsFoundAmong (values_at self.now.values session).replies request (option_copied result) }
+    {
+        self.clients[session as usize].reply(request)
+    }
+
+    /// The answer of the program that is running in a session, if it has no next vertex. The one error is out of memory.
+    pub(crate) fn outcome(&self, alloc: Global, session: u32) -> Result<Option<Reply>, AllocError>
+        requires { session < length self.now.logs }
+        ensures { IfOk result (IsOutcomeOf (values_at self.now.values session).running) }
+    {
+        outcome_of(alloc, &self.clients[session as usize].running)
     }
 
     /// The stamps of that many requests, by request. It looks once at each entry.
@@ -136,7 +201,7 @@ fn first_clients(alloc: Global, script: &Script) -> Result<Vec<Client>, AllocErr
     let mut clients = Vec::new(alloc);
     for number in 0..64 {
         let requests = requests_of(alloc, script, number)?;
-        let client = Client::new(alloc, number, requests);
+        let client = Client::new(alloc, requests);
         clients.push(client)?;
     }
     Ok(clients)
@@ -159,6 +224,7 @@ fn requests_of(alloc: Global, script: &Script, session: u32) -> Result<Vec<u32>,
 
 // The least of a number and these sessions' first requests without a reply.
 fn first_unanswered_of(clients: &[Client], requests: u32) -> u32
+    requires { AreNumbered clients.now }
     ensures { result ≡ least_unanswered requests clients.now }
 {
     let mut first = requests;
@@ -198,7 +264,7 @@ fn stamps_of(
 {
     let mut stamps = no_stamps(alloc, requests)?;
     for client in clients {
-        note_begins(client.log(), &mut stamps);
+        note_begins(client.log.as_slice(), &mut stamps);
     }
     Ok(stamps)
 }

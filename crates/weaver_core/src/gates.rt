@@ -1,5 +1,5 @@
 //! The gatekeepers of a core, by their numbers.
-ghost use Rattle.std.specs.Prelude.{◌≡◌, ◌<◌, ◌≤◌, ◌&&◌, [], length, replicate, not, nat_lt, is_some, option_copied, IsTrue, IsSome, Some, IfOk, OnOk, OnErr};
+ghost use Rattle.std.specs.Prelude.{◌≡◌, ◌<◌, ◌≤◌, ◌&&◌, [], length, map, replicate, not, nat_lt, is_some, option_copied, IsTrue, IsSome, Some, IfOk, OnOk, OnErr};
 ghost use Rattle.std.specs.List.{list_any};
 ghost use Rattle.std.specs.Option.{ForSome, option_map};
 ghost use Rattle.vector_stamp.specs.Clocks.{counts_no_more};
@@ -13,7 +13,8 @@ ghost use Rattle.gatekeeper.specs.Answers.{IsRefusedWhere};
 ghost use Rattle.gatekeeper.specs.Gates.{Adds, SendsFlight};
 ghost use Rattle.gatekeeper.specs.Opened.{as_begun};
 ghost use Rattle.step_rules.specs.Entries.{begin_deed};
-ghost use Rattle.weaver_core.specs.GateTable.{AddsAt, AreFirst, IsSameGate, log_at};
+ghost use Rattle.weaver_core.specs.Finishing.{begins_program, last_author};
+ghost use Rattle.weaver_core.specs.GateTable.{AddsAt, AreFirst, AreInOrder, IsSameGate, log_at, log_of};
 ghost use Rattle.weaver_core.specs.Messages.{nop_deed};
 
 use gatekeeper::{Flight, Gate, GateFault};
@@ -22,7 +23,7 @@ use program_defs::Work;
 use std::alloc::{AllocError, Global};
 use std::marker::Model;
 use vector_stamp::{Clock, Stamp};
-use weave_entries::{Message, Verdict};
+use weave_entries::{GateDeed, GateEntry, Message, Verdict};
 
 /// The gatekeepers, in the order of their numbers. Contracts see the number of shards and the logs.
 #[derive(Drop)]
@@ -32,7 +33,7 @@ pub(crate) struct Gates {
 }
 
 impl Model for Gates {
-    ghost use Rattle.std.specs.Prelude.{map};
+    ghost use Rattle.std.specs.Prelude.{length, map};
     ghost use Rattle.weaver_core.specs.GateTable.{GateTable, AreInOrder, log_of};
 
     ghost Value = { GateTable };
@@ -42,7 +43,7 @@ impl Model for Gates {
       logs = map log_of g.gates.items;
     } };
 
-    ghost invariant = { λ g. AreInOrder g.shards g.gates.items };
+    ghost invariant = { λ g. AreInOrder (length g.gates.items) g.shards g.gates.items };
 }
 
 impl Gates {
@@ -58,6 +59,22 @@ impl Gates {
             shards,
             gates: made,
         })
+    }
+
+    /// These gatekeepers, which are made for this number of shards and are in order. It takes no memory.
+    pub(crate) fn of(shards: u32, gates: Vec<Gate>) -> Gates
+        requires { AreInOrder (length gates.items) shards gates.items }
+        ensures { result ≡ record { shards = shards; logs = map log_of gates.items } }
+    {
+        Gates { shards, gates }
+    }
+
+    /// The gatekeepers, in order. It takes no memory.
+    pub(crate) fn into_gates(self) -> Vec<Gate>
+        ensures order { AreInOrder (length result.items) self.shards result.items }
+        ensures logs { map log_of result.items ≡ self.logs }
+    {
+        self.gates
     }
 
     /// The transaction in flight.
@@ -142,6 +159,14 @@ impl Gates {
         self.gates[gate as usize].fetch(shard, number)
     }
 
+    /// The author who began a program last; 0 if no one did. It looks at the entries from the end to that begin.
+    pub(crate) fn author(&self, gate: u32, request: u32) -> u32
+        requires { gate < length self.now.logs }
+        ensures { result ≡ last_author request (log_at self.now gate) }
+    {
+        author_in(self.gates[gate as usize].log(), request)
+    }
+
     /// Finishes a program that is running, in the name of the author of its begin.
     pub(crate) fn finish(
         &mut self,
@@ -187,7 +212,7 @@ fn first_gates(alloc: Global, gates: u32, shards: u32) -> Result<Vec<Gate>, Allo
     requires gates { gates ≤ 8 }
     requires one_shard { 1 ≤ shards }
     requires shards { shards ≤ 16 }
-    ensures { IfOk result (λ made. AreFirst gates shards made.items) }
+    ensures { IfOk result (λ made. AreFirst gates gates shards made.items) }
 {
     let mut made = Vec::new(alloc);
     for home in 0..gates {
@@ -217,6 +242,31 @@ fn stamp_at(
     match work {
         Work::Change(_) => gate.begin_tx(alloc, 0, request, last),
         Work::Look(_) => Ok(gate.begin_program(alloc, 0, request, last)?),
+    }
+}
+
+// The author of the last entry that begins this program; 0 if none does.
+fn author_in(log: &[GateEntry], request: u32) -> u32
+    ensures { result ≡ last_author request log.now }
+{
+    let mut place = log.len();
+    while place > 0 {
+        place -= 1;
+        let entry = &log[place];
+        if begins(&entry.deed, request) {
+            return entry.author;
+        }
+    }
+    0
+}
+
+// Whether the deed begins this program.
+fn begins(deed: &GateDeed, request: u32) -> bool
+    ensures { result ≡ begins_program request deed.now }
+{
+    match deed {
+        GateDeed::BeganProgram { request: begun, .. } => *begun == request,
+        _ => false,
     }
 }
 

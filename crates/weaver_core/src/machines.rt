@@ -1,6 +1,5 @@
 //! The machines of a core, and what each atomic step does with them.
-ghost use Rattle.std.specs.Prelude.{◌≡◌, ℕ, ◌+◌, ◌<◌, ◌≤◌, ◌^◌, [], Contains, Some, false, is_some, length, map, OnErr, IfOk, IsTrue};
-ghost use Rattle.std.specs.List.{range_with_len};
+ghost use Rattle.std.specs.Prelude.{◌≡◌, ℕ, ◌+◌, ◌<◌, ◌≤◌, ◌^◌, [], Contains, None, Some, false, is_some, length, map, replicate, slice_get, OnErr, IfOk, IsTrue};
 ghost use Rattle.vector_stamp.specs.declared.clock.Stamp.{Stamp};
 ghost use Rattle.program_defs.specs.Limits.{IsWithinLimits};
 ghost use Rattle.program_defs.specs.declared.script.Request.{Request};
@@ -9,13 +8,15 @@ ghost use Rattle.report_rules.specs.Lookups.{request_at};
 ghost use Rattle.weave_entries.specs.OracleReplay.{settled_entry};
 ghost use Rattle.weave_entries.specs.ShardReplay.{arrived_at, kept_of, processed_count};
 ghost use Rattle.weave_entries.specs.declared.oracle_log.OracleEntry.{OracleEntry};
-ghost use Rattle.weave_account.specs.Account.{shard_log};
+ghost use Rattle.weave_account.specs.Account.{session_log, shard_log};
 ghost use Rattle.weave_account.specs.Report.{MatchesAccount};
 ghost use Rattle.step_rules.specs.CoreState.{start_state};
-ghost use Rattle.weaver_core.specs.Cores.{AreOf, MayDo, MachinesDo};
+ghost use Rattle.weaver_core.specs.Cores.{AreOf, MayDo, MachinesDo, RepliesToChange, machines_of};
+ghost use Rattle.weaver_core.specs.Clients.{AreNumbered, HaveRisingReplies, is_open_in, no_values, values_at, values_of, with_running};
 ghost use Rattle.step_rules.specs.Requests.{has_reply, last_begun};
-ghost use Rattle.weaver_core.specs.Reporting.{AreOfHomes, all_pairs_found, reply_kept, request_with};
-ghost use Rattle.weaver_core.specs.Walks.{AreMarksOf, AreProgramsOf, IsKeptIn, IsLook, IsRunningIn};
+ghost use Rattle.weaver_core.specs.Reporting.{AreOfHomes, AreRequestsReplies, all_pairs_found, request_with};
+ghost use Rattle.weaver_core.specs.Splitting.{AreAllByLog, AreProgramsOf, ArePartsFor, RepliesToProgram, state_of};
+ghost use Rattle.weaver_core.specs.Walks.{AreMarksOf, IsLook, IsOtherStep, IsRunningIn};
 
 use crate::beginning::begin_in;
 use crate::clients::Clients;
@@ -29,9 +30,10 @@ use crate::replies::replies_of;
 use crate::replying::reply_in;
 use crate::sending::send_in;
 use crate::shards::Shards;
+use crate::split::Split;
 use crate::staying::what_stays;
 use crate::visiting::visit_next;
-use crate::walks::{Walk, Walking};
+use crate::walks::Running;
 use backing_store::Store;
 use backing_store::laws::what_is_asked_is_kept;
 use order_graph::laws::ends_are_of_pairs;
@@ -81,6 +83,7 @@ impl Machines {
         requires { IsWithinLimits script.now }
         ensures are { IfOk result (λ made. AreOf script.now made) }
         ensures start { IfOk result (λ made. made.state ≡ start_state script.now) }
+        ensures values { IfOk result (λ made. made.values ≡ replicate 64 no_values) }
     {
         start_is_a_core();
         let gates = Gates::new(alloc, script.gates, script.shards)?;
@@ -99,6 +102,47 @@ impl Machines {
         })
     }
 
+    /// The machines of these parts. It takes no memory.
+    pub(crate) fn of(
+        gates: Gates,
+        store: Store,
+        oracle: Oracle,
+        shards: Shards,
+        clients: Clients,
+        notices: Vec<Clock>,
+    ) -> Machines
+        ensures { result ≡ machines_of gates store oracle shards clients notices.items }
+    {
+        Machines {
+            gates,
+            store,
+            oracle,
+            shards,
+            clients,
+            notices,
+        }
+    }
+
+    /// The machines, each by itself, with the script that they are made for. It takes no memory.
+    pub(crate) fn split(self, script: Script) -> Split
+        requires { AreOf script self }
+        ensures script { result.script ≡ script }
+        ensures state { state_of result ≡ self.state }
+        ensures parts { ArePartsFor script result }
+        ensures numbered { AreNumbered result.clients.items }
+        ensures values { map values_of result.clients.items ≡ self.values }
+    {
+        Split {
+            script,
+            gates: self.gates.into_gates(),
+            store: self.store,
+            oracle: self.oracle,
+            shards: self.shards.into_shards(),
+            clients: self.clients.into_clients(),
+            notices: self.notices,
+        }
+    }
+
     /// Does a step. The one error is out of memory.
     pub(crate) fn step(
         &mut self,
@@ -109,6 +153,7 @@ impl Machines {
         requires { MayDo script.now self.old step.now }
         ensures done { IfOk result (λ answer. MachinesDo script.now step.now self.old self.new answer) }
         ensures refused { OnErr result (self.new ≡ self.old) }
+        ensures values { IsOtherStep step.now → self.new.values ≡ self.old.values }
     {
         match *step {
             Step::Begin { request } => self.begin(alloc, script, request),
@@ -116,7 +161,7 @@ impl Machines {
             Step::Send { gate } => self.send(alloc, script, gate),
             Step::Say { gate } => self.say(script, gate),
             Step::Hear { gate, notice } => self.hear(alloc, script, gate, notice),
-            Step::Reply { request } => self.reply(script, request),
+            Step::Reply { request } => self.reply(alloc, script, request),
             Step::Epoch { gate, epoch } => self.raise(alloc, script, gate, epoch),
             Step::Nop { gate, shard } => self.nop(alloc, script, gate, shard),
             Step::Deliver {
@@ -140,6 +185,7 @@ impl Machines {
         requires { MayDo script.now self.old (step.Begin request) }
         ensures done { IfOk result (λ answer. MachinesDo script.now (step.Begin request) self.old self.new answer) }
         ensures refused { OnErr result (self.new ≡ self.old) }
+        ensures values { self.new.values ≡ self.old.values }
     {
         clocks_are_known();
         requests_of_a_session_rise();
@@ -152,6 +198,7 @@ impl Machines {
         requires { MayDo script.now self.old (step.Judge gate) }
         ensures done { IfOk result (λ answer. MachinesDo script.now (step.Judge gate) self.old self.new answer) }
         ensures refused { OnErr result (self.new ≡ self.old) }
+        ensures values { self.new.values ≡ self.old.values }
     {
         begun_stamps_are_coherent();
         judgements_are_of_requests();
@@ -176,6 +223,7 @@ impl Machines {
         requires { MayDo script.now self.old (step.Send gate) }
         ensures done { IfOk result (λ answer. MachinesDo script.now (step.Send gate) self.old self.new answer) }
         ensures refused { OnErr result (self.new ≡ self.old) }
+        ensures values { self.new.values ≡ self.old.values }
     {
         judgements_are_of_requests();
         let _ = script;
@@ -187,6 +235,7 @@ impl Machines {
         requires { MayDo script.now self.old (step.Say gate) }
         ensures done { IfOk result (λ answer. MachinesDo script.now (step.Say gate) self.old self.new answer) }
         ensures refused { OnErr result (self.new ≡ self.old) }
+        ensures values { self.new.values ≡ self.old.values }
     {
         let _ = script;
         self.notices.reserve(1)?;
@@ -206,6 +255,7 @@ impl Machines {
         requires { MayDo script.now self.old (step.Hear gate notice) }
         ensures done { IfOk result (λ answer. MachinesDo script.now (step.Hear gate notice) self.old self.new answer) }
         ensures refused { OnErr result (self.new ≡ self.old) }
+        ensures values { self.new.values ≡ self.old.values }
     {
         let _ = script;
         hear_in(
@@ -218,14 +268,27 @@ impl Machines {
     }
 
     /// `reply R` of a transaction: the session has the reply, if it was sent.
-    pub(crate) fn reply(&mut self, script: &Script, request: u32) -> Result<StepAnswer, AllocError>
+    pub(crate) fn reply(
+        &mut self,
+        alloc: Global,
+        script: &Script,
+        request: u32,
+    ) -> Result<StepAnswer, AllocError>
         requires { MayDo script.now self.old (step.Reply request) }
         ensures done { IfOk result (λ answer. MachinesDo script.now (step.Reply request) self.old self.new answer) }
         ensures refused { OnErr result (self.new ≡ self.old) }
+        ensures values { IfOk result (RepliesToChange script.now request self.old self.new) }
     {
         requests_end_or_go_on();
         requests_of_a_session_rise();
-        reply_in(&self.gates, &mut self.clients, script, request)
+        reply_in(
+            alloc,
+            &self.gates,
+            &self.store,
+            &mut self.clients,
+            script,
+            request,
+        )
     }
 
     // `epoch G E`: the gatekeeper is in that epoch, if it is above its own.
@@ -239,6 +302,7 @@ impl Machines {
         requires { MayDo script.now self.old (step.Epoch gate epoch) }
         ensures done { IfOk result (λ answer. MachinesDo script.now (step.Epoch gate epoch) self.old self.new answer) }
         ensures refused { OnErr result (self.new ≡ self.old) }
+        ensures values { self.new.values ≡ self.old.values }
     {
         let _ = script;
         raise_in(alloc, &mut self.gates, gate, epoch)
@@ -255,6 +319,7 @@ impl Machines {
         requires { MayDo script.now self.old (step.Nop gate shard) }
         ensures done { IfOk result (λ answer. MachinesDo script.now (step.Nop gate shard) self.old self.new answer) }
         ensures refused { OnErr result (self.new ≡ self.old) }
+        ensures values { self.new.values ≡ self.old.values }
     {
         let _ = script;
         nop_in(alloc, &mut self.gates, gate, shard)
@@ -273,6 +338,7 @@ impl Machines {
         ensures done { IfOk result (λ answer.
             MachinesDo script.now (step.Deliver gate shard number) self.old self.new answer) }
         ensures refused { OnErr result (self.new ≡ self.old) }
+        ensures values { self.new.values ≡ self.old.values }
     {
         messages_can_be_taken();
         let _ = script;
@@ -292,6 +358,7 @@ impl Machines {
         requires { MayDo script.now self.old (step.Apply shard gate) }
         ensures done { IfOk result (λ answer. MachinesDo script.now (step.Apply shard gate) self.old self.new answer) }
         ensures refused { OnErr result (self.new ≡ self.old) }
+        ensures values { self.new.values ≡ self.old.values }
     {
         heads_pass();
         let _ = script;
@@ -303,6 +370,7 @@ impl Machines {
         requires { MayDo script.now self.old (step.Collect shard) }
         ensures done { IfOk result (λ answer. MachinesDo script.now (step.Collect shard) self.old self.new answer) }
         ensures refused { OnErr result (self.new ≡ self.old) }
+        ensures values { self.new.values ≡ self.old.values }
     {
         let _ = script;
         self.shards.collect(shard)?;
@@ -315,7 +383,7 @@ impl Machines {
         alloc: Global,
         script: &Script,
         request: u32,
-        running: &mut Walking,
+        running: &mut Running,
         marks: &mut Vec<Option<Name>>,
     ) -> Result<StepAnswer, AllocError>
         requires are { AreOf script.now self.old }
@@ -323,7 +391,9 @@ impl Machines {
         requires marks { AreMarksOf self.old.state.account marks.old.items }
         ensures done { IfOk result (λ answer. MachinesDo script.now (step.Visit request) self.old self.new answer) }
         ensures refused { OnErr result (self.new ≡ self.old) }
+        ensures values { self.new.values ≡ self.old.values }
         ensures runs { IsRunningIn script.now self.new.state.account request running.new }
+        ensures same { running.new.stamp ≡ running.old.stamp }
         ensures marks { AreMarksOf self.new.state.account marks.new.items }
     {
         begun_stamps_are_coherent();
@@ -345,7 +415,7 @@ impl Machines {
             &mut self.shards,
             &mut self.oracle,
             script.shards,
-            &mut running.program,
+            running,
             marks,
         )
     }
@@ -356,30 +426,52 @@ impl Machines {
         alloc: Global,
         script: &Script,
         request: u32,
-        walk: &mut Option<Walk>,
     ) -> Result<StepAnswer, AllocError>
         requires are { AreOf script.now self.old }
         requires look { IsLook script.now request }
-        requires kept { IsKeptIn script.now self.old.state.account request walk.old }
+        requires values { AreAllByLog script.now self.old.state.account self.old.values }
         ensures done { IfOk result (λ answer. MachinesDo script.now (step.Reply request) self.old self.new answer) }
         ensures refused { OnErr result (self.new ≡ self.old) }
-        ensures kept { IsKeptIn script.now self.new.state.account request walk.new }
+        ensures values { IfOk result (RepliesToProgram script.now request self.old self.new) }
     {
         begun_and_replied_are_decided();
         order_of_reads_is_free();
         requests_end_or_go_on();
         requests_of_a_session_rise();
+        sessions_go_in_turn();
         what_has_not_ended_goes_on();
         what_stays();
         let asked = &script.requests.as_slice()[request as usize];
-        finish_in(
-            alloc,
-            &mut self.gates,
-            &mut self.clients,
-            request,
-            asked,
-            walk,
-        )
+        finish_in(alloc, &mut self.gates, &mut self.clients, request, asked)
+    }
+
+    /// Whether a request has begun and has no reply.
+    pub(crate) fn is_open(&self, script: &Script, request: u32) -> bool
+        requires are { AreOf script.now self.now }
+        requires there { request < length script.now.requests }
+        ensures { (asked : Request) → request_at script.now request ≡ Some asked
+            → result ≡ is_open_in request (session_log self.now.state.account asked.session) }
+    {
+        requests_of_a_session_rise();
+        let asked = &script.requests.as_slice()[request as usize];
+        self.clients.is_open(asked.session, request)
+    }
+
+    /// The program that is running in a session, if there is one, is taken out.
+    pub(crate) fn take(&mut self, session: u32) -> Option<Running>
+        requires { session < length self.old.state.account.sessions }
+        ensures taken { result ≡ (values_at self.old.values session).running }
+        ensures left { self.new ≡ record self.old { values = with_running self.old.values session None } }
+    {
+        self.clients.take(session)
+    }
+
+    /// This program is running in a session, or none.
+    pub(crate) fn put(&mut self, session: u32, running: Option<Running>)
+        requires { session < length self.old.state.account.sessions }
+        ensures { self.new ≡ record self.old { values = with_running self.old.values session running } }
+    {
+        self.clients.put(session, running);
     }
 
     /// The first request without a reply, in the script's order; the number of requests if each has one.
@@ -434,11 +526,10 @@ impl Machines {
         &self,
         alloc: Global,
         script: &Script,
-        walks: &[Option<Walk>],
         marks: &[Option<Name>],
     ) -> Result<Report, AllocError>
         requires are { AreOf script.now self.now }
-        requires programs { AreProgramsOf script.now self.now.state.account walks.now marks.now }
+        requires programs { AreProgramsOf script.now self.now.state.account self.now.values marks.now }
         ensures matches { IfOk result (MatchesAccount script.now self.now.state.account) }
         ensures answers { IfOk result (λ report. report.answers ≡ []) }
     {
@@ -449,14 +540,15 @@ impl Machines {
         placed_pairs_are_the_pairs();
         sessions_go_in_turn();
         stamps_are_begun();
+        what_stays();
         let requests = script.requests.as_slice();
         let stamps = self.clients.stamps(alloc, requests.len())?;
         report_of(
             alloc,
             requests,
             stamps.as_slice(),
-            walks,
             marks,
+            &self.clients,
             &self.store,
             &self.oracle,
         )
@@ -470,28 +562,30 @@ impl Machines {
     }
 }
 
-// Replies and pairs, by the stamps, by what is kept of programs, and by the logs of store and oracle.
+// Replies and pairs, by the stamps, by the sessions' replies, and by the logs of store and oracle.
 fn report_of(
     alloc: Global,
     requests: &[Request],
     stamps: &[Option<Stamp>],
-    walks: &[Option<Walk>],
     marks: &[Option<Name>],
+    clients: &Clients,
     store: &Store,
     oracle: &Oracle,
 ) -> Result<Report, AllocError>
     requires few { length requests.now < 2 ^ 32 }
     requires many { length stamps.now ≡ length requests.now }
-    requires as_many { length walks.now ≡ length requests.now }
+    requires sessions { (r : ℕ) (request : Request) → slice_get requests.now r ≡ Some request
+        → request.session < length clients.now.logs }
+    requires rising { HaveRisingReplies clients.now.values }
     requires begun { (stamp : Stamp) → Contains stamps.now (Some stamp) → stamp.home < 8 }
     requires settled { (entry : OracleEntry) → Contains oracle.now entry → AreOfHomes (settled_entry entry) }
-    ensures replies { IfOk result (λ report. report.replies
-        ≡ map (reply_kept stamps.now walks.now store.now) (range_with_len 0 (length requests.now))) }
+    ensures replies { IfOk result (λ report. AreRequestsReplies store.now clients.now.values stamps.now requests.now
+        (length requests.now) report.replies) }
     ensures pairs { IfOk result (λ report. report.pairs
         ≡ all_pairs_found (request_with stamps.now) store.now marks.now oracle.now) }
     ensures answers { IfOk result (λ report. report.answers ≡ []) }
 {
-    let replies = replies_of(alloc, requests, stamps, walks, store)?;
+    let replies = replies_of(alloc, requests, stamps, clients, store)?;
     let pairs = pairs_of(alloc, stamps, marks, store, oracle)?;
     Ok(Report {
         replies,

@@ -1,13 +1,14 @@
 //! The replies of a report: the stamp and the state of each request.
-ghost use Rattle.std.specs.Prelude.{◌≡◌, ◌<◌, ◌^◌, length, map, IfOk};
-ghost use Rattle.std.specs.List.{range_with_len};
+ghost use Rattle.std.specs.Prelude.{◌≡◌, ℕ, ◌<◌, ◌^◌, length, slice_get, Some, IfOk, option_copied};
+ghost use Rattle.program_defs.specs.declared.script.Request.{Request};
 ghost use Rattle.weave_account.specs.Report.{state_by_verdict, state_of_tx};
 ghost use Rattle.weave_entries.specs.StoreReplay.{judged_by, judgement_of};
-ghost use Rattle.weaver_core.specs.Reporting.{reply_kept, state_kept, state_stamped, state_walked};
+ghost use Rattle.weaver_core.specs.Clients.{HaveRisingReplies, values_at};
+ghost use Rattle.weaver_core.specs.Reporting.{AreRequestsReplies, IsStateFound, state_by_reply, state_replied, state_stamped};
 
-use crate::walks::Walk;
+use crate::clients::Clients;
 use backing_store::Store;
-use program_defs::Request;
+use program_defs::{Request, Work};
 use report_rules::{Reply, ReplyState};
 use std::alloc::{AllocError, Global};
 use vector_stamp::Stamp;
@@ -19,20 +20,21 @@ pub(crate) fn replies_of(
     alloc: Global,
     requests: &[Request],
     stamps: &[Option<Stamp>],
-    walks: &[Option<Walk>],
+    clients: &Clients,
     store: &Store,
 ) -> Result<Items<Reply>, AllocError>
     requires few { length requests.now < 2 ^ 32 }
     requires stamps { length stamps.now ≡ length requests.now }
-    requires walks { length walks.now ≡ length requests.now }
-    ensures { IfOk result (λ replies. replies
-        ≡ map (reply_kept stamps.now walks.now store.now) (range_with_len 0 (length requests.now))) }
+    requires sessions { (r : ℕ) (request : Request) → slice_get requests.now r ≡ Some request
+        → request.session < length clients.now.logs }
+    requires rising { HaveRisingReplies clients.now.values }
+    ensures { IfOk result (AreRequestsReplies store.now clients.now.values stamps.now requests.now (length requests.now)) }
 {
     let mut replies = Items::from_vec(Vec::with_capacity(alloc, requests.len())?);
     for request in 0..requests.len() as u32 {
+        let asked = &requests[request as usize];
         let stamp = stamps[request as usize];
-        let walk = &walks[request as usize];
-        let state = state_kept(alloc, request, stamp, walk, store)?;
+        let state = state_found(alloc, request, asked, stamp, clients, store)?;
         replies.push(Reply {
             request,
             stamp,
@@ -42,29 +44,50 @@ pub(crate) fn replies_of(
     Ok(replies)
 }
 
-// The state of a request of which this is kept.
-fn state_kept(
+// The state of a request that has this stamp, if it was begun.
+fn state_found(
     alloc: Global,
     request: u32,
+    asked: &Request,
     stamp: Option<Stamp>,
-    walk: &Option<Walk>,
+    clients: &Clients,
     store: &Store,
 ) -> Result<ReplyState, AllocError>
-    ensures { IfOk result (λ state. state ≡ state_kept store.now request stamp walk.now) }
+    requires session { asked.now.session < length clients.now.logs }
+    requires rising { HaveRisingReplies clients.now.values }
+    ensures { IfOk result (IsStateFound store.now (values_at clients.now.values asked.now.session).replies request stamp
+        asked.now.work) }
 {
-    match walk {
-        None => state_of(alloc, request, stamp, store),
-        Some(walk) => state_of_walk(alloc, walk),
+    match &asked.work {
+        Work::Change(_) => state_of(alloc, request, stamp, store),
+        Work::Look(_) => {
+            let reply = clients.reply(asked.session, request);
+            state_of_program(alloc, stamp, reply)
+        }
+    }
+}
+
+// The state of a program that has this stamp, if it was begun, and this reply, if it has one.
+fn state_of_program(
+    alloc: Global,
+    stamp: Option<Stamp>,
+    reply: Option<&Reply>,
+) -> Result<ReplyState, AllocError>
+    ensures { IfOk result (λ state. state ≡ state_by_reply stamp (option_copied reply.entry)) }
+{
+    match stamp {
+        None => Ok(ReplyState::Unbegun),
+        Some(_) => state_of_reply(alloc, reply),
     }
 }
 
 // The state of a program that has begun.
-fn state_of_walk(alloc: Global, walk: &Walk) -> Result<ReplyState, AllocError>
-    ensures { IfOk result (λ state. state ≡ state_walked walk.now) }
+fn state_of_reply(alloc: Global, reply: Option<&Reply>) -> Result<ReplyState, AllocError>
+    ensures { IfOk result (λ state. state ≡ state_replied (option_copied reply.entry)) }
 {
-    match walk {
-        Walk::Running(_) => Ok(ReplyState::Begun),
-        Walk::Finished(answer) => Ok(ReplyState::Finished(answer.copy(alloc)?)),
+    match reply {
+        None => Ok(ReplyState::Begun),
+        Some(reply) => reply.state.copy(alloc),
     }
 }
 
@@ -83,8 +106,12 @@ fn state_of(
     }
 }
 
-// The state of a transaction that has begun.
-fn state_of_begun(alloc: Global, request: u32, store: &Store) -> Result<ReplyState, AllocError>
+/// The state of a transaction that has begun.
+pub(crate) fn state_of_begun(
+    alloc: Global,
+    request: u32,
+    store: &Store,
+) -> Result<ReplyState, AllocError>
     ensures { IfOk result (λ state. state ≡ state_of_tx (judgement_of request store.now)) }
 {
     match store.judged(request) {

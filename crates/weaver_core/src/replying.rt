@@ -7,13 +7,17 @@ ghost use Rattle.weaver_core.specs.Replying.{IsThere, Replies, RepliesToOne, is_
 
 use crate::clients::Clients;
 use crate::gates::Gates;
+use crate::replies::state_of_begun;
+use backing_store::Store;
 use program_defs::{Request, Script};
-use report_rules::StepAnswer;
-use std::alloc::AllocError;
+use report_rules::{Reply, StepAnswer};
+use std::alloc::{AllocError, Global};
 
-/// The session has the reply to the script's request, if that was sent. The one error is out of memory.
+/// The session has the reply to the script's request, if that was sent. The reply's state is by the store's log. The one error is out of memory.
 pub(crate) fn reply_in(
+    alloc: Global,
     gates: &Gates,
+    store: &Store,
     clients: &mut Clients,
     script: &Script,
     request: u32,
@@ -21,16 +25,18 @@ pub(crate) fn reply_in(
     requires there { IsSome (request_at script.now request) }
     requires ready { (asked : Request) → request_at script.now request ≡ Some asked
         → IsThere gates.now clients.old request asked }
-    ensures replies { IfOk result (Replies script.now gates.now clients.old clients.new request) }
+    ensures replies { IfOk result (Replies script.now gates.now store.now clients.old clients.new request) }
     ensures refused { OnErr result (AreSameClients clients.old clients.new) }
 {
     let asked = &script.requests.as_slice()[request as usize];
-    reply_to_one(gates, clients, request, asked)
+    reply_to_one(alloc, gates, store, clients, request, asked)
 }
 
 // The session has the reply. A transaction that has begun was sent unless it is in flight.
 fn reply_to_one(
+    alloc: Global,
     gates: &Gates,
+    store: &Store,
     clients: &mut Clients,
     request: u32,
     asked: &Request,
@@ -38,7 +44,7 @@ fn reply_to_one(
     requires gate { asked.now.gate < length gates.now.logs }
     requires session { asked.now.session < length clients.old.logs }
     requires among { Contains (requests_at clients.old asked.now.session) request }
-    ensures replies { IfOk result (RepliesToOne gates.now clients.old clients.new request asked.now) }
+    ensures replies { IfOk result (RepliesToOne gates.now store.now clients.old clients.new request asked.now) }
     ensures refused { OnErr result (AreSameClients clients.old clients.new) }
 {
     let is_open = clients.is_open(asked.session, request);
@@ -50,7 +56,16 @@ fn reply_to_one(
         return Ok(StepAnswer::Idle);
     }
     clients.reserve(asked.session)?;
-    clients.replied(asked.session, request);
+    let stamp = clients.last(asked.session);
+    let state = state_of_begun(alloc, request, store)?;
+    clients.replied(
+        asked.session,
+        Reply {
+            request,
+            stamp,
+            state,
+        },
+    );
     Ok(StepAnswer::Ok)
 }
 

@@ -1,12 +1,12 @@
 //! The shards of a core, by their numbers.
-ghost use Rattle.std.specs.Prelude.{◌≡◌, ℕ, ◌+◌, ◌<◌, ◌≤◌, [], length, replicate, is_some, None, IfErr, IfOk, IsTrue, OnErr, OnOk};
+ghost use Rattle.std.specs.Prelude.{◌≡◌, ℕ, ◌+◌, ◌<◌, ◌≤◌, [], length, map, replicate, is_some, None, IfErr, IfOk, IsTrue, OnErr, OnOk};
 ghost use Rattle.std.specs.Option.{ForSome};
 ghost use Rattle.weave_entries.specs.ShardReplay.{arrived_at, bound_of, head_of, kept_of, processed_count, waits_at};
 ghost use Rattle.weave_entries.specs.ShardRules.{IsTakable, PassesAt};
 ghost use Rattle.weave_entries.specs.declared.shard_log.ShardDeed.TheVariants as deed;
 ghost use Rattle.shard_node.specs.Shards.{IsRightlyUnapplied};
 ghost use Rattle.weaver_core.specs.Messages.{AppliesHead, Arrives};
-ghost use Rattle.weaver_core.specs.ShardTable.{AddsAt, AreFirst, log_at};
+ghost use Rattle.weaver_core.specs.ShardTable.{AddsAt, AreFirst, AreInOrder, log_at, log_of};
 ghost use Rattle.weaver_core.specs.Visiting.{CanBeVisited, Reads};
 ghost use Rattle.shard_node.specs.Shards.{IsRightlyUnread};
 
@@ -54,6 +54,22 @@ impl Shards {
             gates,
             shards: made,
         })
+    }
+
+    /// These shards, which are made for this number of gatekeepers and are in order. It takes no memory.
+    pub(crate) fn of(gates: u32, shards: Vec<Shard>) -> Shards
+        requires { AreInOrder gates shards.items }
+        ensures { result ≡ record { gates = gates; logs = map log_of shards.items } }
+    {
+        Shards { gates, shards }
+    }
+
+    /// The shards, in order. It takes no memory.
+    pub(crate) fn into_shards(self) -> Vec<Shard>
+        ensures order { AreInOrder self.gates result.items }
+        ensures logs { map log_of result.items ≡ self.logs }
+    {
+        self.shards
     }
 
     /// A shard takes in the message of this number from a gatekeeper, unless that number arrived before.

@@ -1,5 +1,5 @@
 //! A core: a script with its machines.
-ghost use Rattle.std.specs.Prelude.{◌≡◌, ℕ, ◌+◌, ◌<◌, ◌≤◌, [], None, Some, false, is_some, length, replicate, OnErr, IfOk, IsTrue};
+ghost use Rattle.std.specs.Prelude.{◌≡◌, ℕ, ◌+◌, ◌<◌, ◌≤◌, [], None, Some, false, is_some, length, OnErr, IfOk, IsTrue};
 ghost use Rattle.proof_base.specs.Facts.{AllHold};
 ghost use Rattle.program_defs.specs.Limits.{IsWithinLimits};
 ghost use Rattle.program_defs.specs.declared.script.Request.{Request};
@@ -14,10 +14,11 @@ ghost use Rattle.step_rules.specs.CoreState.{start_state};
 ghost use Rattle.step_rules.specs.IsCore.{IsCore, IsStepOf};
 ghost use Rattle.step_rules.specs.Requests.{has_reply};
 ghost use Rattle.weaver_core.specs.Cores.{Does};
+ghost use Rattle.weaver_core.specs.Splitting.{CanBeJoined, NoneInFlight, state_of};
 
 use crate::machines::Machines;
+use crate::split::Split;
 use crate::stepping::step_in;
-use crate::walks::Walk;
 use order_witness::order_of;
 use program_defs::{Script, Step};
 use report_rules::laws::orders_are_of_replies_and_pairs;
@@ -35,22 +36,20 @@ use weave_data::{Items, Name};
 pub struct Core {
     script: Script,
     machines: Machines,
-    // What is kept of each request that is a program: its walk, and then its answer.
-    walks: Vec<Option<Walk>>,
     // For each entry of the oracle the vertex of the visit that asked for it, if one did. It may end before the oracle's log.
     marks: Vec<Option<Name>>,
 }
 
 impl Model for Core {
     ghost use Rattle.weaver_core.specs.Cores.{CoreView, AreOf};
-    ghost use Rattle.weaver_core.specs.Walks.{AreProgramsOf};
+    ghost use Rattle.weaver_core.specs.Splitting.{AreProgramsOf};
 
     ghost Value = { CoreView };
 
     ghost view = { λ c. record { script = c.script; state = c.machines.state } };
 
     ghost invariant = { λ c. AreOf c.script c.machines
-        × AreProgramsOf c.script c.machines.state.account c.walks.items c.marks.items };
+        × AreProgramsOf c.script c.machines.state.account c.machines.values c.marks.items };
 }
 
 impl Core {
@@ -61,11 +60,9 @@ impl Core {
         ensures state { IfOk result (λ core. core.state ≡ start_state script) }
     {
         let machines = Machines::new(alloc, &script)?;
-        let walks = no_walks(alloc, script.requests.as_slice().len())?;
         Ok(Core {
             script,
             machines,
-            walks,
             marks: Vec::new(alloc),
         })
     }
@@ -83,7 +80,6 @@ impl Core {
             alloc,
             &self.script,
             &mut self.machines,
-            &mut self.walks,
             &mut self.marks,
             step,
         )
@@ -96,6 +92,21 @@ impl Core {
         ensures core { IsCore self.now.script self.now.state }
     {
         &self.script
+    }
+
+    /// Takes the core apart: its script, its machines, its sessions and its notices. It takes no memory.
+    pub fn split(self) -> Split
+        requires landed { NoneInFlight self.state.account }
+        ensures script { result.script ≡ self.script }
+        ensures state { state_of result ≡ self.state }
+        ensures joined { CanBeJoined result }
+    {
+        let Core {
+            script,
+            machines,
+            marks: _,
+        } = self;
+        machines.split(script)
     }
 
     /// How many notices there are. The last one has this number.
@@ -145,25 +156,11 @@ impl Core {
     {
         account_may_be_ordered();
         orders_are_of_replies_and_pairs();
-        let unordered = self.machines.unordered(
-            alloc,
-            &self.script,
-            self.walks.as_slice(),
-            self.marks.as_slice(),
-        )?;
+        let unordered = self
+            .machines
+            .unordered(alloc, &self.script, self.marks.as_slice())?;
         with_order(alloc, &self.script, unordered)
     }
-}
-
-// Of no request anything is kept.
-fn no_walks(alloc: Global, requests: usize) -> Result<Vec<Option<Walk>>, AllocError>
-    ensures { IfOk result (λ walks. walks.items ≡ replicate requests None) }
-{
-    let mut walks = Vec::with_capacity(alloc, requests)?;
-    for _request in 0..requests {
-        walks.push(None)?;
-    }
-    Ok(walks)
 }
 
 // The report with its printed order.

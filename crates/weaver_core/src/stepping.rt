@@ -1,20 +1,25 @@
 //! A step of the machines, and what is kept of the programs after it.
-ghost use Rattle.std.specs.Prelude.{◌≡◌, ◌<◌, length, Some, IfOk, OnErr};
+ghost use Rattle.std.specs.Prelude.{◌≡◌, ◌<◌, None, Some, length, IfOk, OnErr, true};
+ghost use Rattle.std.specs.Option.{ForSome, option_map};
 ghost use Rattle.program_defs.specs.declared.script.Step.TheVariants as step;
-ghost use Rattle.program_defs.specs.declared.script.Work.TheVariants as work;
+ghost use Rattle.report_rules.specs.declared.report.StepAnswer.TheVariants as answer;
 ghost use Rattle.report_rules.specs.Lookups.{request_at};
 ghost use Rattle.program_defs.specs.Limits.{IsWithinLimits};
 ghost use Rattle.program_defs.specs.declared.script.Request.{Request};
+ghost use Rattle.step_rules.specs.Answers.{answer_of};
 ghost use Rattle.step_rules.specs.IsCore.{IsStepOf};
 ghost use Rattle.step_rules.specs.Requests.{last_begun};
 ghost use Rattle.step_rules.specs.Trace.{is_ok};
-ghost use Rattle.weaver_core.specs.Cores.{AreOf, MachinesDo};
-ghost use Rattle.weaver_core.specs.Walks.{AreMarksOf, AreProgramsOf, IsChangeAt, IsKeptIn, IsLook, IsLookAt, IsOtherStep, begun_with};
+ghost use Rattle.weaver_core.specs.Cores.{AreOf, AreSameMachines, MachinesDo};
+ghost use Rattle.weaver_core.specs.Splitting.{AreProgramsOf};
+ghost use Rattle.weaver_core.specs.declared.walks.Running.{Running};
+ghost use Rattle.weaver_core.specs.Walks.{AreMarksOf, IsChangeAt, IsLook, IsLookAt, IsOtherStep, IsRunningIn, begun_with};
 
 use crate::machines::Machines;
 use crate::staying::what_stays;
-use crate::walks::{Running, Walk, Walking};
+use crate::walks::Running;
 use path_program::AnyProgram;
+use program_defs::laws::order_of_reads_is_free;
 use program_defs::{Program, Script, Step, Work};
 use report_rules::StepAnswer;
 use std::alloc::{AllocError, Global};
@@ -23,26 +28,25 @@ use weave_account::laws::requests_of_a_session_rise;
 use weave_data::Name;
 use weave_entries::laws::{begun_and_replied_are_decided, sessions_go_in_turn};
 
-/// Does a step. What is kept of the programs, by request, stays as the logs say. The one error is out of memory.
+/// Does a step. The sessions' values stay as the logs say. The one error is out of memory.
 pub(crate) fn step_in(
     alloc: Global,
     script: &Script,
     machines: &mut Machines,
-    walks: &mut Vec<Option<Walk>>,
     marks: &mut Vec<Option<Name>>,
     step: &Step,
 ) -> Result<StepAnswer, AllocError>
     requires are { AreOf script.now machines.old }
-    requires programs { AreProgramsOf script.now machines.old.state.account walks.old.items marks.old.items }
+    requires programs { AreProgramsOf script.now machines.old.state.account machines.old.values marks.old.items }
     requires there { IsStepOf script.now step.now }
     ensures done { IfOk result (λ answer. MachinesDo script.now step.now machines.old machines.new answer) }
-    ensures refused { OnErr result (machines.new ≡ machines.old) }
-    ensures programs { AreProgramsOf script.now machines.new.state.account walks.new.items marks.new.items }
+    ensures refused { OnErr result (AreSameMachines machines.old machines.new) }
+    ensures programs { AreProgramsOf script.now machines.new.state.account machines.new.values marks.new.items }
 {
     match *step {
-        Step::Begin { request } => begin_with(alloc, script, machines, walks, marks, request),
-        Step::Visit { request } => visit_with(alloc, script, machines, walks, marks, request),
-        Step::Reply { request } => reply_with(alloc, script, machines, walks, marks, request),
+        Step::Begin { request } => begin_with(alloc, script, machines, marks, request),
+        Step::Visit { request } => visit_with(alloc, script, machines, marks, request),
+        Step::Reply { request } => reply_with(alloc, script, machines, marks, request),
         Step::Judge { .. }
         | Step::Send { .. }
         | Step::Say { .. }
@@ -51,7 +55,7 @@ pub(crate) fn step_in(
         | Step::Deliver { .. }
         | Step::Apply { .. }
         | Step::Collect { .. }
-        | Step::Epoch { .. } => other_step(alloc, script, machines, walks, marks, step),
+        | Step::Epoch { .. } => other_step(alloc, script, machines, marks, step),
     }
 }
 
@@ -60,20 +64,20 @@ fn other_step(
     alloc: Global,
     script: &Script,
     machines: &mut Machines,
-    walks: &Vec<Option<Walk>>,
     marks: &Vec<Option<Name>>,
     step: &Step,
 ) -> Result<StepAnswer, AllocError>
     requires are { AreOf script.now machines.old }
-    requires programs { AreProgramsOf script.now machines.old.state.account walks.now.items marks.now.items }
+    requires programs { AreProgramsOf script.now machines.old.state.account machines.old.values marks.now.items }
     requires there { IsStepOf script.now step.now }
     requires other { IsOtherStep step.now }
     ensures done { IfOk result (λ answer. MachinesDo script.now step.now machines.old machines.new answer) }
-    ensures refused { OnErr result (machines.new ≡ machines.old) }
-    ensures programs { AreProgramsOf script.now machines.new.state.account walks.now.items marks.now.items }
+    ensures refused { OnErr result (AreSameMachines machines.old machines.new) }
+    ensures programs { AreProgramsOf script.now machines.new.state.account machines.new.values marks.now.items }
 {
     what_stays();
-    let _ = walks;
+    begun_and_replied_are_decided();
+    sessions_go_in_turn();
     let _ = marks;
     machines.step(alloc, script, step)
 }
@@ -83,22 +87,19 @@ fn begin_with(
     alloc: Global,
     script: &Script,
     machines: &mut Machines,
-    walks: &mut Vec<Option<Walk>>,
     marks: &Vec<Option<Name>>,
     request: u32,
 ) -> Result<StepAnswer, AllocError>
     requires are { AreOf script.now machines.old }
-    requires programs { AreProgramsOf script.now machines.old.state.account walks.old.items marks.now.items }
+    requires programs { AreProgramsOf script.now machines.old.state.account machines.old.values marks.now.items }
     requires there { request < length script.now.requests }
     ensures done { IfOk result (λ answer. MachinesDo script.now (step.Begin request) machines.old machines.new answer) }
-    ensures refused { OnErr result (machines.new ≡ machines.old) }
-    ensures programs { AreProgramsOf script.now machines.new.state.account walks.new.items marks.now.items }
+    ensures refused { OnErr result (AreSameMachines machines.old machines.new) }
+    ensures programs { AreProgramsOf script.now machines.new.state.account machines.new.values marks.now.items }
 {
     match &script.requests.as_slice()[request as usize].work {
-        Work::Change(_) => begin_change(alloc, script, machines, walks, marks, request),
-        Work::Look(program) => {
-            begin_program(alloc, script, machines, walks, marks, request, program)
-        }
+        Work::Change(_) => begin_change(alloc, script, machines, marks, request),
+        Work::Look(program) => begin_program(alloc, script, machines, marks, request, program),
     }
 }
 
@@ -106,20 +107,20 @@ fn begin_change(
     alloc: Global,
     script: &Script,
     machines: &mut Machines,
-    walks: &Vec<Option<Walk>>,
     marks: &Vec<Option<Name>>,
     request: u32,
 ) -> Result<StepAnswer, AllocError>
     requires are { AreOf script.now machines.old }
-    requires programs { AreProgramsOf script.now machines.old.state.account walks.now.items marks.now.items }
+    requires programs { AreProgramsOf script.now machines.old.state.account machines.old.values marks.now.items }
     requires there { request < length script.now.requests }
     requires change { IsChangeAt script.now request }
     ensures done { IfOk result (λ answer. MachinesDo script.now (step.Begin request) machines.old machines.new answer) }
-    ensures refused { OnErr result (machines.new ≡ machines.old) }
-    ensures programs { AreProgramsOf script.now machines.new.state.account walks.now.items marks.now.items }
+    ensures refused { OnErr result (AreSameMachines machines.old machines.new) }
+    ensures programs { AreProgramsOf script.now machines.new.state.account machines.new.values marks.now.items }
 {
     what_stays();
-    let _ = walks;
+    begun_and_replied_are_decided();
+    sessions_go_in_turn();
     let _ = marks;
     machines.begin(alloc, script, request)
 }
@@ -128,18 +129,17 @@ fn begin_program(
     alloc: Global,
     script: &Script,
     machines: &mut Machines,
-    walks: &mut Vec<Option<Walk>>,
     marks: &Vec<Option<Name>>,
     request: u32,
     program: &Program,
 ) -> Result<StepAnswer, AllocError>
     requires are { AreOf script.now machines.old }
-    requires programs { AreProgramsOf script.now machines.old.state.account walks.old.items marks.now.items }
+    requires programs { AreProgramsOf script.now machines.old.state.account machines.old.values marks.now.items }
     requires there { request < length script.now.requests }
     requires look { IsLookAt script.now request program.now }
     ensures done { IfOk result (λ answer. MachinesDo script.now (step.Begin request) machines.old machines.new answer) }
-    ensures refused { OnErr result (machines.new ≡ machines.old) }
-    ensures programs { AreProgramsOf script.now machines.new.state.account walks.new.items marks.now.items }
+    ensures refused { OnErr result (AreSameMachines machines.old machines.new) }
+    ensures programs { AreProgramsOf script.now machines.new.state.account machines.new.values marks.now.items }
 {
     what_stays();
     begun_and_replied_are_decided();
@@ -151,8 +151,9 @@ fn begin_program(
     if !is_done(&answer) {
         return Ok(answer);
     }
-    let stamp = last_stamp(script, machines, request);
-    walks[request as usize] = begun_with(request, stamp, walk);
+    let session = session_of(script, request);
+    let stamp = machines.last(session);
+    machines.put(session, begun_with(request, stamp, walk));
     Ok(answer)
 }
 
@@ -166,75 +167,78 @@ fn is_done(answer: &StepAnswer) -> bool
     }
 }
 
-// The stamp that was begun last in the session of a request.
-fn last_stamp(script: &Script, machines: &Machines, request: u32) -> Option<Stamp>
-    requires there { request < length script.now.requests }
-    requires sessions { length machines.now.state.account.sessions ≡ 64 }
-    requires limits { IsWithinLimits script.now }
-    ensures { (asked : Request) → request_at script.now request ≡ Some asked
-        → result ≡ last_begun machines.now.state.account asked.session }
+// The session of a request.
+fn session_of(script: &Script, request: u32) -> u32
+    requires { request < length script.now.requests }
+    ensures { (asked : Request) → request_at script.now request ≡ Some asked → result ≡ asked.session }
 {
-    let asked = &script.requests.as_slice()[request as usize];
-    machines.last(asked.session)
+    script.requests.as_slice()[request as usize].session
 }
 
-// What is kept of a program that was begun with this stamp by the core itself.
-fn begun_with(request: u32, stamp: Option<Stamp>, walk: AnyProgram) -> Option<Walk>
+// The program that was begun with this stamp by the core itself.
+fn begun_with(request: u32, stamp: Option<Stamp>, walk: AnyProgram) -> Option<Running>
     ensures { result ≡ begun_with request stamp walk }
 {
     match stamp {
         None => None,
-        Some(stamp) => Some(Walk::Running(Walking {
-            author: 0,
-            program: Running {
-                request,
-                stamp,
-                walk,
-            },
-        })),
+        Some(stamp) => Some(Running {
+            request,
+            stamp,
+            walk,
+        }),
     }
 }
 
-// `visit R`, by what is kept of the request.
+// `visit R`, if the request has begun and has no reply: its program, if it is one, is the one that is running in its session.
 fn visit_with(
     alloc: Global,
     script: &Script,
     machines: &mut Machines,
-    walks: &mut Vec<Option<Walk>>,
     marks: &mut Vec<Option<Name>>,
     request: u32,
 ) -> Result<StepAnswer, AllocError>
     requires are { AreOf script.now machines.old }
-    requires programs { AreProgramsOf script.now machines.old.state.account walks.old.items marks.old.items }
+    requires programs { AreProgramsOf script.now machines.old.state.account machines.old.values marks.old.items }
     requires there { request < length script.now.requests }
     ensures done { IfOk result (λ answer. MachinesDo script.now (step.Visit request) machines.old machines.new answer) }
-    ensures refused { OnErr result (machines.new ≡ machines.old) }
-    ensures programs { AreProgramsOf script.now machines.new.state.account walks.new.items marks.new.items }
+    ensures refused { OnErr result (AreSameMachines machines.old machines.new) }
+    ensures programs { AreProgramsOf script.now machines.new.state.account machines.new.values marks.new.items }
 {
     what_stays();
-    let walk = &mut walks[request as usize];
-    visit_kept(alloc, script, machines, walk, marks, request)
+    begun_and_replied_are_decided();
+    requests_of_a_session_rise();
+    sessions_go_in_turn();
+    if !machines.is_open(script, request) {
+        return Ok(StepAnswer::Idle);
+    }
+    let session = session_of(script, request);
+    let mut running = machines.take(session);
+    let answer = visit_taken(alloc, script, machines, &mut running, marks, request);
+    machines.put(session, running);
+    answer
 }
 
-fn visit_kept(
+fn visit_taken(
     alloc: Global,
     script: &Script,
     machines: &mut Machines,
-    walk: &mut Option<Walk>,
+    running: &mut Option<Running>,
     marks: &mut Vec<Option<Name>>,
     request: u32,
 ) -> Result<StepAnswer, AllocError>
     requires are { AreOf script.now machines.old }
-    requires kept { IsKeptIn script.now machines.old.state.account request walk.old }
+    requires runs { ForSome running.old (IsRunningIn script.now machines.old.state.account request) }
+    requires idle { running.old ≡ None → answer_of script.now machines.old.state (step.Visit request) ≡ answer.Idle }
     requires marks { AreMarksOf machines.old.state.account marks.old.items }
     ensures done { IfOk result (λ answer. MachinesDo script.now (step.Visit request) machines.old machines.new answer) }
     ensures refused { OnErr result (machines.new ≡ machines.old) }
-    ensures kept { IsKeptIn script.now machines.new.state.account request walk.new }
+    ensures values { machines.new.values ≡ machines.old.values }
+    ensures runs { ForSome running.new (IsRunningIn script.now machines.new.state.account request) }
+    ensures same { option_map (λ (one : Running). one.stamp) running.new ≡ option_map (λ (one : Running). one.stamp) running.old }
     ensures marks { AreMarksOf machines.new.state.account marks.new.items }
 {
-    match walk {
-        Some(Walk::Running(running)) => machines.visit(alloc, script, request, running, marks),
-        Some(Walk::Finished(_)) => Ok(StepAnswer::Idle),
+    match running {
+        Some(running) => machines.visit(alloc, script, request, running, marks),
         None => Ok(StepAnswer::Idle),
     }
 }
@@ -244,62 +248,65 @@ fn reply_with(
     alloc: Global,
     script: &Script,
     machines: &mut Machines,
-    walks: &mut Vec<Option<Walk>>,
     marks: &Vec<Option<Name>>,
     request: u32,
 ) -> Result<StepAnswer, AllocError>
     requires are { AreOf script.now machines.old }
-    requires programs { AreProgramsOf script.now machines.old.state.account walks.old.items marks.now.items }
+    requires programs { AreProgramsOf script.now machines.old.state.account machines.old.values marks.now.items }
     requires there { request < length script.now.requests }
     ensures done { IfOk result (λ answer. MachinesDo script.now (step.Reply request) machines.old machines.new answer) }
-    ensures refused { OnErr result (machines.new ≡ machines.old) }
-    ensures programs { AreProgramsOf script.now machines.new.state.account walks.new.items marks.now.items }
+    ensures refused { OnErr result (AreSameMachines machines.old machines.new) }
+    ensures programs { AreProgramsOf script.now machines.new.state.account machines.new.values marks.now.items }
 {
     match &script.requests.as_slice()[request as usize].work {
-        Work::Change(_) => reply_to_change(script, machines, walks, marks, request),
-        Work::Look(_) => reply_to_program(alloc, script, machines, walks, marks, request),
+        Work::Change(_) => reply_to_change(alloc, script, machines, marks, request),
+        Work::Look(_) => reply_to_program(alloc, script, machines, marks, request),
     }
 }
 
 fn reply_to_change(
+    alloc: Global,
     script: &Script,
     machines: &mut Machines,
-    walks: &Vec<Option<Walk>>,
     marks: &Vec<Option<Name>>,
     request: u32,
 ) -> Result<StepAnswer, AllocError>
     requires are { AreOf script.now machines.old }
-    requires programs { AreProgramsOf script.now machines.old.state.account walks.now.items marks.now.items }
+    requires programs { AreProgramsOf script.now machines.old.state.account machines.old.values marks.now.items }
     requires there { request < length script.now.requests }
     requires change { IsChangeAt script.now request }
     ensures done { IfOk result (λ answer. MachinesDo script.now (step.Reply request) machines.old machines.new answer) }
-    ensures refused { OnErr result (machines.new ≡ machines.old) }
-    ensures programs { AreProgramsOf script.now machines.new.state.account walks.now.items marks.now.items }
+    ensures refused { OnErr result (AreSameMachines machines.old machines.new) }
+    ensures programs { AreProgramsOf script.now machines.new.state.account machines.new.values marks.now.items }
 {
     what_stays();
-    let _ = walks;
+    begun_and_replied_are_decided();
+    requests_of_a_session_rise();
+    sessions_go_in_turn();
     let _ = marks;
-    machines.reply(script, request)
+    machines.reply(alloc, script, request)
 }
 
 fn reply_to_program(
     alloc: Global,
     script: &Script,
     machines: &mut Machines,
-    walks: &mut Vec<Option<Walk>>,
     marks: &Vec<Option<Name>>,
     request: u32,
 ) -> Result<StepAnswer, AllocError>
     requires are { AreOf script.now machines.old }
-    requires programs { AreProgramsOf script.now machines.old.state.account walks.old.items marks.now.items }
+    requires programs { AreProgramsOf script.now machines.old.state.account machines.old.values marks.now.items }
     requires there { request < length script.now.requests }
     requires look { IsLook script.now request }
     ensures done { IfOk result (λ answer. MachinesDo script.now (step.Reply request) machines.old machines.new answer) }
-    ensures refused { OnErr result (machines.new ≡ machines.old) }
-    ensures programs { AreProgramsOf script.now machines.new.state.account walks.new.items marks.now.items }
+    ensures refused { OnErr result (AreSameMachines machines.old machines.new) }
+    ensures programs { AreProgramsOf script.now machines.new.state.account machines.new.values marks.now.items }
 {
     what_stays();
+    begun_and_replied_are_decided();
+    order_of_reads_is_free();
+    requests_of_a_session_rise();
+    sessions_go_in_turn();
     let _ = marks;
-    let walk = &mut walks[request as usize];
-    machines.finish(alloc, script, request, walk)
+    machines.finish(alloc, script, request)
 }

@@ -53,7 +53,8 @@ returns-in-Ok-clause-begins c =
       stamp_is = c.in-Ok.ensures.stamp ∙ ap (begun_stamp g clock) last;
       small = c.in-Ok.ensures.bits;
       gate = c.in-Ok.ensures.entry;
-      session = after-room was c.reserve.new.self c.begun.new.self s (Begun c.args.request c.in-Ok.stamp) c.reserve.ensures.same c.begun.ensures;
+      session = after-room was c.reserve.new.self c.begun.new.self s (Begun c.args.request c.in-Ok.stamp) c.reserve.ensures.same c.begun.ensures.begun;
+      values = c.begun.ensures.values ∙ c.reserve.ensures.same.values;
       free = c.in-Ok.ensures.busy;
     }
 

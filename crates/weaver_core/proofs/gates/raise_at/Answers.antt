@@ -30,5 +30,6 @@ returns-clause-refused c =
     on_err_map c.epoch.result _ _ (λ (is : c.epoch.new.self ≡ c.reserve.new.self). record {
       log = ap (λ (x : GateView). x.log) is ∙ room.log;
       home = ap (λ (x : GateView). x.home) is ∙ room.home;
+      gates = ap (λ (x : GateView). x.gates) is ∙ room.gates;
       shards = ap (λ (x : GateView). x.shards) is ∙ room.shards;
     }) c.epoch.ensures.refused

@@ -1,32 +1,35 @@
-use Rattle.std.proofs.Common.{◌≡◌, None, refl, sym, subst}
-use Rattle.std.specs.Prelude.{slice_index_or}
+use Rattle.std.proofs.Common.{◌≡◌, ap, subst, sym}
+use Rattle.program_defs.specs.Works.{is_change}
 use Rattle.program_defs.specs.declared.script.Step.TheVariants.{Reply}
 use Rattle.report_rules.specs.declared.report.StepAnswer.{StepAnswer}
-use Rattle.weaver_core.specs.Cores.{MachinesDo, MachinesView}
-use Rattle.weaver_core.specs.Walks.{AreProgramsOf}
-use Rattle.weaver_core.proofs.Results.{either_way}
-use Rattle.weaver_core.proofs.StepStays.{change-kept, kept-in, marks-same, reply-oracle, reply-others, walks-same}
+use Rattle.weaver_core.specs.Cores.{MachinesDo, MachinesView, RepliesToChange}
+use Rattle.weaver_core.specs.Splitting.{AreProgramsOf}
+use Rattle.weaver_core.proofs.AfterSteps.{change-replied}
+use Rattle.weaver_core.proofs.MarksAfter.{marks-same}
+use Rattle.weaver_core.proofs.Results.{either_two}
+use Rattle.weaver_core.proofs.SameMachines.{refused-same}
+use Rattle.weaver_core.proofs.StepStays.{reply-oracle}
 use Rattle.weaver_core.proofs.stepping.reply_to_change.Goals as goal
+
+pub returns-clause-refused : goal.returns-clause-refused
+returns-clause-refused c = refused-same c.reply.result c.args.machines.now c.reply.new.self c.reply.ensures.refused
 
 pub returns-clause-programs : goal.returns-clause-programs
 returns-clause-programs c =
     let script = c.args.script.now in
     let r = c.args.request in
-    let walks = c.args.walks.now.items in
-    let marks = c.args.marks.now.items in
     let old = c.args.machines.now in
     let new = c.reply.new.self in
+    let marks = c.args.marks.now.items in
     let are = c.requires.are in
     let change = c.requires.change in
     let stay = c.what_stays.ensures.stay in
     let core = c.what_stays.ensures.core in
-    let others = reply-others script old.state are.limits are.core.account are.core.sessions r change.request change.request_is in
     let oracle = reply-oracle script old.state are.limits are.core.account are.core.sessions r change.request change.request_is in
-    let has = kept-in script old.state.account walks c.requires.programs.walks_are r change.request change.request_is (slice_index_or walks r None) refl in
-    either_way c.reply.result (MachinesDo script (Reply r) old new) (new ≡ old) (AreProgramsOf script new.state.account walks marks)
-    (λ (a : StepAnswer) did. record {
-      walks_are = walks-same stay core script old new are r change.request change.request_is walks marks c.requires.programs (Reply r) c.requires.there a did others (change-kept script old.state.account new.state.account r change (slice_index_or walks r None) has);
-      marks_are = marks-same stay core script old new are r change.request change.request_is walks marks c.requires.programs (Reply r) c.requires.there a did others oracle;
+    either_two c.reply.result (MachinesDo script (Reply r) old new) (RepliesToChange script r old new) (new ≡ old) (AreProgramsOf script new.state.account new.values marks)
+    (λ (a : StepAnswer) did replies. record {
+      values_are = change-replied stay core script old new are r change.request change.request_is old.values c.requires.programs.values_are a did (ap is_change change.work_is) (replies change.request change.request_is);
+      marks_are = marks-same stay core script old new are (Reply r) c.requires.there a did oracle marks c.requires.programs.marks_are;
     })
-    (λ same. subst (λ (m : MachinesView). AreProgramsOf script m.state.account walks marks) (sym same) c.requires.programs)
-    c.reply.ensures.done c.reply.ensures.refused
+    (λ is. subst (λ (m : MachinesView). AreProgramsOf script m.state.account m.values marks) (sym is) c.requires.programs)
+    c.reply.ensures.done c.reply.ensures.values c.reply.ensures.refused

@@ -1,48 +1,34 @@
-use Rattle.std.proofs.Common.{◌≡◌, None, sym, subst, ◌∙◌, arith}
-use Rattle.std.specs.Prelude.{slice_set}
-use Rattle.std.proofs.lemmas.List.{get_or_default}
+use Rattle.std.proofs.Common.{◌≡◌, refl, subst, sym}
 use Rattle.program_defs.specs.declared.script.Step.TheVariants.{Reply}
 use Rattle.report_rules.specs.declared.report.StepAnswer.{StepAnswer}
 use Rattle.weaver_core.specs.Cores.{MachinesDo, MachinesView}
-use Rattle.weaver_core.specs.Walks.{AreMarksOf, AreWalksOf}
-use Rattle.weaver_core.proofs.Resting.{some-one}
-use Rattle.weaver_core.proofs.Results.{either_way}
-use Rattle.weaver_core.proofs.StepStays.{kept-in, marks-same, reply-oracle, reply-others, walks-now, walks-refused}
+use Rattle.weaver_core.specs.Splitting.{AreProgramsOf, RepliesToProgram}
+use Rattle.weaver_core.proofs.AfterSteps.{program-replied}
+use Rattle.weaver_core.proofs.MarksAfter.{marks-same}
+use Rattle.weaver_core.proofs.Results.{either_two}
+use Rattle.weaver_core.proofs.SameMachines.{refused-same}
+use Rattle.weaver_core.proofs.StepStays.{reply-oracle}
 use Rattle.weaver_core.proofs.stepping.reply_to_program.Goals as goal
 
-pub finish-requires-clause-kept : goal.finish-requires-clause-kept
-finish-requires-clause-kept c =
-    let script = c.args.script.now in
-    let r = c.args.request in
-    let walks = c.args.walks.now.items in
-    let walk = c.index_mut-walk.result.now in
-    let one = some-one script r c.requires.there in
-    let below = c.requires.there in
-    let many = c.requires.programs.walks_are.many in
-    kept-in script c.args.machines.now.state.account walks c.requires.programs.walks_are r one.0 one.1 walk (c.index_mut-walk.ensures.value ∙ get_or_default walks r walk None (omega (arith, below, many)))
+pub returns-clause-refused : goal.returns-clause-refused
+returns-clause-refused c = refused-same c.finish.result c.args.machines.now c.finish.new.self c.finish.ensures.refused
 
 pub returns-clause-programs : goal.returns-clause-programs
 returns-clause-programs c =
     let script = c.args.script.now in
     let r = c.args.request in
-    let walks = c.args.walks.now.items in
-    let marks = c.args.marks.now.items in
     let old = c.args.machines.now in
     let new = c.finish.new.self in
-    let walk = c.finish.new.walk in
+    let marks = c.args.marks.now.items in
     let are = c.requires.are in
-    let one = some-one script r c.requires.there in
+    let look = c.requires.look in
     let stay = c.what_stays.ensures.stay in
     let core = c.what_stays.ensures.core in
-    let others = reply-others script old.state are.limits are.core.account are.core.sessions r one.0 one.1 in
-    let oracle = reply-oracle script old.state are.limits are.core.account are.core.sessions r one.0 one.1 in
-    record {
-      walks_are = either_way c.finish.result (MachinesDo script (Reply r) old new) (new ≡ old) (AreWalksOf script new.state.account (slice_set walks r walk))
-          (λ (a : StepAnswer) did. walks-now stay core script old new are r one.0 one.1 walks marks c.requires.programs (Reply r) c.requires.there a did others walk c.finish.ensures.kept)
-          (λ same. walks-refused stay script old new are r c.requires.there walks c.requires.programs.walks_are same walk c.finish.ensures.kept)
-          c.finish.ensures.done c.finish.ensures.refused;
-      marks_are = either_way c.finish.result (MachinesDo script (Reply r) old new) (new ≡ old) (AreMarksOf new.state.account marks)
-          (λ (a : StepAnswer) did. marks-same stay core script old new are r one.0 one.1 walks marks c.requires.programs (Reply r) c.requires.there a did others oracle)
-          (λ same. subst (λ (m : MachinesView). AreMarksOf m.state.account marks) (sym same) c.requires.programs.marks_are)
-          c.finish.ensures.done c.finish.ensures.refused;
-    }
+    let oracle = reply-oracle script old.state are.limits are.core.account are.core.sessions r look.look.request look.look.request_is in
+    either_two c.finish.result (MachinesDo script (Reply r) old new) (RepliesToProgram script r old new) (new ≡ old) (AreProgramsOf script new.state.account new.values marks)
+    (λ (a : StepAnswer) did replies. record {
+      values_are = program-replied stay core script old new are r look.look.request look.look.request_is old.values c.requires.programs.values_are a did look.program look.look.work_is c.order_of_reads_is_free.ensures.answer refl (replies look.look.request look.look.request_is);
+      marks_are = marks-same stay core script old new are (Reply r) c.requires.there a did oracle marks c.requires.programs.marks_are;
+    })
+    (λ is. subst (λ (m : MachinesView). AreProgramsOf script m.state.account m.values marks) (sym is) c.requires.programs)
+    c.finish.ensures.done c.finish.ensures.values c.finish.ensures.refused

@@ -1,12 +1,7 @@
-use Rattle.std.proofs.Common.{sym, subst}
 use Rattle.weave_entries.specs.declared.session_log.SessionDeed.TheVariants.{Replied}
-use Rattle.weave_entries.specs.SessionReplay.{FitsSession, session_of}
-use Rattle.weaver_core.specs.Clients.{ClientView}
-use Rattle.weaver_core.proofs.AtClients.{client-more}
+use Rattle.weaver_core.proofs.AtClients.{client-adds}
 use Rattle.weaver_core.proofs.client.Client.replied.Goals as goal
 
-pub invariant_of-self : goal.invariant_of-self
-invariant_of-self c =
-    let deed = Replied c.args.request in
-    let turn = subst (λ (v : ClientView). FitsSession (session_of v.requests v.log) deed) (sym c.self.view_is) c.requires.turn in
-    rw (c.replied.ensures, c.push_reserved.ensures.items) (client-more (record { replay = c.a_log_goes_on.ensures.replay; right = c.a_log_goes_on.ensures.right }) c.self.inside.number c.self.inside.session c.self.inside.log.items deed c.self.invariant turn)
+pub returns-clause-replied : goal.returns-clause-replied
+returns-clause-replied c =
+    client-adds (record { replay = c.a_log_goes_on.ensures.replay; right = c.a_log_goes_on.ensures.right }) c.args.number c.args.self.now _ (Replied c.args.reply.request) c.requires.client c.requires.turn c.replied.ensures c.push_reserved.ensures.items

@@ -1,7 +1,7 @@
 use Rattle.std.proofs.Common.{◌≡◌, sym, ap, subst, ◌∙◌}
 use Rattle.std.specs.Prelude.{Contains}
 use Rattle.weave_entries.specs.SessionReplay.{SessionState, session_of}
-use Rattle.weaver_core.specs.Clients.{ClientView, IsInTurn, begun_by_last, standing_of}
+use Rattle.weaver_core.specs.Clients.{IsInTurn, begun_by_last, standing_of}
 use Rattle.weaver_core.specs.declared.client.Standing.TheVariants.{Twice, Early, Next}
 use Rattle.weaver_core.proofs.Turns.{SessionLaws, begun-by-last, place-of, stands-early, stands-next, stands-twice}
 use Rattle.weaver_core.proofs.client.Client.standing.Goals as goal
@@ -11,39 +11,38 @@ use Rattle.weaver_core.proofs.client.Client.standing.Goals as goal
 pub returns-then-has_begun-clause-standing : goal.returns-then-has_begun-clause-standing
 returns-then-has_begun-clause-standing c =
     let laws : SessionLaws = record { begun_first = c.sessions_go_in_turn.ensures.begun; replied_first = c.sessions_go_in_turn.ensures.replied; begun_tested = c.begun_and_replied_are_decided.ensures.begun; replied_tested = c.begun_and_replied_are_decided.ensures.replied } in
-    let session = c.self.inside.session in
-    let log = c.self.inside.log.items in
-    let is = c.self.invariant in
+    let session = c.args.self.now.session in
+    let log = c.args.self.now.log.items in
+    let is = c.requires.client.1 in
     let r = c.args.request in
-    let place = place-of session.requests r (subst (λ (v : ClientView). Contains v.requests r) (sym c.self.view_is) c.requires) in
-    let has = begun-by-last laws c.self.inside.number session.requests log is.right is.rising place.0 r place.1 ∙ ap (begun_by_last r) (sym c.as_slice.ensures.value) ∙ sym c.has_begun.ensures ∙ c.if-has_begun.true in
-    subst (λ (v : ClientView). Twice ≡ standing_of r v.requests v.log) c.self.view_is (stands-twice laws c.self.inside.number session.requests log is.right is.rising place.0 r place.1 has)
+    let place = place-of session.requests r c.requires.among in
+    let has = begun-by-last laws c.requires.client.0 session.requests log is.right is.rising place.0 r place.1 ∙ ap (begun_by_last r) (sym c.as_slice.ensures.value) ∙ sym c.has_begun.ensures ∙ c.if-has_begun.true in
+    (stands-twice laws c.requires.client.0 session.requests log is.right is.rising place.0 r place.1 has)
 
 pub returns-then-is_next-clause-standing : goal.returns-then-is_next-clause-standing
 returns-then-is_next-clause-standing c =
     let laws : SessionLaws = record { begun_first = c.sessions_go_in_turn.ensures.begun; replied_first = c.sessions_go_in_turn.ensures.replied; begun_tested = c.begun_and_replied_are_decided.ensures.begun; replied_tested = c.begun_and_replied_are_decided.ensures.replied } in
-    let session = c.self.inside.session in
-    let log = c.self.inside.log.items in
-    let is = c.self.invariant in
+    let session = c.args.self.now.session in
+    let log = c.args.self.now.log.items in
+    let is = c.requires.client.1 in
     let r = c.args.request in
-    let place = place-of session.requests r (subst (λ (v : ClientView). Contains v.requests r) (sym c.self.view_is) c.requires) in
-    let new = begun-by-last laws c.self.inside.number session.requests log is.right is.rising place.0 r place.1 ∙ ap (begun_by_last r) (sym c.as_slice.ensures.value) ∙ sym c.has_begun.ensures ∙ c.if-has_begun.false in
+    let place = place-of session.requests r c.requires.among in
+    let new = begun-by-last laws c.requires.client.0 session.requests log is.right is.rising place.0 r place.1 ∙ ap (begun_by_last r) (sym c.as_slice.ensures.value) ∙ sym c.has_begun.ensures ∙ c.if-has_begun.false in
     let turn = subst (λ (s : SessionState). IsInTurn s r) is.state (c.is_next.ensures.yes c.if-is_next.true) in
-    subst (λ (v : ClientView). Next ≡ standing_of r v.requests v.log) c.self.view_is (stands-next laws c.self.inside.number session.requests log is.right is.rising place.0 r place.1 new turn)
+    (stands-next laws c.requires.client.0 session.requests log is.right is.rising place.0 r place.1 new turn)
 
 pub returns-then-is_next-clause-next : goal.returns-then-is_next-clause-next
 returns-then-is_next-clause-next c _ =
-    let turn = subst (λ (s : SessionState). IsInTurn s c.args.request) c.self.invariant.state (c.is_next.ensures.yes c.if-is_next.true) in
-    subst (λ (v : ClientView). IsInTurn (session_of v.requests v.log) c.args.request) c.self.view_is turn
+    let turn = subst (λ (s : SessionState). IsInTurn s c.args.request) c.requires.client.1.state (c.is_next.ensures.yes c.if-is_next.true) in
+    turn
 
 pub returns-clause-standing : goal.returns-clause-standing
 returns-clause-standing c =
     let laws : SessionLaws = record { begun_first = c.sessions_go_in_turn.ensures.begun; replied_first = c.sessions_go_in_turn.ensures.replied; begun_tested = c.begun_and_replied_are_decided.ensures.begun; replied_tested = c.begun_and_replied_are_decided.ensures.replied } in
-    let session = c.self.inside.session in
-    let log = c.self.inside.log.items in
-    let is = c.self.invariant in
+    let session = c.args.self.now.session in
+    let log = c.args.self.now.log.items in
+    let is = c.requires.client.1 in
     let r = c.args.request in
-    let place = place-of session.requests r (subst (λ (v : ClientView). Contains v.requests r) (sym c.self.view_is) c.requires) in
-    let new = begun-by-last laws c.self.inside.number session.requests log is.right is.rising place.0 r place.1 ∙ ap (begun_by_last r) (sym c.as_slice.ensures.value) ∙ sym c.has_begun.ensures ∙ c.if-has_begun.false in
-    subst (λ (v : ClientView). Early ≡ standing_of r v.requests v.log) c.self.view_is
-    (stands-early laws c.self.inside.number session.requests log is.right is.rising place.0 r place.1 new (λ turn. c.is_next.ensures.no c.if-is_next.false (subst (λ (s : SessionState). IsInTurn s r) (sym is.state) turn)))
+    let place = place-of session.requests r c.requires.among in
+    let new = begun-by-last laws c.requires.client.0 session.requests log is.right is.rising place.0 r place.1 ∙ ap (begun_by_last r) (sym c.as_slice.ensures.value) ∙ sym c.has_begun.ensures ∙ c.if-has_begun.false in
+    (stands-early laws c.requires.client.0 session.requests log is.right is.rising place.0 r place.1 new (λ turn. c.is_next.ensures.no c.if-is_next.false (subst (λ (s : SessionState). IsInTurn s r) (sym is.state) turn)))

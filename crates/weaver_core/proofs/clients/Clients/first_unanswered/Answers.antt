@@ -1,8 +1,11 @@
 use Rattle.std.proofs.Common.{List, sym, ap, subst, ◌∙◌}
-use Rattle.weaver_core.specs.Clients.{ClientTable, ClientView, IsFirstUnanswered, least_unanswered}
+use Rattle.weaver_core.specs.Clients.{AreNumbered, ClientTable, IsFirstUnanswered, least_unanswered}
 use Rattle.weaver_core.proofs.AtClients.{table_of}
 use Rattle.weaver_core.proofs.Unanswered.{first-of}
 use Rattle.weaver_core.proofs.clients.Clients.first_unanswered.Goals as goal
+
+pub first_unanswered_of-requires : goal.first_unanswered_of-requires
+first_unanswered_of-requires c = subst AreNumbered (sym c.as_slice.ensures.value) c.self.invariant
 
 pub returns : goal.returns
 returns c =

@@ -5,8 +5,17 @@ use Rattle.weaver_core.specs.Clients.{ClientTable, is_open_at, is_open_in, log_o
 use Rattle.weaver_core.proofs.Tables.{image-at, read-at, within-image}
 use Rattle.weaver_core.proofs.clients.Clients.is_open.Goals as goal
 
-pub is_open-requires : goal.is_open-requires
-is_open-requires c =
+pub is_open-requires-clause-client : goal.is_open-requires-clause-client
+is_open-requires-clause-client c =
+    let clients = c.self.inside.clients.items in
+    let s = c.args.session in
+    let client = c.index.result.now in
+    let within = within-image log_of clients s (subst (λ (v : ClientTable). s < length v.logs) (sym c.self.view_is) c.requires.there) in
+    let value : client ≡ get_or clients s client = c.index.ensures in
+    (s, c.self.invariant s client (read-at clients s client within value))
+
+pub is_open-requires-clause-among : goal.is_open-requires-clause-among
+is_open-requires-clause-among c =
     let clients = c.self.inside.clients.items in
     let s = c.args.session in
     let client = c.index.result.now in

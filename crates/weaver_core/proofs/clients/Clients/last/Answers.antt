@@ -1,5 +1,5 @@
 use Rattle.std.proofs.Common.{◌≡◌, ◌<◌, [], length, get_or, sym, ap, subst, ◌∙◌}
-use Rattle.weave_entries.specs.SessionReplay.{session_of}
+use Rattle.weave_entries.specs.SessionReplay.{SessionState, session_of}
 use Rattle.weaver_core.specs.Clients.{ClientTable, log_of, requests_in, session_at}
 use Rattle.weaver_core.proofs.Tables.{image-at, read-at, within-image}
 use Rattle.weaver_core.proofs.clients.Clients.last.Goals as goal
@@ -14,4 +14,4 @@ returns c =
     let at = read-at clients s client within value in
     let requests = image-at requests_in clients s client at [] in
     let log = image-at log_of clients s client at [] in
-    c.last.ensures ∙ sym (λ i. (session_of (requests i) (log i)).last) ∙ ap (λ (v : ClientTable). (session_at v s).last) c.self.view_is
+    c.last.ensures ∙ ap (λ (state : SessionState). state.last) (c.self.invariant s client at).state ∙ sym (λ i. (session_of (requests i) (log i)).last) ∙ ap (λ (v : ClientTable). (session_at v s).last) c.self.view_is

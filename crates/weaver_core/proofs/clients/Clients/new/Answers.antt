@@ -8,3 +8,6 @@ returns-clause-requests c = c.in_ok-clients.ensures.requests
 
 pub returns-clause-logs : goal.returns-clause-logs
 returns-clause-logs c = c.in_ok-clients.ensures.logs
+
+pub returns-clause-values : goal.returns-clause-values
+returns-clause-values c = c.in_ok-clients.ensures.values

@@ -1,7 +1,7 @@
 use Rattle.std.proofs.Common.{◌<◌, ◌≤◌, ℕ, length, sym, subst}
 use Rattle.std.specs.Prelude.{slice_set}
 use Rattle.weaver_core.specs.Clients.{AreSameClients, ClientTable, log_of, spare_of}
-use Rattle.weaver_core.proofs.AtClients.{clients-rest, still-numbered, table_of}
+use Rattle.weaver_core.proofs.AtClients.{clients-rest, numbered-same, table_of}
 use Rattle.weaver_core.proofs.Results.{on_ok_map}
 use Rattle.weaver_core.proofs.Tables.{image-at, read-at, set-here, within-image}
 use Rattle.weaver_core.proofs.clients.Clients.reserve.Goals as goal
@@ -11,20 +11,18 @@ invariant_of-self c =
     let clients = c.self.inside.clients.items in
     let s = c.args.session in
     let before = c.index_mut-client.result.now in
-    let after = c.reserve.new.self in
     let within = within-image log_of clients s (subst (λ (v : ClientTable). s < length v.logs) (sym c.self.view_is) c.requires) in
     let at = read-at clients s before within c.index_mut-client.ensures.value in
-    still-numbered clients s before after within at c.self.invariant c.reserve.ensures.number
+    numbered-same clients s before c.reserve.new.self within at c.self.invariant c.reserve.ensures.same.session c.reserve.ensures.same.log
 
 pub returns-clause-same : goal.returns-clause-same
 returns-clause-same c =
     let clients = c.self.inside.clients.items in
     let s = c.args.session in
     let before = c.index_mut-client.result.now in
-    let after = c.reserve.new.self in
     let within = within-image log_of clients s (subst (λ (v : ClientTable). s < length v.logs) (sym c.self.view_is) c.requires) in
     let at = read-at clients s before within c.index_mut-client.ensures.value in
-    subst (λ (v : ClientTable). AreSameClients v (table_of (slice_set clients s after))) c.self.view_is (clients-rest clients s before after within at c.reserve.ensures.log c.reserve.ensures.requests)
+    subst (λ (v : ClientTable). AreSameClients v (table_of (slice_set clients s c.reserve.new.self))) c.self.view_is (clients-rest clients s before c.reserve.new.self within at c.reserve.ensures.same)
 
 pub returns-clause-room : goal.returns-clause-room
 returns-clause-room c =

@@ -5,8 +5,17 @@ use Rattle.weaver_core.specs.Clients.{ClientTable, IsInTurn, log_of, requests_at
 use Rattle.weaver_core.proofs.Tables.{image-at, read-at, within-image}
 use Rattle.weaver_core.proofs.clients.Clients.standing.Goals as goal
 
-pub standing-requires : goal.standing-requires
-standing-requires c =
+pub standing-requires-clause-client : goal.standing-requires-clause-client
+standing-requires-clause-client c =
+    let clients = c.self.inside.clients.items in
+    let s = c.args.session in
+    let client = c.index.result.now in
+    let within = within-image log_of clients s (subst (λ (v : ClientTable). s < length v.logs) (sym c.self.view_is) c.requires.there) in
+    let value : client ≡ get_or clients s client = c.index.ensures in
+    (s, c.self.invariant s client (read-at clients s client within value))
+
+pub standing-requires-clause-among : goal.standing-requires-clause-among
+standing-requires-clause-among c =
     let clients = c.self.inside.clients.items in
     let s = c.args.session in
     let client = c.index.result.now in

@@ -1,12 +1,12 @@
-use Rattle.std.proofs.Common.{◌≡◌, ◌∙◌, sym, subst}
+use Rattle.std.proofs.Common.{◌≡◌, ◌∙◌, sym, ap, subst}
 use Rattle.program_defs.specs.declared.script.Step.TheVariants.{Begin}
 use Rattle.report_rules.specs.declared.report.StepAnswer.{StepAnswer}
 use Rattle.weaver_core.specs.Beginning.{Begins}
 use Rattle.weaver_core.specs.Clients.{AreSameClients}
 use Rattle.weaver_core.specs.Cores.{MachinesDo, MachinesView, MayDo, machines_of}
-use Rattle.weaver_core.proofs.BeginDone.{BeginLaws, begin-done, ready}
+use Rattle.weaver_core.proofs.BeginDone.{BeginLaws, begin-done, begin-values, ready}
 use Rattle.weaver_core.proofs.Resting.{some-request}
-use Rattle.weaver_core.proofs.Results.{if_ok_map, on_err_both}
+use Rattle.weaver_core.proofs.Results.{either_way, if_ok_map, on_err_both}
 use Rattle.weaver_core.proofs.machines.Machines.begin.Goals as goal
 
 pub begin_in-requires : goal.begin_in-requires
@@ -43,5 +43,19 @@ returns-clause-refused c =
     let m = c.self.inside in
     let is = c.begin_in.new.clients in
     on_err_both c.begin_in.result (c.begin_in.new.gates ≡ m.gates) (AreSameClients m.clients is) _
-    (λ gates same. (λ i. machines_of (gates i) m.store m.oracle m.shards (record { requests = same.requests i; logs = same.logs i; spares = is.spares }) m.notices.items) ∙ c.self.view_is)
+    (λ gates same. (λ i. machines_of (gates i) m.store m.oracle m.shards (record { requests = same.requests i; logs = same.logs i; spares = is.spares; values = same.values i }) m.notices.items) ∙ c.self.view_is)
     c.begin_in.ensures.gates c.begin_in.ensures.clients
+
+pub returns-clause-values : goal.returns-clause-values
+returns-clause-values c =
+    let m = c.self.inside in
+    let script = c.args.script.now in
+    let r = c.args.request in
+    let may = subst (λ (v : MachinesView). MayDo script v (Begin r)) (sym c.self.view_is) c.requires in
+    let new = c.begin_in.new.gates in
+    let is = c.begin_in.new.clients in
+    either_way c.begin_in.result (Begins script m.gates new m.clients is r) (AreSameClients m.clients is) _
+    (λ (a : StepAnswer) did. begin-values script m.gates m.store m.oracle m.shards m.clients m.notices.items may.are r new is a did)
+    (λ same. same.values)
+    c.begin_in.ensures.begins c.begin_in.ensures.clients
+    ∙ ap (λ (v : MachinesView). v.values) c.self.view_is

@@ -3,6 +3,7 @@ use Rattle.program_defs.specs.declared.script.Step.{Step}
 use Rattle.report_rules.specs.declared.report.StepAnswer.{StepAnswer}
 use Rattle.weaver_core.specs.Cores.{IsOfMachines, MachinesDo, MayDo}
 use Rattle.weaver_core.proofs.Results.{if_ok_map}
+use Rattle.weaver_core.specs.Walks.{IsOtherStep}
 use Rattle.weaver_core.proofs.machines.Machines.step.Goals as goal
 
 -- In each arm `c.in-V.is` says which step it is. The names of the arms follow the patterns.
@@ -87,3 +88,38 @@ returns-in-Collect-clause-done c =
 -- a visit is not of the machines alone
 pub unreachable-requires : goal.unreachable-requires
 unreachable-requires c = subst (IsOfMachines c.args.script.now) c.in-Visit.is c.requires.alone
+
+-- The values of the sessions stay.
+
+pub returns-in-Judge-clause-values : goal.returns-in-Judge-clause-values
+returns-in-Judge-clause-values c other = c.judge.ensures.values
+
+pub returns-in-Send-clause-values : goal.returns-in-Send-clause-values
+returns-in-Send-clause-values c other = c.send.ensures.values
+
+pub returns-in-Say-clause-values : goal.returns-in-Say-clause-values
+returns-in-Say-clause-values c other = c.say.ensures.values
+
+pub returns-in-Hear-clause-values : goal.returns-in-Hear-clause-values
+returns-in-Hear-clause-values c other = c.hear.ensures.values
+
+pub returns-in-Epoch-clause-values : goal.returns-in-Epoch-clause-values
+returns-in-Epoch-clause-values c other = c.raise.ensures.values
+
+pub returns-in-Nop-clause-values : goal.returns-in-Nop-clause-values
+returns-in-Nop-clause-values c other = c.nop.ensures.values
+
+pub returns-in-Deliver-clause-values : goal.returns-in-Deliver-clause-values
+returns-in-Deliver-clause-values c other = c.deliver.ensures.values
+
+pub returns-in-Apply-clause-values : goal.returns-in-Apply-clause-values
+returns-in-Apply-clause-values c other = c.apply.ensures.values
+
+pub returns-in-Collect-clause-values : goal.returns-in-Collect-clause-values
+returns-in-Collect-clause-values c other = c.collect.ensures.values
+
+pub returns-in-Begin-clause-values : goal.returns-in-Begin-clause-values
+returns-in-Begin-clause-values c other = c.begin.ensures.values
+
+pub returns-in-Reply-clause-values : goal.returns-in-Reply-clause-values
+returns-in-Reply-clause-values c other = absurd (subst IsOtherStep c.in-Reply.is other)

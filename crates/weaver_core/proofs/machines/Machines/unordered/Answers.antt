@@ -1,14 +1,15 @@
-use Rattle.std.proofs.Common.{List, length, map, sym, ap, subst, ◌∙◌, arith}
+use Rattle.std.proofs.Common.{List, length, sym, ap, subst, ◌∙◌, arith}
+use Rattle.std.specs.Prelude.{slice_get}
 use Rattle.std.specs.List.{range_with_len}
 use Rattle.program_defs.specs.declared.script.Request.{Request}
 use Rattle.report_rules.specs.declared.report.Report.{Report}
 use Rattle.weave_account.specs.Report.{MatchesAccount}
 use Rattle.weaver_core.specs.Cores.{AreOf, MachinesView}
-use Rattle.weaver_core.specs.Reporting.{reply_kept}
-use Rattle.weaver_core.specs.Walks.{AreProgramsOf}
+use Rattle.weaver_core.specs.Reporting.{AreRequestsReplies}
+use Rattle.weaver_core.specs.Splitting.{AreProgramsOf}
 use Rattle.weaver_core.proofs.Results.{if_ok_two}
 use Rattle.weaver_core.proofs.Turns.{SessionLaws}
-use Rattle.weaver_core.proofs.Unordered.{ReportLaws, homes, many, settled-homes, unordered-matches}
+use Rattle.weaver_core.proofs.Unordered.{ReportLaws, homes, many, settled-homes, replies-rise, unordered-matches}
 use Rattle.weaver_core.proofs.machines.Machines.unordered.Goals as goal
 
 -- The laws, the machines and the number of requests are the same in both answers. `c.as_slice` is that of the stamps.
@@ -32,10 +33,15 @@ report_of-requires c =
     let stamps = c.as_slice.result.now in
     let noted = c.as_slice.ensures.value ∙ c.in_ok-stamps.ensures in
     let most = are.limits.few_requests in
-    let kept = subst (λ (v : MachinesView). AreProgramsOf script v.state.account c.args.walks.now c.args.marks.now) (sym c.self.view_is) c.requires.programs in
+    let kept = subst (λ (v : MachinesView). AreProgramsOf script v.state.account v.values c.args.marks.now) (sym c.self.view_is) c.requires.programs in
+    let stay = c.what_stays.ensures.stay in
     record {
       few = omega (arith, most, requests);
-      as_many = kept.walks_are.many ∙ sym requests;
+      sessions = λ r request at.
+          let below = are.limits.sessions r request (ap (λ (all : List Request). slice_get all r) (sym c.as_slice-requests.ensures) ∙ at) in
+          let all = are.core.sessions in
+          omega (arith, below, all);
+      rising = replies-rise laws sessions script m.gates m.store m.oracle m.shards m.clients m.notices.items are (length c.as_slice-requests.result.now) requests stamps noted stay kept.values_are;
       many = many laws sessions script m.gates m.store m.oracle m.shards m.clients m.notices.items are (length c.as_slice-requests.result.now) requests stamps noted ∙ sym requests;
       begun = homes laws sessions script m.gates m.store m.oracle m.shards m.clients m.notices.items are (length c.as_slice-requests.result.now) requests stamps noted;
       settled = settled-homes laws sessions script m.gates m.store m.oracle m.shards m.clients m.notices.items are (length c.as_slice-requests.result.now) requests stamps noted;
@@ -59,9 +65,10 @@ returns-clause-matches c =
     let requests = ap length c.as_slice-requests.ensures in
     let stamps = c.as_slice.result.now in
     let noted = c.as_slice.ensures.value ∙ c.in_ok-stamps.ensures in
-    let kept = subst (λ (v : MachinesView). AreProgramsOf script v.state.account c.args.walks.now c.args.marks.now) (sym c.self.view_is) c.requires.programs in
+    let kept = subst (λ (v : MachinesView). AreProgramsOf script v.state.account v.values c.args.marks.now) (sym c.self.view_is) c.requires.programs in
+    let stay = c.what_stays.ensures.stay in
     if_ok_two c.report_of.result _ _ _
     (λ (report : Report) replies pairs. subst (λ (v : MachinesView). MatchesAccount script v.state.account report) c.self.view_is
-    (unordered-matches laws sessions script m.gates m.store m.oracle m.shards m.clients m.notices.items are (length c.as_slice-requests.result.now) requests stamps noted c.args.walks.now c.args.marks.now kept report
-    (replies ∙ ap (λ (all : List Request). map (reply_kept stamps c.args.walks.now m.store) (range_with_len 0 (length all))) c.as_slice-requests.ensures) pairs))
+    (unordered-matches laws sessions script m.gates m.store m.oracle m.shards m.clients m.notices.items are (length c.as_slice-requests.result.now) requests stamps noted stay c.args.marks.now kept report
+    (subst (λ (all : List Request). AreRequestsReplies m.store m.clients.values stamps all (length all) report.replies) c.as_slice-requests.ensures replies) pairs))
     c.report_of.ensures.replies c.report_of.ensures.pairs

@@ -4,8 +4,7 @@ use Rattle.report_rules.specs.PrintedOrder.{IsPrintedOrder}
 use Rattle.report_rules.specs.declared.report.Report.{Report}
 use Rattle.weave_account.specs.Report.{IsReportOfAccount}
 use Rattle.weaver_core.specs.Cores.{CoreView}
-use Rattle.weaver_core.specs.Walks.{AreProgramsOf}
-use Rattle.weaver_core.specs.declared.walks.Walk.{Walk}
+use Rattle.weaver_core.specs.Splitting.{AreProgramsOf}
 use Rattle.weaver_core.proofs.Results.{if_ok_map, if_ok_three}
 use Rattle.weaver_core.proofs.SameReport.{report-same}
 use Rattle.weaver_core.proofs.stepper.Core.report.Goals as goal
@@ -16,8 +15,7 @@ unordered-requires c =
     let m = c.self.inside in
     record {
       are = c.self.invariant.0;
-      programs = subst (λ (walks : List (Option Walk)). AreProgramsOf m.script m.machines.state.account walks c.as_slice-2.result.now) (sym c.as_slice.ensures.value)
-          (subst (λ (marks : List (Option Name)). AreProgramsOf m.script m.machines.state.account m.walks.items marks) (sym c.as_slice-2.ensures.value) c.self.invariant.1);
+      programs = subst (λ (marks : List (Option Name)). AreProgramsOf m.script m.machines.state.account m.machines.values marks) (sym c.as_slice.ensures.value) c.self.invariant.1;
     }
 
 -- the printed order may be asked for

@@ -1,9 +1,11 @@
 use Rattle.std.proofs.Common.{◌≡◌, ap, refl, subst, sym, ◌∙◌}
 use Rattle.report_rules.specs.declared.report.StepAnswer.{StepAnswer}
 use Rattle.step_rules.specs.IsCore.{IsStepOf}
-use Rattle.weaver_core.specs.Cores.{AreOf, CoreView, Does, MachinesDo, MachinesView}
+use Rattle.step_rules.specs.CoreState.{CoreState}
+use Rattle.weaver_core.specs.Cores.{AreOf, AreSameMachines, CoreView, Does, MachinesDo}
 use Rattle.weaver_core.proofs.CoreDone.{are-after}
 use Rattle.weaver_core.proofs.Results.{either_way, if_ok_map, on_err_map}
+use Rattle.weaver_core.proofs.SameMachines.{are-of-same}
 use Rattle.weaver_core.proofs.stepper.Core.step.Goals as goal
 
 -- `c.args.self.now.script` is the script inside, by the view
@@ -23,9 +25,9 @@ invariant_of-self c =
     let new = c.step_in.new.machines in
     let step = c.args.step.now in
     let there = subst (λ (v : CoreView). IsStepOf v.script step) (sym c.self.view_is) c.requires.there in (
-      either_way c.step_in.result (MachinesDo script step old new) (new ≡ old) (AreOf script new)
+      either_way c.step_in.result (MachinesDo script step old new) (AreSameMachines old new) (AreOf script new)
           (λ (a : StepAnswer) did. are-after script old new step (λ state one. c.steps_keep_the_core.ensures.tried script state one) c.self.invariant.0 there a did)
-          (λ is. subst (λ (m : MachinesView). AreOf script m) (sym is) c.self.invariant.0)
+          (λ same. are-of-same script old new same c.self.invariant.0)
           c.step_in.ensures.done c.step_in.ensures.refused,
       c.step_in.ensures.programs,
     )
@@ -44,4 +46,4 @@ returns-clause-done c =
 pub returns-clause-refused : goal.returns-clause-refused
 returns-clause-refused c =
     let script = c.self.inside.script in
-    on_err_map c.step_in.result (c.step_in.new.machines ≡ c.self.inside.machines) _ (λ is. ap (λ (m : MachinesView). record { script = script; state = m.state }) is ∙ c.self.view_is) c.step_in.ensures.refused
+    on_err_map c.step_in.result (AreSameMachines c.self.inside.machines c.step_in.new.machines) _ (λ same. ap (λ (state : CoreState). record { script = script; state = state }) same.state ∙ c.self.view_is) c.step_in.ensures.refused
