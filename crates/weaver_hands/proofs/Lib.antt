@@ -1,0 +1,11 @@
+mod Sets
+mod OwnReads
+mod OwnEntries
+mod Alone
+mod Calls
+mod Arrived
+mod Running
+mod BegunProgram
+mod OwnVisits
+mod Refusals
+mod SeenReads

@@ -6,9 +6,9 @@ use Rattle.weave_entries.specs.declared.gate_log.GateDeed.TheVariants.{Heard, No
 use Rattle.weave_entries.specs.GateReplay.{clock_of, low_mark, next_number, next_stamp, running_of}
 use Rattle.weaver_locks.specs.declared.hand.Hand.{Hand}
 use Rattle.weaver_locks.specs.GateHolds.{gate_entry_by, WasAtGate}
-use Rattle.weaver_locks.specs.Hands.{made_by}
 use Rattle.weaver_hands.specs.declared.fault.HandFault.{HandFault}
 use Rattle.weaver_hands.specs.declared.fault.HandFault.TheVariants.{Busy, NotYet, Empty, Waits, Memory}
+use Rattle.weaver_hands.specs.Leaving.{MadeNone}
 use Rattle.weaver_hands.specs.Transactions.{FoundBusy}
 
 -- The gatekeeper `from` said its clock in one hold, and `to` heard it in a second.
@@ -24,7 +24,7 @@ pub record Tells (shards : ℕ) (old new : Hand) (from to : ℕ) : Type 0 where
 -- what `say_and_hear` answers
 abbrev pub TellsAs : ℕ → Hand → Hand → ℕ → ℕ → Result (Unit {0}) HandFault → Type 0
 TellsAs shards old new from to (Ok done) = Tells shards old new from to
-TellsAs shards old new from to (Err Memory) = made_by new ≡ made_by old
+TellsAs shards old new from to (Err Memory) = MadeNone old new
 TellsAs shards old new from to (Err Busy) = ⊥
 TellsAs shards old new from to (Err (NotYet shard at)) = ⊥
 TellsAs shards old new from to (Err Empty) = ⊥
@@ -41,7 +41,7 @@ pub record SendsNop (shards : ℕ) (old new : Hand) (gate shard : ℕ) : Type 0 
 abbrev pub NopsAs : ℕ → Hand → Hand → ℕ → ℕ → Result (Unit {0}) HandFault → Type 0
 NopsAs shards old new gate shard (Ok done) = SendsNop shards old new gate shard
 NopsAs shards old new gate shard (Err Busy) = FoundBusy shards old new gate
-NopsAs shards old new gate shard (Err Memory) = made_by new ≡ made_by old
+NopsAs shards old new gate shard (Err Memory) = MadeNone old new
 NopsAs shards old new gate shard (Err (NotYet other at)) = ⊥
 NopsAs shards old new gate shard (Err Empty) = ⊥
 NopsAs shards old new gate shard (Err (Waits vertex)) = ⊥

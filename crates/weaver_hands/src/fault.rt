@@ -1,8 +1,9 @@
 //! Why a hand's call is refused.
 ghost use Rattle.std.specs.Prelude.{◌≡◌};
-ghost use Rattle.weaver_hands.specs.Faults.{gate_fault};
+ghost use Rattle.weaver_hands.specs.Faults.{apply_fault, gate_fault, visit_fault};
 
 use gatekeeper::GateFault;
+use shard_node::{ApplyFault, VisitFault};
 use std::alloc::AllocError;
 use weave_data::Name;
 
@@ -39,5 +40,34 @@ pub(crate) fn of_gate(fault: GateFault) -> HandFault
     match fault {
         GateFault::Busy => HandFault::Busy,
         GateFault::Idle | GateFault::Old | GateFault::Memory => HandFault::Memory,
+    }
+}
+
+/// A gatekeeper's refusal of what is not refused there unless it is out of memory.
+pub(crate) fn out_of_memory(fault: GateFault) -> HandFault
+    requires { fault ≡ GateFault.Memory }
+    ensures { result ≡ HandFault.Memory }
+{
+    of_gate(fault)
+}
+
+/// A shard's refusal to process a head.
+pub(crate) fn of_shard(fault: &ApplyFault) -> HandFault
+    ensures { result ≡ apply_fault fault.now }
+{
+    match fault {
+        ApplyFault::Empty => HandFault::Empty,
+        ApplyFault::Waits { vertex } => HandFault::Waits { vertex: *vertex },
+        ApplyFault::Memory => HandFault::Memory,
+    }
+}
+
+/// A shard's refusal to read a vertex.
+pub(crate) fn of_visit(shard: u32, fault: VisitFault) -> HandFault
+    ensures { result ≡ visit_fault shard fault }
+{
+    match fault {
+        VisitFault::Again { gate } => HandFault::NotYet { shard, gate },
+        VisitFault::Memory => HandFault::Memory,
     }
 }

@@ -5,6 +5,7 @@ ghost use Rattle.weaver_locks.specs.Locks.{gate_count, shard_count};
 ghost use Rattle.weaver_hands.specs.Telling.{NopsAs, TellsAs};
 
 use crate::fault::{HandFault, of_gate};
+use seen_logs::laws::more_is_seen;
 use std::alloc::Global;
 use std::sync::Wait;
 use weaver_locks::{Hand, Shared};
@@ -24,6 +25,7 @@ pub fn say_and_hear<R: Wait>(
     ensures hand { IsHand shared.now hand.new }
     ensures told { TellsAs (shard_count shared.now) hand.old hand.new from to result }
 {
+    more_is_seen();
     let clock = shared.say(rt, hand, from);
     shared.hear(rt, alloc, hand, to, &clock)?;
     Ok(())

@@ -6,7 +6,7 @@ ghost use Rattle.weaver_locks.specs.Hands.{IsHand};
 ghost use Rattle.weaver_locks.specs.Locks.{gate_count, shard_count};
 ghost use Rattle.weaver_hands.specs.Transactions.{TransactsAs};
 
-use crate::fault::{HandFault, of_gate};
+use crate::fault::{HandFault, of_gate, out_of_memory};
 use graph_ops::Op;
 use std::alloc::Global;
 use std::sync::Wait;
@@ -43,6 +43,6 @@ pub fn transact<R: Wait>(
     let verdict = shared.commit(rt, alloc, hand, request, stamp, ops)?;
     match shared.send(rt, alloc, hand, gate, ops, &verdict) {
         Ok(()) => Ok((stamp, verdict)),
-        Err(_) => Err(HandFault::Memory),
+        Err(fault) => Err(out_of_memory(fault)),
     }
 }

@@ -1,5 +1,10 @@
-use Rattle.std.proofs.Common.{◌≡◌, false, Option, Some, None, refl}
+use Rattle.std.proofs.Common.{◌≡◌, false, Option, Some, None, Err, inl, inr, refl, sym, ap, subst, ◌∙◌}
 use Rattle.std.specs.Prelude.{is_some}
+use Rattle.std.proofs.lemmas.Result.{err_from_is_err_and}
+use Rattle.weaver_locks.specs.Locks.{shard_count}
+use Rattle.weaver_hands.specs.Transactions.{TransactsAs}
+use Rattle.weaver_hands.proofs.Refusals.{memory-left}
+use Rattle.weaver_hands.proofs.Alone.{none-at-gate, none-at-store}
 use Rattle.weaver_hands.proofs.transacting.transact.Goals as goal
 
 -- what isn't there is none
@@ -44,7 +49,49 @@ returns-in-Ok-send-clause-done g c =
       stamp_is = hold.2;
       not_busy = none-there _ hold.3;
       after_last = c.in-Ok.ensures.after;
+      hears_no_more = hold.4;
+      bits = c.in-Ok.ensures.bits;
       judges = c.in_ok-verdict.ensures.hold;
       flying = sent.0;
       sends = sent.1;
     }
+
+pub returns-in_err-verdict-clause-done : goal.returns-in_err-verdict-clause-done
+returns-in_err-verdict-clause-done g c =
+    let begun = c.begin_tx.new.hand in
+    let new = c.commit.new.hand in
+    let hold = c.in-Ok.ensures.hold in
+    let judges = c.in_err-verdict.ensures.hold in
+    let p = err_from_is_err_and c.from_residual.result c.from_residual.ensures.1 in
+    subst (TransactsAs (shard_count c.args.shared.now) c.args.hand.now new c.args.gate c.args.request c.args.ops.now c.args.last) (sym (p.1 ∙ ap Err p.2))
+    (inr (inl (record {
+      begun = begun;
+      stamp = c.in-Ok.stamp;
+      before = hold.0;
+      begins = hold.1;
+      stamp_is = hold.2;
+      stops = none-at-store begun new judges.before judges.settled judges.was;
+    })))
+
+pub out_of_memory-requires : goal.out_of_memory-requires
+out_of_memory-requires g c = memory-left (Unit {0}) c.in-Err-send.fault false refl c.in-Err-send.ensures.hold.1.never_idle
+
+pub returns-in-Err-send-clause-done : goal.returns-in-Err-send-clause-done
+returns-in-Err-send-clause-done g c =
+    let judged = c.commit.new.hand in
+    let new = c.send.new.hand in
+    let hold = c.in-Ok.ensures.hold in
+    let sent = c.in-Err-send.ensures.hold in
+    subst (λ fault. TransactsAs (shard_count c.args.shared.now) c.args.hand.now new c.args.gate c.args.request c.args.ops.now c.args.last (Err fault))
+    (sym c.out_of_memory.ensures)
+    (inr (inr (record {
+      begun = c.begin_tx.new.hand;
+      judged = judged;
+      stamp = c.in-Ok.stamp;
+      before = hold.0;
+      begins = hold.1;
+      stamp_is = hold.2;
+      verdict = c.in_ok-verdict.verdict;
+      judges = c.in_ok-verdict.ensures.hold;
+      stops = none-at-gate judged new c.args.gate sent.0 sent.1.was;
+    })))

@@ -1,0 +1,189 @@
+-- What a hand made at gatekeepers, and what it has not made.
+use Rattle.std.proofs.Common.{◌≡◌, ◌≢◌, ◌⊎◌, ℕ, ◌<◌, ◌≤◌, ◌==◌, zero, suc, List, [], ◌∷◌, ◌++◌, length, map, get_or, set, Contains, inl, inr, refl, sym, ap, ◌∙◌, subst, arith, eq-eqb}
+use Rattle.std.specs.Prelude.{Result, Ok, Err}
+use Rattle.std.proofs.lemmas.Bool.{cases_lt}
+use Rattle.std.proofs.lemmas.List.{get_or_past, get_or-map, length-map}
+use Rattle.std.proofs.lemmas.List.Elements.{Contains-append_cases}
+use Rattle.proof_base.proofs.Members.{flat_has, has_filter, has_flat, has_map, has_none, map_has, only}
+use Rattle.weave_entries.specs.declared.gate_log.GateDeed.{GateDeed}
+use Rattle.weave_entries.specs.declared.gate_log.GateDeed.TheVariants.{BeganTx, BeganProgram, Sent, Nop, Heard, Finished}
+use Rattle.weave_entries.specs.declared.gate_log.GateEntry.{GateEntry}
+use Rattle.weave_entries.specs.GateReplay.{Begun, begun_by}
+use Rattle.weave_account.specs.declared.account.Account.{Account}
+use Rattle.weave_account.specs.Account.{gate_log}
+use Rattle.seen_logs.specs.Entries.{gate_entries, gate_entry}
+use Rattle.chronicle.specs.declared.pass.Pass.{Pass}
+use Rattle.chronicle.specs.Passes.{number_of, own, seen}
+use Rattle.lock_row.proofs.Lists.{one_of}
+use Rattle.weaver_locks.specs.declared.hand.Hand.{Hand}
+use Rattle.weaver_locks.specs.declared.shared.Shared.{Shared}
+use Rattle.weaver_locks.specs.Following.{HasNotBegun}
+use Rattle.weaver_locks.specs.GateHolds.{gate_entries_of, gate_entry_by}
+use Rattle.weaver_locks.specs.Hands.{hand_number, made_by, seen_by, with_gate_entries, IsHand}
+use Rattle.locks_rows.specs.Going.{WorkersLaws}
+use Rattle.locks_rows.specs.Workers.{HasNotFinished, MadeBut}
+
+-- an entry with the hand's number that was seen at a gatekeeper is one that the hand made
+pub made-gate : WorkersLaws → (shared : Shared) (hand : Hand) → IsHand shared hand → (home : ℕ) (entry : GateEntry)
+    → Contains (gate_log (seen_by hand) home) entry → entry.author ≡ hand_number hand → Contains (gate_log (made_by hand) home) entry
+made-gate laws shared hand is home entry there author_is =
+    let gates = hand.gates.items in
+    let seen_at = laws.at_gate (map seen gates) (seen hand.store) (seen hand.oracle) (map seen hand.shards.items) home in
+    let made_at = laws.at_gate (map own gates) (own hand.store) (own hand.oracle) (map own hand.shards.items) home in
+    elim (cases_lt home (length gates)) [
+      | inl low ↦
+          let p : Pass GateDeed = get_or gates home (one_of gates home low) in
+          let a : get_or (map seen gates) home [] ≡ seen p = get_or-map seen gates home (one_of gates home low) [] low in
+          let b : get_or (map own gates) home [] ≡ own p = get_or-map own gates home (one_of gates home low) [] low in
+          let number : number_of p ≡ hand_number hand = is.gate_numbers home (one_of gates home low) low in
+          let pair = map_has gate_entry (seen p) entry (subst (λ l. Contains l entry) (seen_at ∙ ap gate_entries a) there) in
+          let mine : (pair.0).0 ≡ number_of p = ap (λ (e : GateEntry). e.author) pair.2 ∙ author_is ∙ sym number in
+          let kept = has_filter (λ e. e.0 == number_of p) (seen p) pair.0 pair.1 (eq-eqb (pair.0).0 (number_of p) mine) in
+          let here = subst (Contains (gate_entries (own p))) pair.2 (has_map gate_entry (own p) pair.0 kept) in
+          subst (λ l. Contains l entry) (sym (made_at ∙ ap gate_entries b)) here
+      | inr past ↦
+          let a : get_or (map seen gates) home [] ≡ [] = get_or_past (map seen gates) home [] (omega (arith, length-map gates seen, past)) in
+          absurd (has_none entry (subst (λ l. Contains l entry) (seen_at ∙ ap gate_entries a) there))
+    ]
+
+-- what is in a changed list at a place was there, or was put there
+set-has : {A : Type 0} (xss : List (List A)) (place k : ℕ) (ys : List A) (x : A) → Contains (get_or (set xss place ys) k []) x
+    → Contains (get_or xss k []) x ⊎ Contains ys x
+set-has [] place k ys x h = inl h
+set-has (xs ∷ xss) zero zero ys x h = inr h
+set-has (xs ∷ xss) zero (suc k) ys x h = inl h
+set-has (xs ∷ xss) (suc place) zero ys x h = inl h
+set-has (xs ∷ xss) (suc place) (suc k) ys x h = set-has xss place k ys x h
+
+set-more : {A : Type 0} (xss : List (List A)) (place k : ℕ) (ys : List A) (x : A)
+    → Contains (get_or (set xss place (get_or xss place [] ++ ys)) k []) x → Contains (get_or xss k []) x ⊎ Contains ys x
+set-more [] place k ys x h = inl h
+set-more (xs ∷ xss) zero zero ys x h = Contains-append_cases xs ys x h
+set-more (xs ∷ xss) zero (suc k) ys x h = inl h
+set-more (xs ∷ xss) (suc place) zero ys x h = inl h
+set-more (xs ∷ xss) (suc place) (suc k) ys x h = set-more xss place k ys x h
+
+-- in a hold of a gatekeeper, and in one of another lock
+pub made-there : (old new : Hand) (gate : ℕ) (added : List GateEntry) → made_by new ≡ with_gate_entries gate added (made_by old) → MadeBut old new added
+made-there old new gate added made home entry h =
+    set-more (made_by old).gates gate home added entry (subst (λ (a : Account). Contains (gate_log a home) entry) made h)
+
+pub made-elsewhere : (old new : Hand) → (made_by new).gates ≡ (made_by old).gates → MadeBut old new []
+made-elsewhere old new made home entry h =
+    inl (subst (λ (ls : List (List GateEntry)). Contains (get_or ls home []) entry) made h)
+
+-- Entries that begin and finish nothing
+
+abbrev finishes : GateDeed → ℕ
+finishes (Finished r) = 1
+finishes _ = 0
+
+pub record IsQuiet (deed : GateDeed) : Type 0 where
+  pub begins_none : (author : ℕ) → begun_by author deed ≡ []
+  pub finishes_none : (r : ℕ) → deed ≢ Finished r
+
+abbrev pub Quiet : List GateEntry → Type 0
+Quiet added = (entry : GateEntry) → Contains added entry → IsQuiet entry.deed
+
+not-finished : (deed : GateDeed) → finishes deed ≡ 0 → (r : ℕ) → deed ≢ Finished r
+not-finished deed none r same =
+    let one : finishes deed ≡ 1 = ap finishes same in
+    omega (arith, one, none)
+
+pub sent-quiet : (r : ℕ) (messages : _) → IsQuiet (Sent r messages)
+sent-quiet r messages = record { begins_none = λ author. refl; finishes_none = not-finished (Sent r messages) refl }
+
+pub nop-quiet : (shard number : ℕ) (stamp : _) (low : _) → IsQuiet (Nop shard number stamp low)
+nop-quiet shard number stamp low = record {
+  begins_none = λ author. refl;
+  finishes_none = not-finished (Nop shard number stamp low) refl;
+}
+
+pub heard-quiet : (clock : _) → IsQuiet (Heard clock)
+heard-quiet clock = record { begins_none = λ author. refl; finishes_none = not-finished (Heard clock) refl }
+
+pub none-quiet : Quiet []
+none-quiet entry h = absurd (has_none entry h)
+
+pub call-quiet : {A F : Type 0} (hand : Hand) (deed : A → GateDeed) (result : Result A F) → ((answer : A) → IsQuiet (deed answer))
+    → Quiet (gate_entries_of hand deed result)
+call-quiet hand deed (Ok answer) quiet entry h =
+    subst (λ (e : GateEntry). IsQuiet e.deed) (only (gate_entry_by hand (deed answer)) entry h) (quiet answer)
+call-quiet hand deed (Err fault) quiet entry h = absurd (has_none entry h)
+
+-- What was not begun
+
+abbrev pub BeginBelow : ℕ → List GateEntry → Type 0
+BeginBelow next added = (entry : GateEntry) (begun : Begun) → Contains added entry
+    → Contains (begun_by entry.author entry.deed) begun → begun.request < next
+
+pub quiet-below : (next : ℕ) (added : List GateEntry) → Quiet added → BeginBelow next added
+quiet-below next added quiet entry begun h there =
+    absurd (has_none begun (subst (λ (l : List Begun). Contains l begun) ((quiet entry h).begins_none entry.author) there))
+
+pub still-new : (old new : Hand) (added : List GateEntry) → MadeBut old new added → (before next : ℕ) → before ≤ next → BeginBelow next added
+    → ((r : ℕ) → before ≤ r → HasNotBegun old r) → (r : ℕ) → next ≤ r → HasNotBegun new r
+still-new old new added made before next more below fresh r low home begun h =
+    let by = flat_has (λ (e : GateEntry). begun_by e.author e.deed) (gate_log (made_by new) home) begun h in
+    elim (made home by.0 by.1) [
+      | inl there ↦ fresh r (omega (arith, more, low)) home begun
+          (has_flat (λ (e : GateEntry). begun_by e.author e.deed) (gate_log (made_by old) home) by.0 begun there by.2)
+      | inr one ↦ (λ same. let less = below by.0 begun one by.2 in omega (arith, less, low, same))
+    ]
+
+pub tx-below : (hand : Hand) (r : ℕ) (stamp : _) → BeginBelow (suc r) (gate_entry_by hand (BeganTx r stamp) ∷ [])
+tx-below hand r stamp entry begun h there =
+    let here = subst (λ (e : GateEntry). Contains (begun_by e.author e.deed) begun) (sym (only (gate_entry_by hand (BeganTx r stamp)) entry h)) there in
+    let one = only (record { author = hand_number hand; request = r; stamp = stamp }) begun here in
+    let same : r ≡ begun.request = ap (λ (b : Begun). b.request) one in
+    omega (arith, same)
+
+pub program-below : (hand : Hand) (r : ℕ) (stamp : _) → BeginBelow (suc r) (gate_entry_by hand (BeganProgram r stamp) ∷ [])
+program-below hand r stamp entry begun h there =
+    let here = subst (λ (e : GateEntry). Contains (begun_by e.author e.deed) begun) (sym (only (gate_entry_by hand (BeganProgram r stamp)) entry h)) there in
+    let one = only (record { author = hand_number hand; request = r; stamp = stamp }) begun here in
+    let same : r ≡ begun.request = ap (λ (b : Begun). b.request) one in
+    omega (arith, same)
+
+-- one entry that is no finish
+pub one-unfinished : (hand : Hand) (deed : GateDeed) → finishes deed ≡ 0 → (r : ℕ) (entry : GateEntry)
+    → Contains (gate_entry_by hand deed ∷ []) entry → entry.deed ≢ Finished r
+one-unfinished hand deed none r entry h same =
+    not-finished deed none r (ap (λ (e : GateEntry). e.deed) (only (gate_entry_by hand deed) entry h) ∙ same)
+
+-- a finish begins nothing
+pub finish-below : {A F : Type 0} (hand : Hand) (r next : ℕ) (result : Result A F)
+    → BeginBelow next (gate_entries_of hand (λ (answer : A). Finished r) result)
+finish-below hand r next (Ok answer) entry begun h there =
+    absurd (has_none begun (subst (λ (e : GateEntry). Contains (begun_by e.author e.deed) begun) (sym (only (gate_entry_by hand (Finished r)) entry h)) there))
+finish-below hand r next (Err fault) entry begun h there = absurd (has_none entry h)
+
+-- What was not finished
+
+abbrev pub FinishBelow : ℕ → List GateEntry → Type 0
+FinishBelow next added = (entry : GateEntry) → Contains added entry → (r : ℕ) → next ≤ r → entry.deed ≢ Finished r
+
+pub quiet-unfinished : (next : ℕ) (added : List GateEntry) → Quiet added → FinishBelow next added
+quiet-unfinished next added quiet entry h r low = (quiet entry h).finishes_none r
+
+pub begins-unfinished : (hand : Hand) (deed : GateDeed) → finishes deed ≡ 0 → (next : ℕ) → FinishBelow next (gate_entry_by hand deed ∷ [])
+begins-unfinished hand deed none next entry h r low = one-unfinished hand deed none r entry h
+
+abbrev finished-by : GateDeed → ℕ
+finished-by (Finished r) = r
+finished-by _ = 0
+
+pub finish-unfinished : {A F : Type 0} (hand : Hand) (r next : ℕ) (result : Result A F) → r < next
+    → FinishBelow next (gate_entries_of hand (λ (answer : A). Finished r) result)
+finish-unfinished hand r next (Ok answer) below entry h other low same =
+    let one : r ≡ other = ap finished-by (ap (λ (e : GateEntry). e.deed) (only (gate_entry_by hand (Finished r)) entry h) ∙ same) in
+    omega (arith, one, below, low)
+finish-unfinished hand r next (Err fault) below entry h other low same = absurd (has_none entry h)
+
+pub still-unfinished : (old new : Hand) (added : List GateEntry) → MadeBut old new added → (before next : ℕ) → before ≤ next
+    → FinishBelow next added → ((r : ℕ) → before ≤ r → HasNotFinished old r) → (r : ℕ) → next ≤ r → HasNotFinished new r
+still-unfinished old new added made before next more below fresh r low home entry h =
+    elim (made home entry h) [
+      | inl there ↦ fresh r (omega (arith, more, low)) home entry there
+      | inr one ↦ below entry one r low
+    ]

@@ -1,0 +1,3 @@
+mod Carried
+pub mod Called
+pub mod There

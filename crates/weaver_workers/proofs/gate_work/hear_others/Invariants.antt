@@ -1,0 +1,8 @@
+use Rattle.weaver_workers.specs.Carrying.{CarriesAtGate, HasHeardBelow}
+use Rattle.weaver_workers.proofs.gate_work.hear_others.Given as goal
+
+abbrev pub invariant-loop-other : goal.invariant-loop-other
+invariant-loop-other g l = record {
+  there : CarriesAtGate l.fn.shared l.fn.gate l.fn.hand l.hand;
+  heard : HasHeardBelow l.other l.fn.gate l.fn.hand l.hand;
+}
