@@ -1,7 +1,9 @@
-//! The tests of a core, each public call once, and of driving it from hard places. There is nothing but tests here.
+//! The tests of a core, each public call once, of driving it from hard places, and of taking it apart and joining it. There is nothing but tests here.
 #![tactic(auto)]
 
 #[cfg(test)]
 mod core_tests;
 #[cfg(test)]
 mod drive_tests;
+#[cfg(test)]
+mod join_tests;

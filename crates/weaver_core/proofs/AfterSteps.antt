@@ -1,10 +1,8 @@
 -- The values of the sessions after what the machines did at a step of a request.
-use Rattle.std.proofs.Common.{◌≡◌, ◌≢◌, ℕ, ◌<◌, Bool, true, false, List, [], ◌∷◌, ◌++◌, length, Option, None, Some, inl, inr, refl, sym, ap, subst, ◌∙◌, arith}
+use Rattle.std.proofs.Common.{◌≡◌, ◌≢◌, ℕ, ◌<◌, Bool, true, false, List, [], ◌∷◌, ◌++◌, length, Some, inl, inr, refl, sym, ap, subst, ◌∙◌}
 use Rattle.std.specs.Prelude.{◌&&◌, ◌||◌, not, slice_index_or, if◌then◌else◌}
 use Rattle.std.proofs.lemmas.Bool.{cases_Bool}
 use Rattle.std.proofs.lemmas.Option.{same_Some}
-use Rattle.std.proofs.lemmas.List.{get_or-set_same}
-use Rattle.vector_stamp.specs.declared.clock.Stamp.{Stamp}
 use Rattle.weave_data.specs.declared.name.Name.{Name}
 use Rattle.graph_ops.specs.Operations.{State}
 use Rattle.program_defs.specs.Agreement.{AreSameReads}
@@ -17,8 +15,7 @@ use Rattle.program_defs.specs.declared.script.Request.{Request}
 use Rattle.program_defs.specs.declared.script.Script.{Script}
 use Rattle.program_defs.specs.declared.script.Step.{Step}
 use Rattle.program_defs.specs.declared.script.Step.TheVariants.{Begin, Visit, Reply}
-use Rattle.program_defs.specs.declared.script.Work.{Work}
-use Rattle.program_defs.specs.declared.script.Work.TheVariants.{Change, Look}
+use Rattle.program_defs.specs.declared.script.Work.TheVariants.{Look}
 use Rattle.report_rules.specs.Lookups.{request_at}
 use Rattle.report_rules.specs.declared.report.StepAnswer.{StepAnswer}
 use Rattle.report_rules.specs.declared.report.StepAnswer.TheVariants as answer
@@ -30,12 +27,11 @@ use Rattle.weave_account.specs.GoesOn.{GoesOn}
 use Rattle.weave_account.specs.IsAccount.{IsAccount}
 use Rattle.step_rules.specs.Answers.{answer_of, answer_of_reply, for_request}
 use Rattle.step_rules.specs.CoreState.{CoreState}
-use Rattle.step_rules.specs.Entries.{after_begin, after_reply, after_visit, at_request, stamp_to_begin, state_with}
-use Rattle.step_rules.specs.IsCore.{IsStepOf}
+use Rattle.step_rules.specs.Entries.{after_begin, after_reply, at_request, stamp_to_begin, state_with}
 use Rattle.step_rules.specs.Requests.{has_begun, has_reply, is_answered, last_begun}
 use Rattle.step_rules.specs.Trace.{is_ok, state_after}
-use Rattle.weaver_core.specs.Clients.{SessionValues, is_open_in, no_values, values_at, with_reply, with_reply_at, with_running}
-use Rattle.weaver_core.specs.Cores.{AreOf, MachinesDo, MachinesView, values_after_reply}
+use Rattle.weaver_core.specs.Clients.{SessionValues, is_open_in, values_at, with_reply_at, with_running}
+use Rattle.weaver_core.specs.Cores.{AreOf, MachinesDo, MachinesView}
 use Rattle.weaver_core.specs.Replying.{reply_of_change}
 use Rattle.weaver_core.specs.Splitting.{AreAllByLog, FinishesProgram, ValuesAfterFinish}
 use Rattle.weaver_core.specs.Staying.{CoreLaws, StayLaws}

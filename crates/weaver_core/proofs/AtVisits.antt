@@ -1,8 +1,8 @@
 -- A visit at one of the shards of a core, and in the oracle's log.
-use Rattle.std.proofs.Common.{◌≡◌, ◌⊎◌, ℕ, zero, suc, ◌+◌, ◌-◌, ◌<◌, ◌≤◌, Bool, true, false, not, List, [], ◌∷◌, ◌++◌, length, map, take, replicate, append_assoc, length-append, arith, Option, None, Some, Result, Ok, Err, IfOk, OnOk, inl, inr, refl, sym, ap, subst, ◌∙◌}
+use Rattle.std.proofs.Common.{◌≡◌, ◌⊎◌, ℕ, zero, suc, ◌<◌, Bool, true, false, not, List, [], ◌∷◌, ◌++◌, length, map, take, None, Some, Result, Ok, Err, IfOk, OnOk, inl, inr, refl, sym, ap, subst, ◌∙◌}
 use Rattle.std.specs.Prelude.{◌||◌, slice_get, slice_set, if◌then◌else◌}
 use Rattle.std.specs.List.{list_any}
-use Rattle.std.proofs.lemmas.List.{map-append, replicate-append-replicate}
+use Rattle.std.proofs.lemmas.List.{map-append}
 use Rattle.weave_data.specs.declared.name.Name.{Name}
 use Rattle.vector_stamp.specs.declared.clock.Stamp.{Stamp}
 use Rattle.vector_stamp.specs.Precedence.{Given, precedes}
@@ -20,7 +20,7 @@ use Rattle.weave_entries.specs.StoreRule.{entries_of_settling}
 use Rattle.shard_node.specs.Shards.{AddsEntry, ShardView}
 use Rattle.step_rules.specs.Entries.{made_entry}
 use Rattle.weaver_core.specs.ShardTable.{AddsAt}
-use Rattle.weaver_core.specs.Visiting.{IsVisited, Reads, entries_asked, marked_at, marked_if, state_seen, updates_seen}
+use Rattle.weaver_core.specs.Visiting.{IsVisited, Reads, entries_asked, state_seen, updates_seen}
 use Rattle.weaver_core.proofs.AtShards.{adds-at, log-is, table_of}
 
 pub if_ok_on_three : {A E : Type 0} (result : Result A E) (P Q R : Type 0) (S T : A → Type 0) → ((a : A) → P → Q → R → S a → T a) → OnOk result P → OnOk result Q → OnOk result R → IfOk result S → IfOk result T
@@ -115,23 +115,3 @@ module _ (laws : VisitLaws) (gates : ℕ) (shards : List ShardView) (s : ℕ) (b
     visited = visited-at ready entry logged;
     state_is = is ∙ ap (λ n. state_of_updates (take n (updates_of v before.log))) updates-are ∙ ap (λ log. state_seen oracle log stamp v) (log-is gates shards s before after within at);
   }
-
--- The marks
-
--- one more without a vertex
-pub none-more : (marks : List (Option Name)) (n : ℕ) → length marks ≤ n → marks ++ replicate (n - length marks) None ++ None ∷ [] ≡ marks ++ replicate (n + 1 - length marks) None
-none-more marks n within =
-    append_assoc marks (replicate (n - length marks) None) (None ∷ [])
-    ∙ ap (λ more. marks ++ more) (replicate-append-replicate (n - length marks) 1 None ∙ ap (λ m. replicate m None) (let e : n - length marks + 1 ≡ n + 1 - length marks = omega (arith, within) in e))
-
--- the oracle's log is longer exactly if it made an entry
-pub marked-none : (entries : List OracleEntry) (oracle then_oracle : List OracleEntry) (v : Name) (marks : List (Option Name)) → then_oracle ≡ oracle ++ entries → length then_oracle ≤ length oracle → marks ≡ marked_if entries (length oracle) v marks
-marked-none [] oracle then_oracle v marks is same = refl
-marked-none (entry ∷ entries) oracle then_oracle v marks is same =
-    let more : length then_oracle ≡ length oracle + length (entry ∷ entries) = ap length is ∙ length-append oracle (entry ∷ entries) in absurd (omega (arith, more, same))
-
-pub marked-one : (entries : List OracleEntry) (oracle then_oracle : List OracleEntry) (v : Name) (marks then_marks : List (Option Name)) → then_oracle ≡ oracle ++ entries → length oracle < length then_oracle
-    → then_marks ≡ marked_at (length oracle) v marks → then_marks ≡ marked_if entries (length oracle) v marks
-marked-one [] oracle then_oracle v marks then_marks is more marked =
-    let same : length then_oracle ≡ length oracle + 0 = ap length is ∙ length-append oracle [] in absurd (omega (arith, more, same))
-marked-one (entry ∷ entries) oracle then_oracle v marks then_marks is more marked = marked

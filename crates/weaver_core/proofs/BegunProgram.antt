@@ -1,6 +1,6 @@
 -- A program that is begun has read nothing, and is running.
-use Rattle.std.proofs.Common.{◌≡◌, ◌≢◌, ℕ, zero, suc, ◌<◌, ◌≤◌, ◌-◌, Bool, true, false, List, [], ◌∷◌, ◌++◌, map, take, filter, AllPairs, Contains, Option, None, Some, inl, inr, refl, sym, ap, subst, ◌∙◌, arith}
-use Rattle.std.specs.Prelude.{◌||◌, ◌==◌, slice_index_or, cond, if◌then◌else◌}
+use Rattle.std.proofs.Common.{◌≡◌, ◌≢◌, ℕ, ◌<◌, ◌≤◌, ◌-◌, Bool, true, false, List, [], ◌∷◌, ◌++◌, map, take, filter, AllPairs, Contains, None, Some, inl, inr, refl, sym, ap, subst, ◌∙◌, arith}
+use Rattle.std.specs.Prelude.{◌==◌, cond, if◌then◌else◌}
 use Rattle.std.specs.List.{find, flat_map, list_any}
 use Rattle.std.specs.Option.{option_map}
 use Rattle.std.proofs.lemmas.Bool.{both_ways, cases_Bool, eq-eqb, eqb-true, le-ltb, ltb-false}
@@ -8,7 +8,7 @@ use Rattle.std.proofs.lemmas.Grind.{fold-append}
 use Rattle.std.proofs.lemmas.List.{append-nil, get_or-set_same}
 use Rattle.std.proofs.lemmas.List.Concat.{flat_map-append}
 use Rattle.std.proofs.lemmas.Option.{get_or_from_slice_get, none-some}
-use Rattle.proof_base.proofs.Members.{cut_at, flat_has, has_flat, has_head, has_none, has_tail, only}
+use Rattle.proof_base.proofs.Members.{cut_at, flat_has, has_head, has_none, has_tail, only}
 use Rattle.proof_base.proofs.Ordered.{find_by_key}
 use Rattle.weave_data.specs.declared.name.Name.{Name}
 use Rattle.vector_stamp.specs.declared.clock.Stamp.{Stamp}
@@ -29,7 +29,7 @@ use Rattle.weave_entries.specs.declared.session_log.SessionDeed.TheVariants.{Beg
 use Rattle.weave_entries.specs.declared.shard_log.ShardEntry.{ShardEntry}
 use Rattle.weave_entries.specs.declared.shard_log.ShardDeed.{ShardDeed}
 use Rattle.weave_entries.specs.declared.shard_log.ShardDeed.TheVariants.{Arrived, Applied, Visited, Collected}
-use Rattle.weave_entries.specs.GateReplay.{Begun, begun_in, program_begun, program_by, programs_of}
+use Rattle.weave_entries.specs.GateReplay.{Begun, program_begun, program_by, programs_of}
 use Rattle.weave_entries.specs.SessionReplay.{SessionState, begin_by, begins_in, has_reply_in, replied_count, replied_in, reply_by, session_after, session_of, session_start, session_stamp_of}
 use Rattle.weave_entries.specs.ShardReplay.{Visit, reads_in, state_of_updates, updates_of, visit_by, visits_of}
 use Rattle.weave_account.specs.declared.account.Account.{Account}

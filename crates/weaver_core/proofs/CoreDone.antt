@@ -1,22 +1,16 @@
 -- The machines of a script before the first step, and after each one.
-use Rattle.std.proofs.Common.{◌≡◌, ℕ, zero, suc, List, [], length, replicate, map, Option, None, Some, refl, sym, ap, subst, ◌∙◌, arith}
-use Rattle.std.specs.Prelude.{◌==◌, slice_get, slice_index_or}
-use Rattle.std.specs.List.{find, flat_map, range_with_len}
-use Rattle.std.specs.Option.{option_map}
+use Rattle.std.proofs.Common.{◌≡◌, ℕ, zero, suc, List, [], length, replicate, map, refl, sym, ap, subst, ◌∙◌}
+use Rattle.std.specs.Prelude.{slice_index_or}
+use Rattle.std.specs.List.{range_with_len}
 use Rattle.std.proofs.lemmas.List.{length-replicate}
 use Rattle.std.proofs.lemmas.Option.{none-some}
-use Rattle.weave_data.specs.declared.name.Name.{Name}
 use Rattle.vector_stamp.specs.declared.clock.Clock.{Clock}
 use Rattle.program_defs.specs.Limits.{IsWithinLimits}
-use Rattle.program_defs.specs.declared.script.Request.{Request}
 use Rattle.program_defs.specs.declared.script.Script.{Script}
 use Rattle.program_defs.specs.declared.script.Step.{Step}
-use Rattle.program_defs.specs.declared.script.Work.{Work}
-use Rattle.program_defs.specs.declared.script.Work.TheVariants.{Change, Look}
 use Rattle.report_rules.specs.declared.report.StepAnswer.{StepAnswer}
 use Rattle.weave_entries.specs.declared.oracle_log.OracleEntry.{OracleEntry}
 use Rattle.weave_entries.specs.declared.store_log.StoreEntry.{StoreEntry}
-use Rattle.weave_entries.specs.GateReplay.{Begun, begun_in}
 use Rattle.weave_account.specs.declared.account.Account.{Account}
 use Rattle.weave_account.specs.Sessions.{requests_of_session}
 use Rattle.step_rules.specs.CoreState.{CoreState, start_state}
@@ -30,7 +24,7 @@ use Rattle.proof_base.proofs.Members.{has_none}
 use Rattle.weave_account.specs.Account.{session_log}
 use Rattle.weave_entries.specs.declared.session_log.SessionEntry.{SessionEntry}
 use Rattle.weaver_core.specs.Clients.{SessionValues, no_values}
-use Rattle.weaver_core.specs.Splitting.{AreProgramsOf, AreValuesByLog}
+use Rattle.weaver_core.specs.Splitting.{AreAllByLog, AreValuesByLog}
 
 -- Before the first step
 
@@ -78,26 +72,17 @@ same-at zero i x = refl
 same-at (suc n) zero x = refl
 same-at (suc n) (suc i) x = same-at n i x
 
-nothing-at : {A : Type 0} (n : ℕ) (x : A) → slice_get [] n ≡ Some x → ⊥
-nothing-at n x e = none-some x e
-
 values-at-first : (script : Script) (account : Account) → AreValuesByLog script account [] no_values
 values-at-first script account = record {
   running = record { waits = refl; fed = λ one at program look. absurd (none-some one at) };
   replies = record { requests = refl; each = λ reply has. absurd (has_none reply has) };
 }
 
-pub programs-at-first : (script : Script) (machines : MachinesView) → machines.state ≡ start_state script → machines.values ≡ replicate 64 no_values → (marks : List (Option Name)) → marks ≡ [] → AreProgramsOf script machines.state.account machines.values marks
-programs-at-first script machines is values-are marks marks-are =
-    subst (λ (state : CoreState). AreProgramsOf script state.account machines.values marks) (sym is) (subst (λ (values : List SessionValues). AreProgramsOf script (start_state script).account values marks) (sym values-are) (record {
-      values_are = record {
-        many = length-replicate 64 no_values;
-        each = λ s below.
-            subst (λ (v : SessionValues). AreValuesByLog script (start_state script).account (session_log (start_state script).account s) v) (sym (same-at 64 s no_values))
-            (subst (λ (l : List SessionEntry). AreValuesByLog script (start_state script).account l no_values) (sym (same-at 64 s [])) (values-at-first script (start_state script).account));
-      };
-      marks_are = record {
-        few = let few : length marks ≡ 0 = ap length marks-are in omega (arith, few);
-        each = λ n entry at. absurd (nothing-at n entry at);
-      };
+pub values-of-start : (script : Script) (machines : MachinesView) → machines.state ≡ start_state script → machines.values ≡ replicate 64 no_values → AreAllByLog script machines.state.account machines.values
+values-of-start script machines is values-are =
+    subst (λ (state : CoreState). AreAllByLog script state.account machines.values) (sym is) (subst (λ (values : List SessionValues). AreAllByLog script (start_state script).account values) (sym values-are) (record {
+      many = length-replicate 64 no_values;
+      each = λ s below.
+          subst (λ (v : SessionValues). AreValuesByLog script (start_state script).account (session_log (start_state script).account s) v) (sym (same-at 64 s no_values))
+          (subst (λ (l : List SessionEntry). AreValuesByLog script (start_state script).account l no_values) (sym (same-at 64 s [])) (values-at-first script (start_state script).account));
     }))

@@ -1,26 +1,18 @@
 -- `reply` of a program, by what its gatekeeper, its session and the program did.
-use Rattle.std.proofs.Common.{◌≡◌, ℕ, Bool, true, false, not, List, [], ◌∷◌, ◌++◌, Contains, IsTrue, Option, None, Some, is_some, inl, inr, refl, sym, ap, subst, ◌∙◌, arith}
-use Rattle.std.specs.Prelude.{◌&&◌, ◌||◌, ◌==◌, cond, if◌then◌else◌}
-use Rattle.std.specs.List.{find, list_any}
-use Rattle.std.specs.Option.{option_map}
-use Rattle.std.proofs.lemmas.Bool.{both_ways, cases_Bool, eq-eqb, eqb-true}
-use Rattle.std.proofs.lemmas.List.{append-nil}
-use Rattle.std.proofs.lemmas.List.Concat.{flat_map-append}
-use Rattle.std.proofs.lemmas.Option.{none-some, same_Some}
-use Rattle.proof_base.proofs.Members.{any_from, any_has, has_last}
+use Rattle.std.proofs.Common.{◌≡◌, ℕ, Bool, true, false, not, List, Contains, IsTrue, Option, None, Some, is_some, inl, inr, refl, sym, ap, subst, ◌∙◌, arith}
+use Rattle.std.specs.Prelude.{◌&&◌, ◌||◌, ◌==◌, if◌then◌else◌}
+use Rattle.std.specs.List.{list_any}
+use Rattle.std.proofs.lemmas.Bool.{cases_Bool, eqb-true}
+use Rattle.std.proofs.lemmas.Option.{same_Some}
+use Rattle.proof_base.proofs.Members.{any_has}
 use Rattle.vector_stamp.specs.declared.clock.Clock.{Clock}
-use Rattle.vector_stamp.specs.declared.clock.Stamp.{Stamp}
 use Rattle.graph_ops.specs.Operations.{State}
 use Rattle.program_defs.specs.Agreement.{AreSameReads}
-use Rattle.program_defs.specs.PlainAnswer.{IsPlainAnswer}
-use Rattle.program_defs.specs.Visits.{graph_read, next_visit}
-use Rattle.program_defs.specs.Works.{is_look}
-use Rattle.program_defs.specs.declared.program.Answer.{Answer}
+use Rattle.program_defs.specs.Visits.{next_visit}
 use Rattle.program_defs.specs.declared.program.Program.{Program}
 use Rattle.program_defs.specs.declared.script.Request.{Request}
 use Rattle.program_defs.specs.declared.script.Script.{Script}
 use Rattle.program_defs.specs.declared.script.Step.TheVariants as step
-use Rattle.program_defs.specs.declared.script.Work.{Work}
 use Rattle.program_defs.specs.declared.script.Work.TheVariants.{Look}
 use Rattle.report_rules.specs.Lookups.{request_at}
 use Rattle.report_rules.specs.declared.report.StepAnswer.{StepAnswer}
@@ -32,12 +24,9 @@ use Rattle.weave_entries.specs.declared.oracle_log.OracleEntry.{OracleEntry}
 use Rattle.weave_entries.specs.declared.session_log.SessionEntry.{SessionEntry}
 use Rattle.weave_entries.specs.declared.session_log.SessionDeed.TheVariants.{Replied}
 use Rattle.weave_entries.specs.declared.store_log.StoreEntry.{StoreEntry}
-use Rattle.weave_entries.specs.GateReplay.{Begun, ended_in, has_ended_in, is_begun, program_begun, running_of}
-use Rattle.weave_entries.specs.SessionReplay.{begin_by, begins_in, has_begun_in, has_reply_in, replied_in, reply_by, session_stamp_of}
+use Rattle.weave_entries.specs.GateReplay.{ended_in, has_ended_in, is_begun, program_begun, running_of}
 use Rattle.weave_account.specs.declared.account.Account.{Account}
 use Rattle.weave_account.specs.Account.{gate_log, reads_of, session_log}
-use Rattle.weave_account.specs.IsAccount.{IsAccount}
-use Rattle.weave_account.specs.Sessions.{requests_of_session}
 use Rattle.step_rules.specs.Answers.{answer_of, answer_of_reply, for_request}
 use Rattle.step_rules.specs.CoreState.{with_gate_deed, with_session_deed}
 use Rattle.step_rules.specs.Entries.{after_reply, after_work, at_request, with_finish}

@@ -1,6 +1,6 @@
 -- The first request without a reply, in the script's order, by the sessions of a core.
-use Rattle.std.proofs.Common.{◌≡◌, ℕ, ◌<◌, ◌≤◌, ◌==◌, true, false, List, [], length, map, AllPairs, Contains, IsTrue, Some, inl, inr, refl, sym, ap, subst, ◌∙◌, arith}
-use Rattle.std.specs.Prelude.{slice_get, slice_index_or}
+use Rattle.std.proofs.Common.{◌≡◌, ℕ, ◌<◌, ◌≤◌, ◌==◌, true, false, List, [], length, AllPairs, Contains, IsTrue, Some, inl, inr, sym, ap, ◌∙◌, arith}
+use Rattle.std.specs.Prelude.{slice_get}
 use Rattle.std.specs.List.{range_with_len}
 use Rattle.std.proofs.lemmas.Bool.{cases_lt, cases_order, eqb-true, le-ltb, lt-ltb}
 use Rattle.std.proofs.lemmas.List.{get_or_past}
@@ -13,12 +13,12 @@ use Rattle.program_defs.specs.declared.script.Script.{Script}
 use Rattle.report_rules.specs.Lookups.{is_some_and, request_at}
 use Rattle.weave_entries.specs.declared.oracle_log.OracleEntry.{OracleEntry}
 use Rattle.weave_entries.specs.declared.store_log.StoreEntry.{StoreEntry}
-use Rattle.weave_entries.specs.SessionReplay.{IsSessionLog, has_reply_in, replied_count, session_of}
+use Rattle.weave_entries.specs.SessionReplay.{has_reply_in, replied_count, session_of}
 use Rattle.weave_account.specs.declared.account.Account.{Account}
 use Rattle.weave_account.specs.Sessions.{requests_of_session}
 use Rattle.step_rules.specs.Requests.{has_reply}
 use Rattle.weaver_core.specs.Clients.{ClientTable, IsFirstUnanswered, log_at, requests_at, unanswered_at, unanswered_in}
-use Rattle.weaver_core.specs.Cores.{AreOf, MachinesView, machines_of}
+use Rattle.weaver_core.specs.Cores.{AreOf, machines_of}
 use Rattle.weaver_core.specs.GateTable.{GateTable}
 use Rattle.weaver_core.specs.ShardTable.{ShardTable}
 use Rattle.weaver_core.proofs.BeginDone.{requests-are}

@@ -100,7 +100,8 @@ module _ (script : Script) (account : Account) (is : IsAccount script account) w
       let log-is : gate_log account home.0 ≡ from.0 = get_or_from_slice_get account.gates home.0 from.0 [] home.1 in
       of-script script account home.0 cut.before entry.0.author entry.0.deed b (is.gatekeepers.begins home.0 cut.before entry.0 cut.after (log-is ∙ cut.is)) entry.2
 
-  stamp-of-begun : (b : Begun) → Contains (all_begun account) b → stamp_of account b.request ≡ Some b.stamp
+  -- the stamp of a begun request
+  pub stamp-of-begun : (b : Begun) → Contains (all_begun account) b → stamp_of account b.request ≡ Some b.stamp
   stamp-of-begun b h = ap (option_map (λ (one : Begun). one.stamp)) (find_by_key (λ (one : Begun). one.request) (all_begun account) b is.gatekeepers.once h)
 
   one-begun : (a b : Begun) → Contains (all_begun account) a → Contains (all_begun account) b → a.request ≡ b.request → a ≡ b

@@ -1,9 +1,8 @@
 -- A request that does not wait for its reply is not visited.
-use Rattle.std.proofs.Common.{◌≡◌, ◌⊎◌, ℕ, Bool, true, false, not, [], IsTrue, Option, None, Some, inl, inr, refl, sym, ap, subst, ◌∙◌, arith}
+use Rattle.std.proofs.Common.{◌≡◌, ◌⊎◌, ℕ, Bool, true, false, not, [], Option, None, Some, inl, inr, refl, sym, ap, ◌∙◌, arith}
 use Rattle.std.specs.Prelude.{◌&&◌, ◌==◌}
-use Rattle.std.specs.List.{find}
 use Rattle.std.specs.Option.{option_map}
-use Rattle.std.proofs.lemmas.Bool.{both_ways, cases_Bool, eqb-true}
+use Rattle.std.proofs.lemmas.Bool.{eqb-true}
 use Rattle.std.proofs.lemmas.List.Elements.{Contains-get_or}
 use Rattle.std.proofs.lemmas.Option.{none-some}
 use Rattle.proof_base.proofs.Members.{find_has, has_flat}
@@ -19,7 +18,7 @@ use Rattle.program_defs.specs.declared.script.Work.TheVariants.{Change, Look}
 use Rattle.report_rules.specs.Lookups.{request_at}
 use Rattle.report_rules.specs.declared.report.StepAnswer.TheVariants.{Idle}
 use Rattle.weave_entries.specs.GateReplay.{Begun, begun_in, program_begun, programs_of}
-use Rattle.weave_entries.specs.SessionReplay.{has_begun_in, has_reply_in, session_stamp_of}
+use Rattle.weave_entries.specs.SessionReplay.{has_begun_in, has_reply_in}
 use Rattle.weave_account.specs.declared.account.Account.{Account}
 use Rattle.weave_account.specs.Account.{all_begun, gate_log, session_log, stamp_of}
 use Rattle.weave_account.specs.IsAccount.{IsAccount}
@@ -29,7 +28,7 @@ use Rattle.weaver_core.specs.Clients.{is_open_in}
 use Rattle.weaver_core.specs.Cores.{AreOf, MachinesDo, MachinesView}
 use Rattle.weaver_core.specs.Staying.{StayLaws}
 use Rattle.weaver_core.proofs.CanVisit.{program-in}
-use Rattle.weaver_core.proofs.NoStamp.{no-stamp, stamp-begun}
+use Rattle.weaver_core.proofs.NoStamp.{stamp-begun}
 use Rattle.weaver_core.proofs.Resting.{rests}
 
 no-next : (script : Script) (account : Account) (o : Option Begun) → answer_of_visit script account o None ≡ Idle

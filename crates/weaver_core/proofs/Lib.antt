@@ -28,6 +28,8 @@ pub mod Stamped
 pub mod Reported
 pub mod Found
 pub mod Marked
+pub mod VisitTables
+pub mod MarksFound
 pub mod Unordered
 pub mod SameReport
 pub mod Visited
@@ -46,10 +48,10 @@ pub mod ProgramStamped
 pub mod OpenRuns
 pub mod StepValues
 pub mod AfterSteps
-pub mod MarksAfter
 pub mod SameMachines
 pub mod VisitWith
 pub mod Searched
 pub mod RepliesMore
 pub mod Parts
+pub mod Landed
 pub mod OtherSteps

@@ -1,6 +1,6 @@
 -- The pairs that are found by events, places and marks are those of the account.
 use Rattle.std.proofs.Common.{◌≡◌, ◌≢◌, ℕ, suc, ◌+◌, ◌≤◌, Bool, true, false, List, [], ◌∷◌, ◌++◌, length, Contains, IsTrue, Option, None, Some, inl, inr, refl, sym, ap, subst, ◌∙◌, length-append, arith}
-use Rattle.std.specs.Prelude.{◌↔◌, ◌&&◌, ◌==◌, slice_get, slice_index_or, IsSomeAnd, cond}
+use Rattle.std.specs.Prelude.{◌↔◌, ◌&&◌, ◌==◌, slice_get, IsSomeAnd, cond}
 use Rattle.std.specs.List.{cons_option, filter_map, find, flat_map, list_any}
 use Rattle.std.specs.Option.{option_and_then, option_map, option_or}
 use Rattle.std.proofs.lemmas.Bool.{and_parts, cases_Bool, cases_eq}
@@ -39,8 +39,8 @@ use Rattle.weave_account.specs.Oracle.{IsAskedByCommit, seen_last}
 use Rattle.weave_account.specs.Pairs.{ArePairsOf}
 use Rattle.weave_account.specs.PairsByPlace.{added_at, placed_by, placed_pair, vertex_visited, vertex_visited_in}
 use Rattle.weave_account.specs.Shards.{ShardFitsAs}
-use Rattle.weaver_core.specs.Reporting.{pair_found, pairs_before, pairs_found, pairs_found_from}
-use Rattle.weaver_core.specs.Walks.{IsMarkOf, IsMarkedAs}
+use Rattle.weaver_core.specs.Marks.{IsMarkOf, IsMarkedAs}
+use Rattle.weaver_core.specs.Reporting.{all_pairs_found, pair_found, pairs_before, pairs_found}
 use Rattle.weaver_core.proofs.CanVisit.{commit-judged, inside}
 use Rattle.weaver_core.proofs.Turns.{place-of}
 
@@ -116,18 +116,17 @@ module _ (account : Account) where
       entry-are settled begun None asked are = subst (λ (ps : List Pair). ArePairsOf account ps (pairs_of_entry settled)) (sym (placed settled asked begun)) are
       entry-are settled begun (Some v) marked are = marked-are settled v marked
 
-      pub all-are : (marks : List (Option Name)) (log : List OracleEntry) (n : ℕ) → ((entry : OracleEntry) → Contains log entry → (event : Stamp) → Contains ((settled_entry entry).later ∷ (settled_entry entry).earlier) event → IsBegunStamp account event)
-          → ((m : ℕ) (entry : OracleEntry) → slice_get log m ≡ Some entry → IsMarkedAs account (settled_entry entry) (slice_index_or marks (n + m) None))
+      pub all-are : (mark : SettledEntry → Option Name) (log : List OracleEntry) → ((entry : OracleEntry) → Contains log entry → (event : Stamp) → Contains ((settled_entry entry).later ∷ (settled_entry entry).earlier) event → IsBegunStamp account event)
+          → ((entry : OracleEntry) → Contains log entry → IsMarkedAs account (settled_entry entry) (mark (settled_entry entry)))
           → ArePairsOf account (flat_map (λ (entry : OracleEntry). placed_by account (settled_entry entry)) log) (flat_map (λ (entry : OracleEntry). pairs_of_entry (settled_entry entry)) log)
-          → ArePairsOf account (pairs_found_from request_of account.store marks n log) (flat_map (λ (entry : OracleEntry). pairs_of_entry (settled_entry entry)) log)
-      all-are marks [] n begun marked are = tt
-      all-are marks (entry ∷ log) n begun marked are =
+          → ArePairsOf account (all_pairs_found request_of account.store mark log) (flat_map (λ (entry : OracleEntry). pairs_of_entry (settled_entry entry)) log)
+      all-are mark [] begun marked are = tt
+      all-are mark (entry ∷ log) begun marked are =
           let parts = are-split account (placed_by account (settled_entry entry)) (flat_map (λ (one : OracleEntry). placed_by account (settled_entry one)) log) (pairs_of_entry (settled_entry entry)) (flat_map (λ (one : OracleEntry). pairs_of_entry (settled_entry one)) log)
           (placed-fewer (settled_entry entry)) (all-fewer log) are in
-          let here : n + 0 ≡ n = omega arith in
-          are-append account (pairs_found request_of account.store (slice_index_or marks n None) (settled_entry entry)) (pairs_found_from request_of account.store marks (n + 1) log) (pairs_of_entry (settled_entry entry)) (flat_map (λ (one : OracleEntry). pairs_of_entry (settled_entry one)) log)
-          (entry-are (settled_entry entry) (begun entry (has_head entry log)) (slice_index_or marks n None) (subst (λ k. IsMarkedAs account (settled_entry entry) (slice_index_or marks k None)) here (marked 0 entry refl)) parts.0)
-          (all-are marks log (n + 1) (λ one h. begun one (has_tail entry log one h)) (λ m one at. let next : n + suc m ≡ n + 1 + m = omega arith in subst (λ k. IsMarkedAs account (settled_entry one) (slice_index_or marks k None)) next (marked (suc m) one at)) parts.1)
+          are-append account (pairs_found request_of account.store (mark (settled_entry entry)) (settled_entry entry)) (all_pairs_found request_of account.store mark log) (pairs_of_entry (settled_entry entry)) (flat_map (λ (one : OracleEntry). pairs_of_entry (settled_entry one)) log)
+          (entry-are (settled_entry entry) (begun entry (has_head entry log)) (mark (settled_entry entry)) (marked entry (has_head entry log)) parts.0)
+          (all-are mark log (λ one h. begun one (has_tail entry log one h)) (λ one h. marked one (has_tail entry log one h)) parts.1)
 
 -- No visit has the stamp of a commit
 
@@ -145,7 +144,18 @@ program-own script account home before author (Heard clock) b begins h = absurd 
 program-own script account home before author (Raised epoch) b begins h = absurd (has_none b h)
 program-own script account home before author (Finished r) b begins h = absurd (has_none b h)
 
-find-none : {A : Type 0} (p : A → Bool) (xs : List A) → ((x : A) → Contains xs x → p x ≡ false) → find p xs ≡ None
+-- and what was begun as a program
+pub begun-looks : (script : Script) (account : Account) → IsAccount script account → (home : ℕ) (b : Begun) → Contains (programs_of (gate_log account home)) b → IsTrue (is_some_and (λ (request : Request). (request.gate == home) && is_look request.work) (request_at script b.request))
+begun-looks script account is home b h =
+    let from = flat_has (λ (entry : GateEntry). program_by entry.author entry.deed) (gate_log account home) b h in
+    let cut = cut_at (gate_log account home) from.0 from.1 in
+    program-own script account home cut.before from.0.author from.0.deed b (is.gatekeepers.begins home cut.before from.0 cut.after cut.is) from.2
+
+pub not-both : (home : ℕ) (o : Option Request) (judged : Judgement) → IsTrue (is_some_and (λ (request : Request). (request.gate == home) && is_look request.work) o) → IsSomeAnd o (λ (request : Request). request.work ≡ Change judged.ops) → ⊥
+not-both home None judged look change = absurd change
+not-both home (Some request) judged look change = no-look request.work (and_parts (request.gate == home) (is_look request.work) look).1 (ap is_change change)
+
+pub find-none : {A : Type 0} (p : A → Bool) (xs : List A) → ((x : A) → Contains xs x → p x ≡ false) → find p xs ≡ None
 find-none p [] none = refl
 find-none p (x ∷ xs) none = ap (λ b. cond b (Some x) (find p xs)) (none x (has_head x xs)) ∙ find-none p xs (λ y h. none y (has_tail x xs y h))
 
@@ -153,19 +163,13 @@ module _ (script : Script) (account : Account) (limits : IsWithinLimits script) 
     (differ : (a b : Begun) → Contains (all_begun account) a → Contains (all_begun account) b → a.request ≢ b.request → id_of a.stamp ≢ id_of b.stamp)
     (work : (judged : Judgement) → Contains (judgements_of account.store) judged → IsSomeAnd (request_at script judged.request) (λ (request : Request). request.work ≡ Change judged.ops))
     (begun : (judged : Judgement) → Contains (judgements_of account.store) judged → Contains (all_begun account) (record { author = judged.author; request = judged.request; stamp = judged.stamp })) where
-  not-both : (home : ℕ) (o : Option Request) (judged : Judgement) → IsTrue (is_some_and (λ (request : Request). (request.gate == home) && is_look request.work) o) → IsSomeAnd o (λ (request : Request). request.work ≡ Change judged.ops) → ⊥
-  not-both home None judged look change = absurd change
-  not-both home (Some request) judged look change = no-look request.work (and_parts (request.gate == home) (is_look request.work) look).1 (ap is_change change)
-
   apart : (settled : SettledEntry) → IsAskedByCommit account settled → (home : ℕ) (b : Begun) → Contains (programs_of (gate_log account home)) b → b.stamp ≢ settled.later
   apart settled asked home b h same =
       let c = asked.commit in
       let in-commits : Contains (commits_of account.store) c = has_flat (λ (entry : StoreEntry). commit_by entry.deed) account.store asked.entry c (subst (λ (store : List StoreEntry). Contains store asked.entry) (sym asked.at) (middle asked.before asked.entry asked.after)) (subst (λ cs. Contains cs c) (sym asked.commit_is) (has_head c [])) in
       let judged = commit-judged account.store c in-commits in
       let j : Begun = record { author = judged.0.author; request = judged.0.request; stamp = judged.0.stamp } in
-      let from = flat_has (λ (entry : GateEntry). program_by entry.author entry.deed) (gate_log account home) b h in
-      let cut = cut_at (gate_log account home) from.0 from.1 in
-      let look = program-own script account home cut.before from.0.author from.0.deed b (is.gatekeepers.begins home cut.before from.0 cut.after cut.is) from.2 in
+      let look = begun-looks script account is home b h in
       let stamps : j.stamp ≡ b.stamp = judged.1.1.1 ∙ sym asked.later_is ∙ sym same in
       elim (cases_eq j.request b.request) [
         | inl one ↦ not-both home (request_at script b.request) judged.0 look (subst (λ n. IsSomeAnd (request_at script n) (λ (request : Request). request.work ≡ Change judged.0.ops)) one (work judged.0 judged.1.0))

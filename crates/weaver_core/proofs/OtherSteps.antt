@@ -1,7 +1,6 @@
 -- What is kept after a step that is of no request.
-use Rattle.std.proofs.Common.{◌≡◌, List, [], Option, sym, ap, subst}
+use Rattle.std.proofs.Common.{List, [], sym, ap, subst}
 use Rattle.std.specs.Prelude.{slice_index_or}
-use Rattle.weave_data.specs.declared.name.Name.{Name}
 use Rattle.program_defs.specs.Limits.{IsWithinLimits}
 use Rattle.program_defs.specs.declared.script.Script.{Script}
 use Rattle.program_defs.specs.declared.script.Step.{Step}
@@ -15,29 +14,27 @@ use Rattle.step_rules.specs.IsCore.{IsStepOf}
 use Rattle.step_rules.specs.Trace.{state_after}
 use Rattle.weaver_core.specs.Clients.{SessionValues}
 use Rattle.weaver_core.specs.Cores.{AreOf, MachinesDo, MachinesView}
-use Rattle.weaver_core.specs.Splitting.{AreProgramsOf}
+use Rattle.weaver_core.specs.Splitting.{AreAllByLog}
 use Rattle.weaver_core.specs.Staying.{CoreLaws, StayLaws}
 use Rattle.weaver_core.specs.Walks.{IsOtherStep}
-use Rattle.weaver_core.proofs.ProgramsStay.{SameLogs, marks-stay, step-same}
+use Rattle.weaver_core.proofs.ProgramsStay.{SameLogs, step-same}
 use Rattle.weaver_core.proofs.ValuesStay.{all-stay}
 
 -- what is kept stays
 same-logs-stay : (laws : StayLaws) (script : Script) (account next : Account) → IsWithinLimits script → IsAccount script account → IsAccount script next → GoesOn account next → SameLogs account next
-    → (values : List SessionValues) (marks : List (Option Name)) → AreProgramsOf script account values marks → AreProgramsOf script next values marks
-same-logs-stay laws script account next limits is is-next goes same values marks are = record {
-  values_are = all-stay laws script account next limits is is-next goes
-      (λ t. ap (λ sessions. slice_index_or sessions t []) same.sessions_are)
-      (λ r request at. record {
-        stamps = ap (λ sessions. session_stamp_of r (slice_index_or sessions request.session [])) same.sessions_are;
-        replies = ap (λ sessions. has_reply_in r (slice_index_or sessions request.session [])) same.sessions_are;
-        visits = same.visits_are r;
-      }) values are.values_are;
-  marks_are = marks-stay laws script account next limits is is-next goes same.more same.oracle_is same.asked marks are.marks_are;
-}
+    → (values : List SessionValues) → AreAllByLog script account values → AreAllByLog script next values
+same-logs-stay laws script account next limits is is-next goes same values are =
+    all-stay laws script account next limits is is-next goes
+    (λ t. ap (λ sessions. slice_index_or sessions t []) same.sessions_are)
+    (λ r request at. record {
+      stamps = ap (λ sessions. session_stamp_of r (slice_index_or sessions request.session [])) same.sessions_are;
+      replies = ap (λ sessions. has_reply_in r (slice_index_or sessions request.session [])) same.sessions_are;
+      visits = same.visits_are r;
+    }) values are
 
 pub other-stay : (laws : StayLaws) (core : CoreLaws) (script : Script) (old new : MachinesView) (step : Step) → AreOf script old → IsStepOf script step → IsOtherStep step → (answer : StepAnswer) → MachinesDo script step old new answer
-    → (values : List SessionValues) (marks : List (Option Name)) → AreProgramsOf script old.state.account values marks → AreProgramsOf script new.state.account values marks
-other-stay laws core script old new step are there other answer did values marks kept =
-    subst (λ (state : CoreState). AreProgramsOf script state.account values marks) (sym did.state_is)
+    → (values : List SessionValues) → AreAllByLog script old.state.account values → AreAllByLog script new.state.account values
+other-stay laws core script old new step are there other answer did values kept =
+    subst (λ (state : CoreState). AreAllByLog script state.account values) (sym did.state_is)
     (same-logs-stay laws script old.state.account (state_after script old.state step).account are.limits are.core.account (core.tried script old.state step are.limits there did.small are.core).account
-    (core.goes_on script old.state step are.limits there are.core) (step-same laws.there script old.state are.core.account.shards.as_many step there other) values marks kept)
+    (core.goes_on script old.state step are.limits there are.core) (step-same script old.state are.core.account.shards.as_many step there other) values kept)

@@ -6,12 +6,8 @@ use Rattle.std.proofs.lemmas.List.FromFn.{get_or-map-range_with_len, length-map-
 use Rattle.std.proofs.lemmas.Option.{none-some, slice_get-get_or, slice_get_within}
 use Rattle.vector_stamp.specs.declared.clock.Clock.{Clock}
 use Rattle.program_defs.specs.declared.script.Script.{Script}
-use Rattle.gatekeeper.specs.Gates.{GateView}
-use Rattle.shard_node.specs.Shards.{ShardView}
-use Rattle.weave_entries.specs.declared.gate_log.GateEntry.{GateEntry}
 use Rattle.weave_entries.specs.declared.oracle_log.OracleEntry.{OracleEntry}
 use Rattle.weave_entries.specs.declared.session_log.SessionEntry.{SessionEntry}
-use Rattle.weave_entries.specs.declared.shard_log.ShardEntry.{ShardEntry}
 use Rattle.weave_entries.specs.declared.store_log.StoreEntry.{StoreEntry}
 use Rattle.weave_entries.specs.GateReplay.{flight_of}
 use Rattle.weave_entries.specs.SessionReplay.{IsSessionLog}
@@ -157,3 +153,27 @@ module _ (split : Split) (can : CanBeJoined split) where
           subst (λ (l : List SessionEntry). AreValuesByLog split.script (account_of split) l (values_at (map values_of split.clients.items) n)) (sym (its-log n client at))
           (subst (AreValuesByLog split.script (account_of split) client.log.items) (sym (image-at values_of split.clients.items n client at no_values)) (record { running = mine.running; replies = mine.replies }))
       by {n} None at below = absurd (past split.clients.items n below at)
+
+  -- so the joined machines keep what a core keeps
+  pub joined : (table : gates.GateTable) (rows : shards.ShardTable) (clients : ClientTable) (machines : MachinesView) → machines ≡ machines_of table split.store split.oracle rows clients split.notices.items
+      → table ≡ record { shards = split.script.shards; logs = map gates.log_of split.gates.items } → rows ≡ record { gates = split.script.gates; logs = map shards.log_of split.shards.items }
+      → clients.requests ≡ map requests_in split.clients.items → clients.logs ≡ map log_of split.clients.items → clients.values ≡ map values_of split.clients.items
+      → (machines.state ≡ state_of split) × (AreOf split.script machines × AreAllByLog split.script machines.state.account machines.values)
+  joined table rows clients machines is table-is rows-are requests logs values = (state, (are, kept))
+    where
+      state : machines.state ≡ state_of split
+      state = ap (λ (m : MachinesView). m.state) is ∙ (λ i. record {
+        account = record { gates = (table-is i).logs; store = split.store; oracle = split.oracle; shards = (rows-are i).logs; sessions = logs i };
+        notices = split.notices.items;
+      })
+
+      are : AreOf split.script machines
+      are = joined-are machines state
+          (ap (λ (m : MachinesView). m.frame.gates) is ∙ ap (λ (t : gates.GateTable). length t.logs) table-is ∙ length-map split.gates.items gates.log_of)
+          (ap (λ (m : MachinesView). m.frame.shards) is ∙ ap (λ (t : gates.GateTable). t.shards) table-is)
+          (ap (λ (m : MachinesView). m.frame.senders) is ∙ ap (λ (t : shards.ShardTable). t.gates) rows-are)
+          (ap (λ (m : MachinesView). m.frame.requests) is ∙ requests)
+
+      kept : AreAllByLog split.script machines.state.account machines.values
+      kept = subst (λ (one : CoreState). AreAllByLog split.script one.account machines.values) (sym state)
+          (subst (AreAllByLog split.script (account_of split)) (sym (ap (λ (m : MachinesView). m.values) is ∙ values)) joined-values)

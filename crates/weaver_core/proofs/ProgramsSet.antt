@@ -1,25 +1,22 @@
 -- The logs after a step of a request.
-use Rattle.std.proofs.Common.{◌≡◌, ◌≢◌, ◌⊎◌, ℕ, ◌<◌, Bool, true, false, List, [], ◌∷◌, ◌++◌, length, Option, None, Some, inl, inr, refl, sym, ap, subst, ◌∙◌}
+use Rattle.std.proofs.Common.{◌≡◌, ◌≢◌, ◌⊎◌, ℕ, ◌<◌, Bool, true, false, List, [], ◌∷◌, ◌++◌, length, None, Some, inl, inr, refl, sym, ap, ◌∙◌}
 use Rattle.std.specs.Prelude.{◌||◌, ◌==◌, slice_index_or, slice_set, cond, if◌then◌else◌}
 use Rattle.std.specs.List.{find, list_any}
 use Rattle.std.specs.Option.{option_map}
 use Rattle.std.proofs.lemmas.Bool.{cases_eq, ne_eqb}
-use Rattle.std.proofs.lemmas.List.{append-nil, get_or-set_other, get_or-set_same, length-set, set-get_or}
+use Rattle.std.proofs.lemmas.List.{append-nil, get_or-set_other, get_or-set_same}
 use Rattle.std.proofs.lemmas.List.Concat.{flat_map-append}
 use Rattle.vector_stamp.specs.declared.clock.Stamp.{Stamp}
-use Rattle.program_defs.specs.Limits.{IsWithinLimits}
 use Rattle.program_defs.specs.declared.script.Request.{Request}
 use Rattle.program_defs.specs.declared.script.Script.{Script}
 use Rattle.program_defs.specs.declared.script.Step.{Step}
-use Rattle.report_rules.specs.Lookups.{request_at}
 use Rattle.weave_entries.specs.declared.session_log.SessionEntry.{SessionEntry}
 use Rattle.weave_entries.specs.declared.session_log.SessionDeed.{SessionDeed}
 use Rattle.weave_entries.specs.declared.session_log.SessionDeed.TheVariants.{Begun, Replied}
 use Rattle.weave_entries.specs.SessionReplay.{begin_by, begins_in, has_reply_in, replied_in, reply_by, session_stamp_of}
 use Rattle.weave_account.specs.declared.account.Account.{Account}
 use Rattle.weave_account.specs.Account.{session_log, shard_log}
-use Rattle.weave_account.specs.GoesOn.{GoesOn, visits_by}
-use Rattle.weave_account.specs.IsAccount.{IsAccount}
+use Rattle.weave_account.specs.GoesOn.{visits_by}
 use Rattle.step_rules.specs.Answers.{answer_of}
 use Rattle.step_rules.specs.CoreState.{CoreState}
 use Rattle.step_rules.specs.Entries.{state_with}

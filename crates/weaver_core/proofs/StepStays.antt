@@ -3,52 +3,38 @@ use Rattle.std.proofs.Common.{◌≡◌, ◌≢◌, ℕ, ◌<◌, Bool, true, fa
 use Rattle.std.specs.Prelude.{◌==◌, slice_index_or, slice_set, if◌then◌else◌}
 use Rattle.std.specs.List.{flat_map}
 use Rattle.std.proofs.Math.Nat.{mod-lt}
-use Rattle.std.proofs.lemmas.Bool.{cases_eq, eqb-true, ne_eqb}
+use Rattle.std.proofs.lemmas.Bool.{cases_eq, ne_eqb}
 use Rattle.std.proofs.lemmas.List.{append-nil, get_or-set_other, get_or-set_same}
-use Rattle.std.proofs.lemmas.List.Elements.{Contains-get_or, filter-append}
-use Rattle.std.proofs.lemmas.Option.{none-some, same_Some}
-use Rattle.proof_base.proofs.Members.{find_has, has_flat, has_none}
-use Rattle.proof_base.proofs.Ordered.{find_by_key}
+use Rattle.std.proofs.lemmas.List.Elements.{filter-append}
 use Rattle.weave_data.specs.Names.{shard_of}
 use Rattle.weave_data.specs.declared.name.Name.{Name}
 use Rattle.program_defs.specs.Limits.{IsWithinLimits}
-use Rattle.program_defs.specs.declared.program.Answer.{Answer}
 use Rattle.program_defs.specs.declared.script.Request.{Request}
 use Rattle.program_defs.specs.declared.script.Script.{Script}
-use Rattle.program_defs.specs.declared.script.Step.{Step}
 use Rattle.program_defs.specs.declared.script.Step.TheVariants.{Begin, Visit, Reply}
 use Rattle.program_defs.specs.declared.script.Work.{Work}
 use Rattle.program_defs.specs.declared.script.Work.TheVariants.{Change, Look}
 use Rattle.report_rules.specs.Lookups.{request_at}
-use Rattle.report_rules.specs.declared.report.StepAnswer.{StepAnswer}
-use Rattle.report_rules.specs.declared.report.StepAnswer.TheVariants.{Idle}
 use Rattle.weave_entries.specs.declared.session_log.SessionEntry.{SessionEntry}
 use Rattle.weave_entries.specs.declared.session_log.SessionDeed.{SessionDeed}
 use Rattle.weave_entries.specs.declared.session_log.SessionDeed.TheVariants.{Begun as BegunDeed, Replied}
 use Rattle.weave_entries.specs.declared.shard_log.ShardEntry.{ShardEntry}
 use Rattle.weave_entries.specs.declared.shard_log.ShardDeed.TheVariants.{Visited}
-use Rattle.weave_entries.specs.GateReplay.{Begun, begun_in, program_begun, programs_of}
+use Rattle.weave_entries.specs.GateReplay.{Begun, program_begun}
 use Rattle.weave_entries.specs.ShardReplay.{Visit as AVisit, reads_in, visits_of}
 use Rattle.weave_entries.specs.StoreRule.{entries_of_settling}
 use Rattle.vector_stamp.specs.Seeing.{last_seen}
 use Rattle.weave_account.specs.declared.account.Account.{Account}
 use Rattle.weave_account.specs.Account.{gate_log, pairs_in, reads_of, session_log, shard_log}
-use Rattle.weave_account.specs.GoesOn.{GoesOn, visits_by}
+use Rattle.weave_account.specs.GoesOn.{visits_by}
 use Rattle.weave_account.specs.IsAccount.{IsAccount}
-use Rattle.step_rules.specs.Answers.{answer_of, answer_of_visit, for_request}
 use Rattle.step_rules.specs.CoreState.{CoreState}
 use Rattle.step_rules.specs.Entries.{after_begin, after_reply, after_visit, state_with, after_work, at_request, made_entry, seen_in, stamp_to_begin, update_stamps, with_finish}
 use Rattle.step_rules.specs.Requests.{has_ended, next_vertex}
-use Rattle.step_rules.specs.IsCore.{IsStepOf}
 use Rattle.step_rules.specs.Trace.{state_after}
 use Rattle.step_rules.proofs.VisitLogs.{visits-push}
-use Rattle.weaver_core.specs.Cores.{AreOf, MachinesDo, MachinesView}
-use Rattle.weaver_core.specs.Staying.{CoreLaws, StayLaws}
-use Rattle.weaver_core.proofs.CanVisit.{program-in}
 use Rattle.weaver_core.proofs.ProgramsSet.{log-more, log-other, request_of, session-stays, step-cases}
-use Rattle.weaver_core.proofs.ProgramsStay.{StaysAt, marks-stay}
-use Rattle.weaver_core.proofs.Resting.{rests}
-use Rattle.weaver_core.proofs.VisitAfter.{account-after, request-below}
+use Rattle.weaver_core.proofs.ProgramsStay.{StaysAt}
 
 -- What a step of a request leaves of others
 
@@ -91,32 +77,30 @@ module _ (script : Script) (state : CoreState) (limits : IsWithinLimits script) 
         ];
       }
 
-  -- a request's end or begin adds one entry to its own session, and changes no visit and no pair
+  -- a request's end or begin adds one entry to its own session, and changes no visit
   record SessionStep (next : Account) (s : ℕ) (deed : SessionDeed) : Type 0 where
     sessions_are : next.sessions ≡ slice_set logs.sessions s (session_log logs s ++ record { author = s; deed = deed } ∷ [])
     shards_are : next.shards ≡ logs.shards
-    oracle_is : next.oracle ≡ logs.oracle
 
   begin-step : (request : Request) → SessionStep (after_begin logs r request) request.session (BegunDeed r (stamp_to_begin logs request))
-  begin-step request = record { sessions_are = refl; shards_are = refl; oracle_is = refl }
+  begin-step request = record { sessions_are = refl; shards_are = refl }
 
   -- the gatekeeper's part of a reply
   record SameBut (next : Account) : Type 0 where
     sessions_are : next.sessions ≡ logs.sessions
     shards_are : next.shards ≡ logs.shards
-    oracle_is : next.oracle ≡ logs.oracle
     store_is : next.store ≡ logs.store
 
   finish-same : (home : ℕ) (o : Option Begun) → SameBut (with_finish logs r home o)
-  finish-same home None = record { sessions_are = refl; shards_are = refl; oracle_is = refl; store_is = refl }
-  finish-same home (Some begun) = record { sessions_are = refl; shards_are = refl; oracle_is = refl; store_is = refl }
+  finish-same home None = record { sessions_are = refl; shards_are = refl; store_is = refl }
+  finish-same home (Some begun) = record { sessions_are = refl; shards_are = refl; store_is = refl }
 
   work-same : (request : Request) (work : Work) → SameBut (after_work logs r request work)
-  work-same request (Change ops) = record { sessions_are = refl; shards_are = refl; oracle_is = refl; store_is = refl }
+  work-same request (Change ops) = record { sessions_are = refl; shards_are = refl; store_is = refl }
   work-same request (Look program) = by (has_ended logs r request)
     where
       by : (b : Bool) → SameBut (if b then logs else with_finish logs r request.gate (program_begun r (gate_log logs request.gate)))
-      by true = record { sessions_are = refl; shards_are = refl; oracle_is = refl; store_is = refl }
+      by true = record { sessions_are = refl; shards_are = refl; store_is = refl }
       by false = finish-same request.gate (program_begun r (gate_log logs request.gate))
 
   reply-step : (request : Request) → SessionStep (after_reply logs r request) request.session (Replied r)
@@ -125,7 +109,6 @@ module _ (script : Script) (state : CoreState) (limits : IsWithinLimits script) 
       record {
         sessions_are = ap (λ (all : List (List SessionEntry)). slice_set all request.session (slice_index_or all request.session [] ++ record { author = request.session; deed = Replied r } ∷ [])) work.sessions_are;
         shards_are = work.shards_are;
-        oracle_is = work.oracle_is;
       }
 
   step-stays : (next : Account) (s : ℕ) (deed : SessionDeed) → s < 64 → request_of deed ≡ r → SessionStep next s deed → (q : ℕ) (request : Request) → q ≢ r → StaysAt logs next q request
@@ -189,17 +172,4 @@ module _ (script : Script) (state : CoreState) (limits : IsWithinLimits script) 
     | inr done ↦ subst (λ (all : CoreState). StaysAt logs all.account q one) (sym done)
         (subst (λ (all : Account). StaysAt logs all q one) (sym (ap (at_request (after_reply logs r) logs) at))
         (step-stays (after_reply logs r request) request.session _ (limits.sessions r request at) refl (reply-step request) q one other))
-  ]
-
-  -- begins and replies leave the oracle as it was
-  pub begin-oracle : (request : Request) → request_at script r ≡ Some request → (state_after script state (Begin r)).account.oracle ≡ logs.oracle
-  begin-oracle request at = elim (step-cases script state (Begin r)) [
-    | inl same ↦ ap (λ (all : CoreState). all.account.oracle) same
-    | inr done ↦ ap (λ (all : CoreState). all.account.oracle) done ∙ ap (λ (all : Account). all.oracle) (ap (at_request (after_begin logs r) logs) at)
-  ]
-
-  pub reply-oracle : (request : Request) → request_at script r ≡ Some request → (state_after script state (Reply r)).account.oracle ≡ logs.oracle
-  reply-oracle request at = elim (step-cases script state (Reply r)) [
-    | inl same ↦ ap (λ (all : CoreState). all.account.oracle) same
-    | inr done ↦ ap (λ (all : CoreState). all.account.oracle) done ∙ ap (λ (all : Account). all.oracle) (ap (at_request (after_reply logs r) logs) at) ∙ (work-same request request.work).oracle_is
   ]

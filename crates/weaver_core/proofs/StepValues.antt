@@ -1,15 +1,15 @@
 -- The values of the sessions after each step of a request.
-use Rattle.std.proofs.Common.{◌≡◌, ◌≢◌, ℕ, ◌-◌, ◌<◌, ◌≤◌, Bool, true, false, List, [], ◌∷◌, ◌++◌, map, Contains, IsTrue, Option, None, Some, inl, inr, refl, sym, ap, subst, ◌∙◌, arith}
-use Rattle.std.specs.Prelude.{◌==◌, ◌||◌, ◌&&◌, not, IsSomeAnd, slice_get, slice_index_or, slice_set, if◌then◌else◌}
-use Rattle.std.specs.List.{flat_map, list_any}
+use Rattle.std.proofs.Common.{◌≡◌, ◌≢◌, ℕ, ◌-◌, ◌<◌, ◌≤◌, Bool, true, false, List, [], ◌∷◌, ◌++◌, Contains, IsTrue, Option, None, Some, inl, inr, refl, sym, ap, subst, ◌∙◌, arith}
+use Rattle.std.specs.Prelude.{◌==◌, ◌&&◌, not, IsSomeAnd, slice_get, slice_set, if◌then◌else◌}
+use Rattle.std.specs.List.{list_any}
 use Rattle.std.specs.Option.{option_and_then, option_map}
-use Rattle.std.proofs.lemmas.Bool.{and_from, both_ways, eq-eqb, le-ltb}
+use Rattle.std.proofs.lemmas.Bool.{both_ways, eq-eqb, le-ltb}
 use Rattle.std.proofs.lemmas.List.{append-nil, map-append, set-get_or}
 use Rattle.std.proofs.lemmas.List.Concat.{flat_map-append}
 use Rattle.std.proofs.lemmas.List.Elements.{Contains-append_cases}
 use Rattle.std.proofs.lemmas.Option.{none-some, same_Some}
-use Rattle.proof_base.proofs.Entries.{each_before, each_last}
-use Rattle.proof_base.proofs.Members.{any_from, has_last, has_none, has_read, only}
+use Rattle.proof_base.proofs.Entries.{each_last}
+use Rattle.proof_base.proofs.Members.{any_from, has_last, only}
 use Rattle.vector_stamp.specs.declared.clock.Stamp.{Stamp}
 use Rattle.weave_data.specs.declared.name.Name.{Name}
 use Rattle.graph_ops.specs.Operations.{State}
@@ -27,11 +27,9 @@ use Rattle.program_defs.specs.declared.script.Work.TheVariants.{Change, Look}
 use Rattle.report_rules.specs.Lookups.{is_some_and, request_at}
 use Rattle.report_rules.specs.declared.report.Reply.{Reply}
 use Rattle.report_rules.specs.declared.report.ReplyState.{ReplyState}
-use Rattle.report_rules.specs.declared.report.ReplyState.TheVariants.{Finished}
 use Rattle.weave_entries.specs.declared.session_log.SessionEntry.{SessionEntry}
-use Rattle.weave_entries.specs.declared.session_log.SessionDeed.{SessionDeed}
 use Rattle.weave_entries.specs.declared.session_log.SessionDeed.TheVariants.{Begun, Replied}
-use Rattle.weave_entries.specs.SessionReplay.{FitsSession, SessionState, has_begun_in, has_reply_in, replied_count, replied_in, reply_by, session_of, session_stamp_of}
+use Rattle.weave_entries.specs.SessionReplay.{SessionState, has_begun_in, has_reply_in, replied_count, replied_in, reply_by, session_of, session_stamp_of}
 use Rattle.weave_entries.specs.StoreReplay.{judgement_of}
 use Rattle.weave_account.specs.declared.account.Account.{Account}
 use Rattle.weave_account.specs.Account.{is_ended, reads_of, session_log, stamp_of}

@@ -1,10 +1,10 @@
 -- What the report of machines owes, but for its order: over the stamps that were noted.
-use Rattle.std.proofs.Common.{◌≡◌, ◌≢◌, ℕ, ◌+◌, ◌<◌, AllPairs, List, [], ◌∷◌, length, map, replicate, take, drop, inl, inr, Contains, IsTrue, Option, None, Some, sym, ap, subst, ◌∙◌, arith}
+use Rattle.std.proofs.Common.{◌≡◌, ◌≢◌, ℕ, ◌<◌, AllPairs, List, [], ◌∷◌, length, map, replicate, take, drop, inl, inr, Contains, IsTrue, Option, None, Some, sym, ap, subst, ◌∙◌, arith}
 use Rattle.std.specs.Prelude.{◌↔◌, slice_index_or, IsSomeAnd}
-use Rattle.std.specs.List.{range_with_len}
 use Rattle.std.proofs.lemmas.List.{length-replicate}
 use Rattle.std.proofs.lemmas.Option.{get_or_from_slice_get, slice_get_within}
 use Rattle.proof_base.proofs.Members.{has_map}
+use Rattle.weave_data.specs.Names.{shard_of}
 use Rattle.weave_data.specs.declared.name.Name.{Name}
 use Rattle.vector_stamp.specs.declared.clock.Clock.{Clock}
 use Rattle.vector_stamp.specs.declared.clock.Stamp.{Stamp}
@@ -23,14 +23,16 @@ use Rattle.weaver_core.specs.ShardTable.{ShardTable}
 use Rattle.weave_entries.specs.declared.store_log.StoreEntry.{StoreEntry}
 use Rattle.weave_entries.specs.GateReplay.{Begun}
 use Rattle.weave_entries.specs.OracleReplay.{settled_entry}
-use Rattle.weave_entries.specs.StoreReplay.{Judgement, judgements_of}
+use Rattle.weave_entries.specs.ShardReplay.{updates_of}
+use Rattle.weave_entries.specs.StoreReplay.{Judgement, commits_naming, judgements_of}
 use Rattle.weave_account.specs.declared.account.Account.{Account}
-use Rattle.weave_account.specs.Account.{IsBegunStamp, all_begun, begun_stamps, pairs_in, stamp_of}
+use Rattle.weave_account.specs.Account.{IsBegunStamp, all_begun, begun_stamps, commits_in, pairs_in, shard_log, stamp_of}
 use Rattle.weave_account.specs.IsAccount.{IsAccount}
 use Rattle.weave_account.specs.Oracle.{IsAskedByCommit}
 use Rattle.weave_account.specs.Pairs.{ArePairsOf}
 use Rattle.weave_account.specs.PairsByPlace.{placed_by, placed_pairs}
 use Rattle.weave_account.specs.Report.{MatchesAccount}
+use Rattle.weave_account.specs.Shards.{update_of}
 use Rattle.weave_account.specs.Account.{session_log}
 use Rattle.weave_account.specs.Sessions.{requests_of_session}
 use Rattle.weave_entries.specs.SessionReplay.{replied_count, session_of}
@@ -42,12 +44,13 @@ use Rattle.weaver_core.specs.Clients.{ClientTable, HaveRisingReplies, SessionVal
 use Rattle.weaver_core.specs.Cores.{AreOf, machines_of}
 use Rattle.weaver_core.specs.GateTable.{GateTable}
 use Rattle.weaver_core.specs.Noting.{all_noted}
+use Rattle.weaver_core.specs.Marks.{all_visits, mark_of, was_asked}
 use Rattle.weaver_core.specs.Reporting.{AreOfHomes, AreRequestsReplies, AreStampsOf, all_pairs_found, pairs_found, request_with}
-use Rattle.weaver_core.specs.Splitting.{AreAllByLog, AreProgramsOf}
+use Rattle.weaver_core.specs.Splitting.{AreAllByLog}
 use Rattle.weaver_core.specs.Staying.{StayLaws}
-use Rattle.weaver_core.specs.Walks.{IsMarkedAs}
 use Rattle.weaver_core.proofs.Found.{begun-with, found-at, judged-with, request-found}
 use Rattle.weaver_core.proofs.Marked.{all-are, unvisited-by}
+use Rattle.weaver_core.proofs.MarksFound.{marks-found}
 use Rattle.weaver_core.proofs.Noting.{count-noted, stamps-noted}
 use Rattle.weaver_core.proofs.Placed.{entry-placed}
 use Rattle.weaver_core.proofs.Reported.{parts-match}
@@ -80,6 +83,9 @@ pub record ReportLaws : Type 0 where
       → IsSomeAnd (request_at script judged.request) (λ (request : Request). request.work ≡ Change judged.ops)
   pub begun : (script : Script) (account : Account) → IsWithinLimits script → IsAccount script account → (judged : Judgement) → Contains (judgements_of account.store) judged
       → Contains (all_begun account) (record { author = judged.author; request = judged.request; stamp = judged.stamp })
+  -- updates_are_commits
+  pub whole : (script : Script) (account : Account) → IsWithinLimits script → IsAccount script account → (v : Name) → let updates = updates_of v (shard_log account (shard_of v script.shards)) in
+      updates ≡ map (update_of v) (take (length updates) (commits_naming v (commits_in account)))
   -- equality_is_decided of vector_stamp
   pub same_stamps : (a b : Stamp) → IsTrue (same_stamp a b) ↔ (a ≡ b)
   -- placed_pairs_are_the_pairs
@@ -113,7 +119,7 @@ module _ (laws : ReportLaws) (sessions : SessionLaws) (script : Script) (gates :
   pub settled-homes : (entry : OracleEntry) → Contains oracle entry → AreOfHomes (settled_entry entry)
   settled-homes entry has event h = (laws.coherent script account are.limits are.core.account).homes event (laws.settled script account are.limits are.core.account entry has event h)
 
-  module _ (stay : StayLaws) (marks : List (Option Name)) (kept : AreProgramsOf script account was.values marks) where
+  module _ (stay : StayLaws) (kept : AreAllByLog script account was.values) where
     found : (q : ℕ) (event : Stamp) → stamp_of account q ≡ Some event → request_with stamps event ≡ Some q
     found q event at =
         let is = are.core.account in
@@ -131,16 +137,23 @@ module _ (laws : ReportLaws) (sessions : SessionLaws) (script : Script) (gates :
         (judged-with script account is laws.same_stamps differ (laws.begun script account are.limits is))
         settled (unvisited-by script account are.limits is laws.same_stamps differ (laws.work script account are.limits is) (laws.begun script account are.limits is) settled asked) begun
 
+    -- the mark that is found of an entry
+    abbrev mark : SettledEntry → Option Name
+    mark = mark_of (request_with stamps) (was_asked (all_visits shards.logs)) store
+
     -- the pairs that are found are the account's
-    pairs-are : ArePairsOf account (all_pairs_found (request_with stamps) store marks oracle) (pairs_in account)
+    pairs-are : ArePairsOf account (all_pairs_found (request_with stamps) store mark oracle) (pairs_in account)
     pairs-are =
         let is = are.core.account in
-        all-are account (request_with stamps) found placed-one marks oracle 0 (laws.settled script account are.limits is) (λ m entry at. let same : m ≡ 0 + m = omega arith in subst (λ k. IsMarkedAs account (settled_entry entry) (slice_index_or marks k None)) same (kept.marks_are.each m entry at)) (laws.placed script account are.limits is)
+        let begun = found-at script account is laws.same_stamps (laws.differ script account are.limits is) stamps stamps-are many in
+        all-are account (request_with stamps) found placed-one mark oracle (laws.settled script account are.limits is)
+        (marks-found script account is (laws.work script account are.limits is) (laws.begun script account are.limits is) (laws.whole script account are.limits is) (request_with stamps) begun)
+        (laws.placed script account are.limits is)
 
     -- and the report of these parts is the account's but for its order
-    pub unordered-matches : (report : Report) → AreRequestsReplies store was.values stamps script.requests (length script.requests) report.replies → report.pairs ≡ all_pairs_found (request_with stamps) store marks oracle → MatchesAccount script account report
+    pub unordered-matches : (report : Report) → AreRequestsReplies store was.values stamps script.requests (length script.requests) report.replies → report.pairs ≡ all_pairs_found (request_with stamps) store mark oracle → MatchesAccount script account report
     unordered-matches report replies pairs =
-        parts-match stay script account are.limits are.core.account was.values kept.values_are stamps stamps-are many (some-one script) report replies (subst (λ (ps : List Pair). ArePairsOf account ps (pairs_in account)) (sym pairs) pairs-are)
+        parts-match stay script account are.limits are.core.account was.values kept stamps stamps-are many (some-one script) report replies (subst (λ (ps : List Pair). ArePairsOf account ps (pairs_in account)) (sym pairs) pairs-are)
 
   -- the replies of a session rise
   pub replies-rise : (stay : StayLaws) → AreAllByLog script account was.values → HaveRisingReplies was.values

@@ -1,11 +1,11 @@
 -- The values of sessions stay as their logs say, while other logs go on.
-use Rattle.std.proofs.Common.{◌≡◌, ◌≢◌, ℕ, ◌<◌, ◌-◌, Bool, true, false, List, [], ◌∷◌, ◌++◌, length, map, Contains, IsTrue, Option, None, Some, inl, inr, refl, sym, ap, subst, ◌∙◌, arith}
-use Rattle.std.specs.Prelude.{◌==◌, IsSomeAnd, slice_get, slice_index_or, slice_set, if◌then◌else◌}
+use Rattle.std.proofs.Common.{◌≡◌, ◌≢◌, ℕ, ◌<◌, Bool, true, false, List, length, Contains, IsTrue, Option, None, Some, inl, inr, refl, sym, ap, subst, ◌∙◌, arith}
+use Rattle.std.specs.Prelude.{◌==◌, IsSomeAnd, slice_set, if◌then◌else◌}
 use Rattle.std.specs.List.{find, range_with_len}
 use Rattle.std.specs.Option.{option_and_then, option_map}
 use Rattle.std.proofs.lemmas.Bool.{cases_eq, eqb-true}
 use Rattle.std.proofs.lemmas.List.{get_or-set_other, get_or-set_same, length-set, map-append}
-use Rattle.std.proofs.lemmas.Option.{get_or_from_slice_get, none-some, same_Some, slice_get_within}
+use Rattle.std.proofs.lemmas.Option.{none-some, same_Some}
 use Rattle.proof_base.proofs.Members.{filter_has, has_map}
 use Rattle.vector_stamp.specs.declared.clock.Stamp.{Stamp}
 use Rattle.program_defs.specs.Limits.{IsWithinLimits}
@@ -28,15 +28,14 @@ use Rattle.weave_entries.specs.SessionReplay.{has_reply_in, replied_count, repli
 use Rattle.weave_entries.specs.StoreReplay.{Judgement, judgement_of, judgements_of, judged_by}
 use Rattle.weave_entries.specs.declared.store_log.StoreEntry.{StoreEntry}
 use Rattle.weave_account.specs.declared.account.Account.{Account}
-use Rattle.weave_account.specs.Account.{is_ended, reads_of, session_log, shard_log, stamp_of}
-use Rattle.weave_account.specs.GoesOn.{GoesOn, visits_by}
+use Rattle.weave_account.specs.Account.{is_ended, session_log, stamp_of}
+use Rattle.weave_account.specs.GoesOn.{GoesOn}
 use Rattle.weave_account.specs.IsAccount.{IsAccount}
 use Rattle.weave_account.specs.Report.{IsReplyInAccount, IsStateOf, IsStateOfProgram, state_of_tx}
 use Rattle.weave_account.specs.Sessions.{requests_of_session}
 use Rattle.weaver_core.specs.Clients.{SessionValues, no_values, values_at}
 use Rattle.weaver_core.specs.Splitting.{AreAllByLog, AreRepliesByLog, AreValuesByLog, IsRunningByLog, program_waiting, waiting_in}
 use Rattle.weaver_core.specs.Staying.{StayLaws}
-use Rattle.weaver_core.specs.Walks.{IsLookAt}
 use Rattle.weaver_core.specs.declared.walks.Running.{Running}
 use Rattle.weaver_core.proofs.CanVisit.{in-take}
 use Rattle.weaver_core.proofs.ProgramsStay.{StaysAt, ended-stays, find-more, read-stays}

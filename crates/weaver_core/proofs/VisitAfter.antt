@@ -1,5 +1,5 @@
--- A program that visited is running as the logs say, and so are the marks.
-use Rattle.std.proofs.Common.{◌≡◌, ℕ, ◌<◌, List, ◌++◌, ◌∷◌, [], length, Option, Some, refl, sym, ap, subst, ◌∙◌}
+-- A program that visited is running as the logs say.
+use Rattle.std.proofs.Common.{◌≡◌, ℕ, ◌<◌, List, ◌++◌, ◌∷◌, [], length, Some, refl, sym, ap, subst, ◌∙◌}
 use Rattle.std.specs.Prelude.{slice_set}
 use Rattle.std.proofs.lemmas.Option.{slice_get_within}
 use Rattle.weave_data.specs.Names.{shard_of}
@@ -30,12 +30,12 @@ use Rattle.weaver_core.specs.Clients.{ClientTable}
 use Rattle.weaver_core.specs.Cores.{AreOf, MachinesDo, MachinesView, machines_of}
 use Rattle.weaver_core.specs.GateTable.{GateTable}
 use Rattle.weaver_core.specs.ShardTable.{ShardTable, log_at}
-use Rattle.weaver_core.specs.Staying.{CoreLaws, StayLaws}
+use Rattle.weaver_core.specs.Staying.{CoreLaws}
 use Rattle.weaver_core.specs.Visiting.{AreSameLogs, Asks, Visits, VisitsNext, entries_asked, updates_seen}
-use Rattle.weaver_core.specs.Walks.{AreMarksOf, IsRunningIn}
+use Rattle.weaver_core.specs.Walks.{IsRunningIn}
 use Rattle.weaver_core.specs.declared.walks.Running.{Running}
 use Rattle.weaver_core.proofs.VisitDone.{next-over}
-use Rattle.weaver_core.proofs.Visited.{MarkLaws, marks-after, read-more}
+use Rattle.weaver_core.proofs.Visited.{read-more}
 
 -- after a step the logs are an account, and go on
 pub account-after : (core : CoreLaws) (script : Script) (old new : MachinesView) (one : Step) → AreOf script old → IsStepOf script one → (a : StepAnswer) → MachinesDo script one old new a
@@ -45,10 +45,10 @@ account-after core script old new one are there a did = (
   subst (λ (state : CoreState). GoesOn old.state.account state.account) (sym did.state_is) (core.goes_on script old.state one are.limits there are.core),
 )
 
-module _ (stay : StayLaws) (mark-laws : MarkLaws) (free : (a b : List (Name × State)) (program : Program) → AreSameReads a b → next_visit a program ≡ next_visit b program)
+module _ (free : (a b : List (Name × State)) (program : Program) → AreSameReads a b → next_visit a program ≡ next_visit b program)
     (script : Script) (gates : GateTable) (store : List StoreEntry) (oracle : List OracleEntry) (shards : ShardTable) (was : ClientTable) (notices : List Clock)
     (are : AreOf script (machines_of gates store oracle shards was notices)) (r : ℕ) (running : Running) (runs : IsRunningIn script (machines_of gates store oracle shards was notices).state.account r running) (asks : Asks running.walk)
-    (new : ShardTable) (then_oracle : List OracleEntry) (now : Running) (marks then_marks : List (Option Name)) where
+    (new : ShardTable) (then_oracle : List OracleEntry) (now : Running) where
   abbrev account : Account
   account = (machines_of gates store oracle shards was notices).state.account
 
@@ -56,7 +56,7 @@ module _ (stay : StayLaws) (mark-laws : MarkLaws) (free : (a b : List (Name × S
   next = (machines_of gates store then_oracle new was notices).state.account
 
   abbrev Same : Type 0
-  Same = AreSameLogs shards new oracle then_oracle running now marks then_marks
+  Same = AreSameLogs shards new oracle then_oracle running now
 
   same-account : Same → next ≡ account
   same-account same = λ i. (machines_of gates store (same.oracle_is i) (same.shards_are i) was notices).state.account
@@ -82,10 +82,7 @@ module _ (stay : StayLaws) (mark-laws : MarkLaws) (free : (a b : List (Name × S
         };
       })
 
-  pub marks-if-same : Same → AreMarksOf account marks → AreMarksOf next then_marks
-  marks-if-same same marked = subst (λ (all : Account). AreMarksOf all then_marks) (sym (same-account same)) (subst (AreMarksOf account) (sym same.marks_are) marked)
-
-  module _ (is-next : IsAccount script next) (goes : GoesOn account next) (did : VisitsNext script.shards shards new oracle then_oracle running now marks then_marks) where
+  module _ (is-next : IsAccount script next) (did : VisitsNext script.shards shards new oracle then_oracle running now) where
     abbrev v : Name
     v = did.vertex
 
@@ -117,12 +114,9 @@ module _ (stay : StayLaws) (mark-laws : MarkLaws) (free : (a b : List (Name × S
         };
       }
 
-      marks-if-visited : AreMarksOf account marks → AreMarksOf next then_marks
-      marks-if-visited marked = marks-after stay mark-laws script account next are.limits are.core.account is-next goes r running.stamp runs.runs.stamped v within refl refl shards-are did.visited.oracle_is marks then_marks did.marks_are marked
-
-  module _ (is-next : IsAccount script next) (goes : GoesOn account next) (there : (v : Name) → shard_of v script.shards < length shards.logs) where
-    pub runs-after : (a : StepAnswer) → Visits script.shards shards new oracle then_oracle running now marks then_marks a → IsRunningIn script next r now
-    runs-after answer.Ok did = runs-if-visited is-next goes did (there did.vertex)
+  module _ (is-next : IsAccount script next) (there : (v : Name) → shard_of v script.shards < length shards.logs) where
+    pub runs-after : (a : StepAnswer) → Visits script.shards shards new oracle then_oracle running now a → IsRunningIn script next r now
+    runs-after answer.Ok did = runs-if-visited is-next did (there did.vertex)
     runs-after answer.Idle did = runs-if-same did.0
     runs-after (answer.Again s g) did = runs-if-same did.0
     runs-after answer.Twice none = absurd none
@@ -133,19 +127,6 @@ module _ (stay : StayLaws) (mark-laws : MarkLaws) (free : (a b : List (Name × S
     runs-after answer.Repeat none = absurd none
     runs-after answer.Empty none = absurd none
     runs-after (answer.Waits v) none = absurd none
-
-    pub visit-marks : AreMarksOf account marks → (a : StepAnswer) → Visits script.shards shards new oracle then_oracle running now marks then_marks a → AreMarksOf next then_marks
-    visit-marks marked answer.Ok did = marks-if-visited is-next goes did (there did.vertex) marked
-    visit-marks marked answer.Idle did = marks-if-same did.0 marked
-    visit-marks marked (answer.Again s g) did = marks-if-same did.0 marked
-    visit-marks marked answer.Twice none = absurd none
-    visit-marks marked answer.Early none = absurd none
-    visit-marks marked answer.Busy none = absurd none
-    visit-marks marked answer.Old none = absurd none
-    visit-marks marked answer.Unknown none = absurd none
-    visit-marks marked answer.Repeat none = absurd none
-    visit-marks marked answer.Empty none = absurd none
-    visit-marks marked (answer.Waits v) none = absurd none
 
 -- a request's number is below that of the requests
 pub request-below : (script : Script) (r : ℕ) (request : Request) → request_at script r ≡ Some request → r < length script.requests

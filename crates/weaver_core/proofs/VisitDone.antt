@@ -42,18 +42,18 @@ next-over free walk program all asks has =
     asks has.reads has.has_read ∙ ap (next_visit has.reads) has.program_is ∙ free has.reads all program has.same
 
 -- a visit leaves the stamp
-pub visit-stamp : (shards : ℕ) (old new : ShardTable) (oracle then_oracle : List OracleEntry) (was is : Running) (marks then_marks : List (Option Name)) (a : StepAnswer) → Visits shards old new oracle then_oracle was is marks then_marks a → is.stamp ≡ was.stamp
-visit-stamp shards old new oracle then_oracle was is marks then_marks answer.Ok did = did.read.stamp_is
-visit-stamp shards old new oracle then_oracle was is marks then_marks answer.Idle did = did.0.program.stamp_is
-visit-stamp shards old new oracle then_oracle was is marks then_marks (answer.Again s g) did = did.0.program.stamp_is
-visit-stamp shards old new oracle then_oracle was is marks then_marks answer.Twice none = absurd none
-visit-stamp shards old new oracle then_oracle was is marks then_marks answer.Early none = absurd none
-visit-stamp shards old new oracle then_oracle was is marks then_marks answer.Busy none = absurd none
-visit-stamp shards old new oracle then_oracle was is marks then_marks answer.Old none = absurd none
-visit-stamp shards old new oracle then_oracle was is marks then_marks answer.Unknown none = absurd none
-visit-stamp shards old new oracle then_oracle was is marks then_marks answer.Repeat none = absurd none
-visit-stamp shards old new oracle then_oracle was is marks then_marks answer.Empty none = absurd none
-visit-stamp shards old new oracle then_oracle was is marks then_marks (answer.Waits v) none = absurd none
+pub visit-stamp : (shards : ℕ) (old new : ShardTable) (oracle then_oracle : List OracleEntry) (was is : Running) (a : StepAnswer) → Visits shards old new oracle then_oracle was is a → is.stamp ≡ was.stamp
+visit-stamp shards old new oracle then_oracle was is answer.Ok did = did.read.stamp_is
+visit-stamp shards old new oracle then_oracle was is answer.Idle did = did.0.program.stamp_is
+visit-stamp shards old new oracle then_oracle was is (answer.Again s g) did = did.0.program.stamp_is
+visit-stamp shards old new oracle then_oracle was is answer.Twice none = absurd none
+visit-stamp shards old new oracle then_oracle was is answer.Early none = absurd none
+visit-stamp shards old new oracle then_oracle was is answer.Busy none = absurd none
+visit-stamp shards old new oracle then_oracle was is answer.Old none = absurd none
+visit-stamp shards old new oracle then_oracle was is answer.Unknown none = absurd none
+visit-stamp shards old new oracle then_oracle was is answer.Repeat none = absurd none
+visit-stamp shards old new oracle then_oracle was is answer.Empty none = absurd none
+visit-stamp shards old new oracle then_oracle was is (answer.Waits v) none = absurd none
 
 module _ (script : Script) (gates : GateTable) (store : List StoreEntry) (oracle : List OracleEntry) (shards : ShardTable) (was : ClientTable) (notices : List Clock)
     (are : AreOf script (machines_of gates store oracle shards was notices)) (r : ℕ) where
@@ -87,11 +87,11 @@ module _ (script : Script) (gates : GateTable) (store : List StoreEntry) (oracle
     left : (v : Name) → next_read running.walk ≡ Some v → account_with script before.state (step.Visit r) ≡ after_visit script account r (Some begun) (Some v)
     left v is = visit-account request runs.look.request_is ∙ (λ i. after_visit script account r (runs.runs.begun i) ((its-next ∙ is) i))
 
-    module _ (new : ShardTable) (then_oracle : List OracleEntry) (now : Running) (marks then_marks : List (Option Name)) where
+    module _ (new : ShardTable) (then_oracle : List OracleEntry) (now : Running) where
       abbrev after : MachinesView
       after = machines_of gates store then_oracle new was notices
 
-      visited-done : VisitsNext script.shards shards new oracle then_oracle running now marks then_marks → MachinesDo script (step.Visit r) before after answer.Ok
+      visited-done : VisitsNext script.shards shards new oracle then_oracle running now → MachinesDo script (step.Visit r) before after answer.Ok
       visited-done did =
           let v = did.vertex in
           let s = shard_of v script.shards in
@@ -106,10 +106,10 @@ module _ (script : Script) (gates : GateTable) (store : List StoreEntry) (oracle
           (shard-frame gates store oracle shards was notices new s visited did.visited.adds)
           tt
 
-      same-all : AreSameLogs shards new oracle then_oracle running now marks then_marks → after ≡ before
+      same-all : AreSameLogs shards new oracle then_oracle running now → after ≡ before
       same-all same = λ i. machines_of gates store (same.oracle_is i) (same.shards_are i) was notices
 
-      pub visit-done : (a : StepAnswer) → Visits script.shards shards new oracle then_oracle running now marks then_marks a → MachinesDo script (step.Visit r) before after a
+      pub visit-done : (a : StepAnswer) → Visits script.shards shards new oracle then_oracle running now a → MachinesDo script (step.Visit r) before after a
       visit-done answer.Ok did = visited-done did
       visit-done answer.Idle did = rests script (step.Visit r) before after answer.Idle (told None did.1) refl (same-all did.0)
       visit-done (answer.Again s g) did =

@@ -1,10 +1,9 @@
 -- A visit of the program that was taken out of its session.
-use Rattle.std.proofs.Common.{◌≡◌, ℕ, ◌<◌, true, false, List, [], Option, None, Some, refl, sym, ap, subst, ◌∙◌}
+use Rattle.std.proofs.Common.{◌≡◌, ℕ, ◌<◌, true, false, [], Option, None, Some, refl, sym, ap, subst, ◌∙◌}
 use Rattle.std.specs.Option.{ForSome, option_map}
 use Rattle.std.proofs.lemmas.List.{append-nil}
 use Rattle.std.proofs.lemmas.Option.{none-some, same_Some}
 use Rattle.vector_stamp.specs.declared.clock.Stamp.{Stamp}
-use Rattle.program_defs.specs.Limits.{IsWithinLimits}
 use Rattle.program_defs.specs.Works.{is_look}
 use Rattle.program_defs.specs.declared.script.Request.{Request}
 use Rattle.program_defs.specs.declared.script.Script.{Script}
@@ -17,12 +16,11 @@ use Rattle.report_rules.specs.declared.report.StepAnswer.TheVariants.{Idle}
 use Rattle.weave_account.specs.declared.account.Account.{Account}
 use Rattle.weave_account.specs.Account.{gate_log, session_log, shard_log}
 use Rattle.weave_account.specs.GoesOn.{GoesOn}
-use Rattle.weave_account.specs.IsAccount.{IsAccount}
 use Rattle.weave_account.specs.Sessions.{requests_of_session}
 use Rattle.step_rules.specs.Answers.{answer_of}
 use Rattle.step_rules.specs.CoreState.{CoreState}
 use Rattle.step_rules.specs.Trace.{is_ok}
-use Rattle.weaver_core.specs.Clients.{SessionValues, is_open_in, values_at, with_running}
+use Rattle.weaver_core.specs.Clients.{is_open_in, values_at, with_running}
 use Rattle.weaver_core.specs.Cores.{AreOf, MachinesDo, MachinesView}
 use Rattle.weaver_core.specs.Splitting.{AreAllByLog, waiting_in}
 use Rattle.weaver_core.specs.Staying.{CoreLaws, StayLaws}

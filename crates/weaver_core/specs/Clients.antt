@@ -43,7 +43,7 @@ values_of client = record { running = client.running; replies = client.replies.i
 abbrev pub spare_of : Client → ℕ
 spare_of client = min (vec_capacity client.log - vec_len client.log) (vec_capacity client.replies - vec_len client.replies)
 
--- The session is at the end of the log, which keeps the rules of a session's log; its requests rise. No public contract cites this.
+-- the session is at the end of the log, which keeps the rules of a session's log; its requests rise
 pub record IsClientOf (number : ℕ) (session : SessionState) (log : List SessionEntry) : Type 0 where
   pub state : session ≡ session_of session.requests log
   pub right : IsSessionLog number session.requests log

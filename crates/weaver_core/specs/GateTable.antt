@@ -1,8 +1,9 @@
 -- The gatekeepers of a core as contracts see them.
-use Rattle.std.specs.Prelude.{◌≡◌, ℕ, List, [], ◌∷◌, ◌++◌, map, replicate, slice_get, slice_index_or, slice_set, Some}
+use Rattle.std.specs.Prelude.{◌≡◌, ℕ, Bool, not, is_some, List, [], ◌∷◌, ◌++◌, map, replicate, slice_get, slice_index_or, slice_set, Some}
 use Rattle.gatekeeper.specs.Gates.{GateView}
 use Rattle.weave_entries.specs.declared.gate_log.GateEntry.{GateEntry}
 use Rattle.weave_entries.specs.declared.gate_log.GateDeed.{GateDeed}
+use Rattle.weave_entries.specs.GateReplay.{flight_of}
 
 -- the number of shards, and the log of each gatekeeper, in the order of numbers
 pub record GateTable : Type 0 where
@@ -23,6 +24,10 @@ pub record AddsAt (old new : GateTable) (home author : ℕ) (deed : GateDeed) : 
 -- the log of a gatekeeper
 abbrev pub log_of : GateView → List GateEntry
 log_of gate = gate.log
+
+-- whether a gatekeeper has no transaction in flight
+abbrev pub lands : GateView → Bool
+lands gate = not (is_some (flight_of gate.log))
 
 -- each gatekeeper has its number as its home, and is made for these numbers of gatekeepers and shards
 pub record AreInOrder (count shards : ℕ) (gates : List GateView) : Type 0 where

@@ -10,6 +10,7 @@ pub mod Clocking
 pub mod Replying
 pub mod Cores
 pub mod Reporting
+pub mod Marks
 pub mod Walks
 pub mod Visiting
 pub mod Finishing

@@ -1,6 +1,6 @@
 -- How a core finds its report. No public contract cites this.
-use Rattle.std.specs.Prelude.{◌≡◌, ◌≢◌, ◌<◌, ◌==◌, ◌&&◌, ℕ, suc, Bool, length, List, [], ◌∷◌, ◌++◌, ◌+◌, map, Contains, Option, None, Some, slice_get, slice_index_or, if◌then◌else◌}
-use Rattle.std.specs.List.{filter_map, range_with_len}
+use Rattle.std.specs.Prelude.{◌≡◌, ◌≢◌, ◌<◌, ◌==◌, ◌&&◌, ℕ, suc, Bool, length, List, [], ◌∷◌, map, Contains, Option, None, Some, slice_get, slice_index_or, if◌then◌else◌}
+use Rattle.std.specs.List.{filter_map, flat_map, range_with_len}
 use Rattle.std.specs.Map.{lookup}
 use Rattle.std.specs.Option.{option_and_then, option_map}
 use Rattle.weave_data.specs.declared.name.Name.{Name}
@@ -139,12 +139,7 @@ pairs_before request_of store mark entry (Some later) =
 abbrev pub pairs_found : (Stamp → Option ℕ) → List StoreEntry → Option Name → SettledEntry → List Pair
 pairs_found request_of store mark entry = pairs_before request_of store mark entry (request_of entry.later)
 
--- the pairs of entries of the oracle's log, in order; the first of them has this place there
-abbrev pub pairs_found_from : (Stamp → Option ℕ) → List StoreEntry → List (Option Name) → ℕ → List OracleEntry → List Pair
-pairs_found_from request_of store marks place [] = []
-pairs_found_from request_of store marks place (entry ∷ oracle) =
-    pairs_found request_of store (slice_index_or marks place None) (settled_entry entry) ++ pairs_found_from request_of store marks (place + 1) oracle
-
--- the pairs of the oracle's log
-abbrev pub all_pairs_found : (Stamp → Option ℕ) → List StoreEntry → List (Option Name) → List OracleEntry → List Pair
-all_pairs_found request_of store marks oracle = pairs_found_from request_of store marks 0 oracle
+-- the pairs of the oracle's log, in order, by the mark of each entry
+abbrev pub all_pairs_found : (Stamp → Option ℕ) → List StoreEntry → (SettledEntry → Option Name) → List OracleEntry → List Pair
+all_pairs_found request_of store mark oracle =
+    flat_map (λ (entry : OracleEntry). pairs_found request_of store (mark (settled_entry entry)) (settled_entry entry)) oracle

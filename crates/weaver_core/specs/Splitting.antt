@@ -2,7 +2,6 @@
 use Rattle.std.specs.Prelude.{◌≡◌, ◌<◌, ℕ, List, length, map, Contains, slice_get, Option, None, Some, if◌then◌else◌}
 use Rattle.std.specs.List.{range_with_len}
 use Rattle.std.specs.Option.{ForSome, option_and_then, option_map}
-use Rattle.weave_data.specs.declared.name.Name.{Name}
 use Rattle.vector_stamp.specs.declared.clock.Stamp.{Stamp}
 use Rattle.gatekeeper.specs.Gates.{GateView}
 use Rattle.shard_node.specs.Shards.{ShardView}
@@ -31,7 +30,7 @@ use Rattle.weaver_core.specs.Cores.{MachinesView}
 use Rattle.weaver_core.specs.Finishing.{IsReplyOf}
 use Rattle.weaver_core.specs.GateTable as gates
 use Rattle.weaver_core.specs.ShardTable as shards
-use Rattle.weaver_core.specs.Walks.{AreMarksOf, HasReadAll, IsLookAt}
+use Rattle.weaver_core.specs.Walks.{HasReadAll, IsLookAt}
 use Rattle.weaver_core.specs.declared.client.Client.{Client}
 use Rattle.weaver_core.specs.declared.split.Split.{Split}
 use Rattle.weaver_core.specs.declared.walks.Running.{Running}
@@ -133,11 +132,6 @@ pub record AreValuesByLog (script : Script) (account : Account) (log : List Sess
 pub record AreAllByLog (script : Script) (account : Account) (values : List SessionValues) : Type 0 where
   pub many : length values ≡ 64
   pub each : (session : ℕ) → session < 64 → AreValuesByLog script account (session_log account session) (values_at values session)
-
--- values and marks are as the logs say
-pub record AreProgramsOf (script : Script) (account : Account) (values : List SessionValues) (marks : List (Option Name)) : Type 0 where
-  pub values_are : AreAllByLog script account values
-  pub marks_are : AreMarksOf account marks
 
 -- a program was finished: it was running in its session, which has the reply with its answer
 pub record FinishesProgram (old new : MachinesView) (session r : ℕ) : Type 0 where

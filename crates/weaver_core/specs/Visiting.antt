@@ -1,5 +1,5 @@
 -- What the machines do at `visit`. No public contract cites this.
-use Rattle.std.specs.Prelude.{◌≡◌, ◌≢◌, ℕ, ◌-◌, List, [], ◌∷◌, ◌++◌, All, length, take, replicate, Option, None, Some}
+use Rattle.std.specs.Prelude.{◌≡◌, ◌≢◌, ℕ, List, ◌∷◌, ◌++◌, All, take, None, Some}
 use Rattle.weave_data.specs.declared.name.Name.{Name}
 use Rattle.weave_data.specs.Names.{shard_of}
 use Rattle.vector_stamp.specs.declared.clock.Stamp.{Stamp}
@@ -80,26 +80,14 @@ pub record HasReadMore (old new : Running) (v : Name) (state : State) : Type 0 w
   pub program_is : any_of new.walk ≡ any_of old.walk
   pub reads : (reads : List (Name × State)) → HasRead old.walk reads → HasRead new.walk ((v, state) ∷ reads)
 
--- The marks
-
--- the vertex is marked at a place at or past the end
-abbrev pub marked_at : ℕ → Name → List (Option Name) → List (Option Name)
-marked_at n v marks = marks ++ replicate (n - length marks) None ++ Some v ∷ []
-
--- if the oracle made an entry at that place
-abbrev pub marked_if : List OracleEntry → ℕ → Name → List (Option Name) → List (Option Name)
-marked_if [] n v marks = marks
-marked_if (entry ∷ entries) n v marks = marked_at n v marks
-
 -- The step
 
 -- the program visited its next vertex
-pub record VisitsNext (shards : ℕ) (old new : ShardTable) (oracle then_oracle : List OracleEntry) (was is : Running) (marks then_marks : List (Option Name)) : Type 0 where
+pub record VisitsNext (shards : ℕ) (old new : ShardTable) (oracle then_oracle : List OracleEntry) (was is : Running) : Type 0 where
   pub vertex : Name
   pub next_is : next_read was.walk ≡ Some vertex
   pub visited : IsVisited old new oracle then_oracle (shard_of vertex shards) was.request was.stamp vertex
   pub read : HasReadMore was is vertex (state_seen oracle (log_at old (shard_of vertex shards)) was.stamp vertex)
-  pub marks_are : then_marks ≡ marked_if (entries_asked oracle (log_at old (shard_of vertex shards)) was.stamp vertex) (length oracle) vertex marks
 
 -- the program's next vertex is not ready
 pub record NextNotReady (shards : ℕ) (old : ShardTable) (was : Running) (shard gate : ℕ) : Type 0 where
@@ -109,15 +97,14 @@ pub record NextNotReady (shards : ℕ) (old : ShardTable) (was : Running) (shard
   pub unready : first_unready old.gates was.stamp (log_at old shard) ≡ Some gate
 
 -- nothing but the room for one more read may differ
-pub record AreSameLogs (old new : ShardTable) (oracle then_oracle : List OracleEntry) (was is : Running) (marks then_marks : List (Option Name)) : Type 0 where
+pub record AreSameLogs (old new : ShardTable) (oracle then_oracle : List OracleEntry) (was is : Running) : Type 0 where
   pub shards_are : new ≡ old
   pub oracle_is : then_oracle ≡ oracle
   pub program : IsSameProgram was is
-  pub marks_are : then_marks ≡ marks
 
 -- what `visit` answers of a running program, and what it leaves
-abbrev pub Visits : ℕ → ShardTable → ShardTable → List OracleEntry → List OracleEntry → Running → Running → List (Option Name) → List (Option Name) → StepAnswer → Type 0
-Visits shards old new oracle then_oracle was is marks then_marks answer.Ok = VisitsNext shards old new oracle then_oracle was is marks then_marks
-Visits shards old new oracle then_oracle was is marks then_marks answer.Idle = AreSameLogs old new oracle then_oracle was is marks then_marks × (next_read was.walk ≡ None)
-Visits shards old new oracle then_oracle was is marks then_marks (answer.Again shard gate) = AreSameLogs old new oracle then_oracle was is marks then_marks × NextNotReady shards old was shard gate
-Visits shards old new oracle then_oracle was is marks then_marks _ = ⊥
+abbrev pub Visits : ℕ → ShardTable → ShardTable → List OracleEntry → List OracleEntry → Running → Running → StepAnswer → Type 0
+Visits shards old new oracle then_oracle was is answer.Ok = VisitsNext shards old new oracle then_oracle was is
+Visits shards old new oracle then_oracle was is answer.Idle = AreSameLogs old new oracle then_oracle was is × (next_read was.walk ≡ None)
+Visits shards old new oracle then_oracle was is (answer.Again shard gate) = AreSameLogs old new oracle then_oracle was is × NextNotReady shards old was shard gate
+Visits shards old new oracle then_oracle was is _ = ⊥

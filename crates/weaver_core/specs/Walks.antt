@@ -1,9 +1,8 @@
 -- The programs that are running, and what the logs say of them.
-use Rattle.std.specs.Prelude.{◌≡◌, ℕ, ◌≤◌, false, length, List, [], ◌∷◌, slice_get, slice_index_or, Option, None, Some, ⊤}
+use Rattle.std.specs.Prelude.{◌≡◌, ℕ, false, List, Option, Some, ⊤}
 use Rattle.std.specs.Option.{option_map}
 use Rattle.weave_data.specs.declared.name.Name.{Name}
 use Rattle.vector_stamp.specs.declared.clock.Stamp.{Stamp}
-use Rattle.vector_stamp.specs.Settling.{SettledEntry}
 use Rattle.graph_ops.specs.Operations.{State}
 use Rattle.graph_ops.specs.declared.op.Op.{Op}
 use Rattle.program_defs.specs.Agreement.{AreSameReads}
@@ -14,14 +13,9 @@ use Rattle.program_defs.specs.declared.script.Step.{Step}
 use Rattle.program_defs.specs.declared.script.Step.TheVariants.{Begin, Visit, Reply}
 use Rattle.program_defs.specs.declared.script.Work.TheVariants.{Change, Look}
 use Rattle.report_rules.specs.Lookups.{request_at}
-use Rattle.report_rules.specs.declared.report.Pair.{Pair}
-use Rattle.weave_entries.specs.declared.oracle_log.OracleEntry.{OracleEntry}
 use Rattle.weave_entries.specs.GateReplay.{program_begun}
-use Rattle.weave_entries.specs.OracleReplay.{settled_entry}
 use Rattle.weave_account.specs.declared.account.Account.{Account}
 use Rattle.weave_account.specs.Account.{gate_log, is_ended, reads_of, stamp_of}
-use Rattle.weave_account.specs.Oracle.{IsAskedByCommit}
-use Rattle.weave_account.specs.Pairs.{IsPairInAccount}
 use Rattle.path_program.specs.AnyPrograms.{HasRead, any_of}
 use Rattle.path_program.specs.declared.any.AnyProgram.{AnyProgram}
 use Rattle.weaver_core.specs.declared.walks.Running.{Running}
@@ -67,27 +61,6 @@ pub record IsRunningIn (script : Script) (account : Account) (r : ℕ) (running 
   pub program : Program
   pub look : IsLookAt script r program
   pub runs : IsRunningAs account r look.request program running
-
--- The vertices of visits
-
--- a visit of this vertex asked for the oracle's entry: it added one pair
-pub record IsMarkOf (account : Account) (settled : SettledEntry) (v : Name) : Type 0 where
-  pub pair : Pair
-  pub vertex_is : pair.vertex ≡ v
-  pub earlier : Stamp
-  pub earlier_is : settled.earlier ≡ earlier ∷ []
-  pub places_are : settled.places ≡ 0 ∷ []
-  pub is_pair : IsPairInAccount account pair (earlier, settled.later)
-
--- what is marked of an entry is right: the vertex of the visit that asked for it, or nothing if a commit asked
-abbrev pub IsMarkedAs : Account → SettledEntry → Option Name → Type 0
-IsMarkedAs account settled None = IsAskedByCommit account settled
-IsMarkedAs account settled (Some v) = IsMarkOf account settled v
-
--- the marks of the oracle's entries, in their order; those past the last mark have none
-pub record AreMarksOf (account : Account) (marks : List (Option Name)) : Type 0 where
-  pub few : length marks ≤ length account.oracle
-  pub each : (n : ℕ) (entry : OracleEntry) → slice_get account.oracle n ≡ Some entry → IsMarkedAs account (settled_entry entry) (slice_index_or marks n None)
 
 -- the program that the core itself began with this stamp
 abbrev pub begun_with : ℕ → Option Stamp → AnyProgram → Option Running

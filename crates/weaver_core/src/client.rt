@@ -57,7 +57,7 @@ impl Client {
     }
 
     /// How one of its requests is. It looks at no more than the last entry.
-    pub(crate) fn standing(&self, request: u32) -> Standing
+    pub fn standing(&self, request: u32) -> Standing
         requires client { IsAClient self.now }
         requires among { Contains (requests_in self.now) request }
         ensures standing { result ≡ standing_of request (requests_in self.now) (log_of self.now) }
@@ -75,7 +75,7 @@ impl Client {
     }
 
     /// Whether one of its requests has begun and has no reply. It looks at no more than the last entry.
-    pub(crate) fn is_open(&self, request: u32) -> bool
+    pub fn is_open(&self, request: u32) -> bool
         requires client { IsAClient self.now }
         requires among { Contains (requests_in self.now) request }
         ensures open { result ≡ is_open_in request (log_of self.now) }
@@ -87,7 +87,7 @@ impl Client {
     }
 
     /// Its first request without a reply, if there is one. It looks at no more than the last entry.
-    pub(crate) fn first_unanswered(&self) -> Option<u32>
+    pub fn first_unanswered(&self) -> Option<u32>
         requires { IsAClient self.now }
         ensures { result ≡ unanswered_in (requests_in self.now) (log_of self.now) }
     {
@@ -110,7 +110,7 @@ impl Client {
     }
 
     /// Takes the room for one more entry and one more reply. The one error is out of memory.
-    pub(crate) fn reserve(&mut self) -> Result<(), AllocError>
+    pub fn reserve(&mut self) -> Result<(), AllocError>
         ensures same { IsSameClient self.old self.new }
         ensures room { OnOk result (1 ≤ spare_of self.new) }
     {
@@ -119,8 +119,8 @@ impl Client {
         Ok(())
     }
 
-    /// The next request was begun with this stamp. It takes no memory.
-    pub(crate) fn begun(&mut self, number: u32, request: u32, stamp: Stamp)
+    /// The next request was begun with this stamp, in the session of this number. It takes no memory.
+    pub fn begun(&mut self, number: u32, request: u32, stamp: Stamp)
         requires client { IsClientOf number self.old.session self.old.log.items }
         requires room { 1 ≤ spare_of self.old }
         requires turn { FitsSession (session_of (requests_in self.old) (log_of self.old)) (deed.Begun request stamp) }
@@ -135,8 +135,8 @@ impl Client {
         });
     }
 
-    /// The last begun request has its reply, and no program is running. It takes no memory.
-    pub(crate) fn replied(&mut self, number: u32, reply: Reply)
+    /// The last begun request has its reply, in the session of this number, and no program is running. It takes no memory.
+    pub fn replied(&mut self, number: u32, reply: Reply)
         requires client { IsClientOf number self.old.session self.old.log.items }
         requires room { 1 ≤ spare_of self.old }
         requires turn { FitsSession (session_of (requests_in self.old) (log_of self.old)) (deed.Replied reply.request) }

@@ -1,6 +1,6 @@
 //! The gatekeepers of a core, by their numbers.
-ghost use Rattle.std.specs.Prelude.{◌≡◌, ◌<◌, ◌≤◌, ◌&&◌, [], length, map, replicate, not, nat_lt, is_some, option_copied, IsTrue, IsSome, Some, IfOk, OnOk, OnErr};
-ghost use Rattle.std.specs.List.{list_any};
+ghost use Rattle.std.specs.Prelude.{◌≡◌, ◌↔◌, ◌<◌, ◌≤◌, ◌&&◌, ℕ, [], None, length, map, replicate, not, nat_lt, is_some, option_copied, IsTrue, IsSome, Some, IfOk, OnOk, OnErr};
+ghost use Rattle.std.specs.List.{list_all, list_any};
 ghost use Rattle.std.specs.Option.{ForSome, option_map};
 ghost use Rattle.vector_stamp.specs.Clocks.{counts_no_more};
 ghost use Rattle.vector_stamp.specs.Order.{has_64_bits, stamp_before};
@@ -14,7 +14,7 @@ ghost use Rattle.gatekeeper.specs.Gates.{Adds, SendsFlight};
 ghost use Rattle.gatekeeper.specs.Opened.{as_begun};
 ghost use Rattle.step_rules.specs.Entries.{begin_deed};
 ghost use Rattle.weaver_core.specs.Finishing.{begins_program, last_author};
-ghost use Rattle.weaver_core.specs.GateTable.{AddsAt, AreFirst, AreInOrder, IsSameGate, log_at, log_of};
+ghost use Rattle.weaver_core.specs.GateTable.{AddsAt, AreFirst, AreInOrder, IsSameGate, lands, log_at, log_of};
 ghost use Rattle.weaver_core.specs.Messages.{nop_deed};
 
 use gatekeeper::{Flight, Gate, GateFault};
@@ -83,6 +83,13 @@ impl Gates {
         ensures { option_map as_begun result ≡ flight_of (log_at self.now gate) }
     {
         self.gates[gate as usize].flight()
+    }
+
+    /// Whether no transaction is in flight at any of them.
+    pub(crate) fn none_in_flight(&self) -> bool
+        ensures { IsTrue result ↔ ((gate : ℕ) → flight_of (log_at self.now gate) ≡ None) }
+    {
+        none_in_flight(self.gates.as_slice())
     }
 
     /// The clock.
@@ -219,6 +226,18 @@ fn first_gates(alloc: Global, gates: u32, shards: u32) -> Result<Vec<Gate>, Allo
         made.push(Gate::new(alloc, home, gates, shards)?)?;
     }
     Ok(made)
+}
+
+// Whether none of these has a transaction in flight.
+fn none_in_flight(gates: &[Gate]) -> bool
+    ensures { result ≡ list_all lands gates.now }
+{
+    for gate in gates {
+        if gate.flight().is_some() {
+            return false;
+        }
+    }
+    true
 }
 
 // The gatekeeper stamps a request.

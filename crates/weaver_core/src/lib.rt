@@ -11,6 +11,7 @@ mod finishing;
 mod gates;
 mod judging;
 mod machines;
+mod marks;
 mod messages;
 mod pairs;
 mod replies;
@@ -24,7 +25,7 @@ mod stepping;
 mod visiting;
 mod walks;
 
-pub use client::Client;
+pub use client::{Client, Standing};
 pub use path_program::AnyProgram;
 pub use split::Split;
 pub use stepper::Core;

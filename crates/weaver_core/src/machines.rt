@@ -1,5 +1,5 @@
 //! The machines of a core, and what each atomic step does with them.
-ghost use Rattle.std.specs.Prelude.{◌≡◌, ℕ, ◌+◌, ◌<◌, ◌≤◌, ◌^◌, [], Contains, None, Some, false, is_some, length, map, replicate, slice_get, OnErr, IfOk, IsTrue};
+ghost use Rattle.std.specs.Prelude.{◌≡◌, ◌↔◌, ℕ, ◌+◌, ◌<◌, ◌≤◌, ◌^◌, [], Contains, None, Some, false, is_some, length, map, replicate, slice_get, OnErr, IfOk, IsTrue};
 ghost use Rattle.vector_stamp.specs.declared.clock.Stamp.{Stamp};
 ghost use Rattle.program_defs.specs.Limits.{IsWithinLimits};
 ghost use Rattle.program_defs.specs.declared.script.Request.{Request};
@@ -15,8 +15,9 @@ ghost use Rattle.weaver_core.specs.Cores.{AreOf, MayDo, MachinesDo, RepliesToCha
 ghost use Rattle.weaver_core.specs.Clients.{AreNumbered, HaveRisingReplies, is_open_in, no_values, values_at, values_of, with_running};
 ghost use Rattle.step_rules.specs.Requests.{has_reply, last_begun};
 ghost use Rattle.weaver_core.specs.Reporting.{AreOfHomes, AreRequestsReplies, all_pairs_found, request_with};
-ghost use Rattle.weaver_core.specs.Splitting.{AreAllByLog, AreProgramsOf, ArePartsFor, RepliesToProgram, state_of};
-ghost use Rattle.weaver_core.specs.Walks.{AreMarksOf, IsLook, IsOtherStep, IsRunningIn};
+ghost use Rattle.weaver_core.specs.Marks.{all_visits, mark_of, was_asked};
+ghost use Rattle.weaver_core.specs.Splitting.{AreAllByLog, ArePartsFor, NoneInFlight, RepliesToProgram, state_of};
+ghost use Rattle.weaver_core.specs.Walks.{IsLook, IsOtherStep, IsRunningIn};
 
 use crate::beginning::begin_in;
 use crate::clients::Clients;
@@ -384,17 +385,14 @@ impl Machines {
         script: &Script,
         request: u32,
         running: &mut Running,
-        marks: &mut Vec<Option<Name>>,
     ) -> Result<StepAnswer, AllocError>
         requires are { AreOf script.now self.old }
         requires runs { IsRunningIn script.now self.old.state.account request running.old }
-        requires marks { AreMarksOf self.old.state.account marks.old.items }
         ensures done { IfOk result (λ answer. MachinesDo script.now (step.Visit request) self.old self.new answer) }
         ensures refused { OnErr result (self.new ≡ self.old) }
         ensures values { self.new.values ≡ self.old.values }
         ensures runs { IsRunningIn script.now self.new.state.account request running.new }
         ensures same { running.new.stamp ≡ running.old.stamp }
-        ensures marks { AreMarksOf self.new.state.account marks.new.items }
     {
         begun_stamps_are_coherent();
         collections_leave_what_programs_see();
@@ -416,7 +414,6 @@ impl Machines {
             &mut self.oracle,
             script.shards,
             running,
-            marks,
         )
     }
 
@@ -490,6 +487,13 @@ impl Machines {
         self.clients.first_unanswered(requests.len() as u32)
     }
 
+    /// Whether no transaction is in flight.
+    pub(crate) fn none_in_flight(&self) -> bool
+        ensures { IsTrue result ↔ NoneInFlight self.now.state.account }
+    {
+        self.gates.none_in_flight()
+    }
+
     /// The number of the message that a shard processes next on a gatekeeper's channel. Those before it have arrived.
     pub(crate) fn next_message(&self, script: &Script, shard: u32, gate: u32) -> u64
         requires are { AreOf script.now self.now }
@@ -522,14 +526,9 @@ impl Machines {
     }
 
     /// The report of the account but for its order, and without answers of steps. The one error is out of memory.
-    pub(crate) fn unordered(
-        &self,
-        alloc: Global,
-        script: &Script,
-        marks: &[Option<Name>],
-    ) -> Result<Report, AllocError>
+    pub(crate) fn unordered(&self, alloc: Global, script: &Script) -> Result<Report, AllocError>
         requires are { AreOf script.now self.now }
-        requires programs { AreProgramsOf script.now self.now.state.account self.now.values marks.now }
+        requires programs { AreAllByLog script.now self.now.state.account self.now.values }
         ensures matches { IfOk result (MatchesAccount script.now self.now.state.account) }
         ensures answers { IfOk result (λ report. report.answers ≡ []) }
     {
@@ -540,6 +539,7 @@ impl Machines {
         placed_pairs_are_the_pairs();
         sessions_go_in_turn();
         stamps_are_begun();
+        updates_are_commits();
         what_stays();
         let requests = script.requests.as_slice();
         let stamps = self.clients.stamps(alloc, requests.len())?;
@@ -547,10 +547,10 @@ impl Machines {
             alloc,
             requests,
             stamps.as_slice(),
-            marks,
             &self.clients,
             &self.store,
             &self.oracle,
+            &self.shards,
         )
     }
 
@@ -562,15 +562,15 @@ impl Machines {
     }
 }
 
-// Replies and pairs, by the stamps, by the sessions' replies, and by the logs of store and oracle.
+// Replies and pairs, by the stamps, by the sessions' replies, and by the logs of store, oracle and shards.
 fn report_of(
     alloc: Global,
     requests: &[Request],
     stamps: &[Option<Stamp>],
-    marks: &[Option<Name>],
     clients: &Clients,
     store: &Store,
     oracle: &Oracle,
+    shards: &Shards,
 ) -> Result<Report, AllocError>
     requires few { length requests.now < 2 ^ 32 }
     requires many { length stamps.now ≡ length requests.now }
@@ -581,12 +581,12 @@ fn report_of(
     requires settled { (entry : OracleEntry) → Contains oracle.now entry → AreOfHomes (settled_entry entry) }
     ensures replies { IfOk result (λ report. AreRequestsReplies store.now clients.now.values stamps.now requests.now
         (length requests.now) report.replies) }
-    ensures pairs { IfOk result (λ report. report.pairs
-        ≡ all_pairs_found (request_with stamps.now) store.now marks.now oracle.now) }
+    ensures pairs { IfOk result (λ report. report.pairs ≡ all_pairs_found (request_with stamps.now) store.now
+        (mark_of (request_with stamps.now) (was_asked (all_visits shards.now.logs)) store.now) oracle.now) }
     ensures answers { IfOk result (λ report. report.answers ≡ []) }
 {
     let replies = replies_of(alloc, requests, stamps, clients, store)?;
-    let pairs = pairs_of(alloc, stamps, marks, store, oracle)?;
+    let pairs = pairs_of(alloc, stamps, shards, store, oracle)?;
     Ok(Report {
         replies,
         pairs,

@@ -1,5 +1,5 @@
 //! The pairs of a report: those of the oracle, each with its two requests and the vertex for which it was added.
-ghost use Rattle.std.specs.Prelude.{◌≡◌, ◌<◌, ◌^◌, ◌++◌, None, length, slice_get, slice_index_or, Contains, Some, IfOk, OnOk};
+ghost use Rattle.std.specs.Prelude.{◌≡◌, ◌<◌, ◌^◌, ◌++◌, length, slice_get, Contains, Some, IfOk, OnOk};
 ghost use Rattle.std.specs.List.{filter_map};
 ghost use Rattle.std.specs.Option.{option_and_then};
 ghost use Rattle.vector_stamp.specs.declared.clock.Stamp.{Stamp};
@@ -7,8 +7,11 @@ ghost use Rattle.vector_stamp.specs.Order.{id_of};
 ghost use Rattle.weave_entries.specs.OracleReplay.{settled_entry};
 ghost use Rattle.weave_entries.specs.StoreReplay.{judged_by};
 ghost use Rattle.weave_entries.specs.declared.oracle_log.OracleEntry.{OracleEntry};
+ghost use Rattle.weaver_core.specs.Marks.{all_visits, is_in, mark_of, was_asked};
 ghost use Rattle.weaver_core.specs.Reporting.{AreOfHomes, HasRequests, all_pairs_found, asked_by, found_in, key_of, pair_found, pairs_found, request_with};
 
+use crate::marks::{VisitTable, counts_of, first_seen};
+use crate::shards::Shards;
 use backing_store::Store;
 use report_rules::Pair;
 use std::alloc::{AllocError, Global};
@@ -21,39 +24,61 @@ use weave_entries::{OracleDeed, OracleEntry, StoreDeed, StoreEntry};
 // The request of each event, by the event's home, epoch and count.
 type Requests = HashMap<(u32, u64, u64), u32>;
 
-/// The pairs of the oracle, in the order in which they were added. The marks say which were added by visits, and for which vertices. The one error is out of memory.
+/// The pairs of the oracle, in the order in which they were added. It looks once at each entry of the logs of shards and oracle. The one error is out of memory.
 pub(crate) fn pairs_of(
     alloc: Global,
     stamps: &[Option<Stamp>],
-    marks: &[Option<Name>],
+    shards: &Shards,
     store: &Store,
     oracle: &Oracle,
 ) -> Result<Items<Pair>, AllocError>
     requires few { length stamps.now < 2 ^ 32 }
     requires begun { (stamp : Stamp) → Contains stamps.now (Some stamp) → stamp.home < 8 }
     requires settled { (entry : OracleEntry) → Contains oracle.now entry → AreOfHomes (settled_entry entry) }
-    ensures { IfOk result (λ pairs. pairs
-        ≡ all_pairs_found (request_with stamps.now) store.now marks.now oracle.now) }
+    ensures { IfOk result (λ pairs. pairs ≡ all_pairs_found (request_with stamps.now) store.now
+        (mark_of (request_with stamps.now) (was_asked (all_visits shards.now.logs)) store.now) oracle.now) }
 {
     let requests = requests_by_event(alloc, stamps)?;
+    let visits = shards.visits_that_asked(alloc)?;
     let mut pairs = Items::new(alloc);
     let log = oracle.log();
     for place in 0..log.len() {
-        let vertex = mark_at(marks, place);
-        add_pairs(&mut pairs, &requests, store, vertex, &log[place])?;
+        add_pairs_of(&mut pairs, &requests, &visits, store, &log[place])?;
     }
     Ok(pairs)
 }
 
-// The vertex that is marked at a place of the oracle's log.
-fn mark_at(marks: &[Option<Name>], place: usize) -> Option<Name>
-    ensures { result ≡ slice_index_or marks.now place None }
+// Adds the pairs of an entry of the oracle.
+fn add_pairs_of(
+    pairs: &mut Items<Pair>,
+    requests: &Requests,
+    visits: &VisitTable,
+    store: &Store,
+    entry: &OracleEntry,
+) -> Result<(), AllocError>
+    requires { AreOfHomes (settled_entry entry.now) }
+    ensures { OnOk result (pairs.new ≡ pairs.old ++ pairs_found (found_in requests.now.entries) store.now
+        (mark_of (found_in requests.now.entries) (is_in visits.now.entries) store.now (settled_entry entry.now))
+        (settled_entry entry.now)) }
 {
-    if place < marks.len() {
-        marks[place]
-    } else {
-        None
-    }
+    let vertex = mark_of(requests, visits, store, entry);
+    add_pairs(pairs, requests, store, vertex, entry)
+}
+
+// The vertex of the visit that asked for an entry of the oracle, if one did.
+fn mark_of(
+    requests: &Requests,
+    visits: &VisitTable,
+    store: &Store,
+    entry: &OracleEntry,
+) -> Option<Name>
+    requires { AreOfHomes (settled_entry entry.now) }
+    ensures { result ≡ mark_of (found_in requests.now.entries) (is_in visits.now.entries) store.now
+        (settled_entry entry.now) }
+{
+    let earlier = request_at(requests, earlier_in(entry), 0)?;
+    let later = request_of(requests, later_in(entry))?;
+    first_seen(visits, later, counts_of(store, earlier))
 }
 
 // The request of each event that was begun: the first one, should there be more.

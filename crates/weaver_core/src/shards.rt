@@ -5,11 +5,13 @@ ghost use Rattle.weave_entries.specs.ShardReplay.{arrived_at, bound_of, head_of,
 ghost use Rattle.weave_entries.specs.ShardRules.{IsTakable, PassesAt};
 ghost use Rattle.weave_entries.specs.declared.shard_log.ShardDeed.TheVariants as deed;
 ghost use Rattle.shard_node.specs.Shards.{IsRightlyUnapplied};
+ghost use Rattle.weaver_core.specs.Marks.{AddsVisits, all_visits};
 ghost use Rattle.weaver_core.specs.Messages.{AppliesHead, Arrives};
 ghost use Rattle.weaver_core.specs.ShardTable.{AddsAt, AreFirst, AreInOrder, log_at, log_of};
 ghost use Rattle.weaver_core.specs.Visiting.{CanBeVisited, Reads};
 ghost use Rattle.shard_node.specs.Shards.{IsRightlyUnread};
 
+use crate::marks::{VisitTable, visits_in};
 use graph_ops::Record;
 use shard_node::{ApplyFault, Shard, VisitFault};
 use shard_queue::Arrival;
@@ -108,6 +110,13 @@ impl Shards {
         ensures { result ≡ kept_of v (log_at self.now shard) }
     {
         self.shards[shard as usize].kept(v)
+    }
+
+    /// The visits of all shards that asked the oracle. It looks once at each entry. The one error is out of memory.
+    pub(crate) fn visits_that_asked(&self, alloc: Global) -> Result<VisitTable, AllocError>
+        ensures { IfOk result (λ visits. AddsVisits [] visits.entries (all_visits self.now.logs)) }
+    {
+        visits_in(alloc, self.shards.as_slice())
     }
 
     /// A shard processes the head of a gatekeeper's channel, if it does not wait.

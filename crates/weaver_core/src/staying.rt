@@ -5,9 +5,7 @@ use step_rules::laws::steps_keep_the_core;
 use weave_account::laws::{
     facts_stay_true, finished_exactly_if_replied, requests_of_a_session_rise,
 };
-use weave_entries::laws::{
-    begun_and_replied_are_decided, oracle_entries_are_a_judges, requests_end, sessions_go_in_turn,
-};
+use weave_entries::laws::{begun_and_replied_are_decided, requests_end, sessions_go_in_turn};
 
 /// What is said of a program's begin, its reads and its end stays true while other logs go on, and each step leaves a core.
 pub(crate) fn what_stays()
@@ -17,7 +15,6 @@ pub(crate) fn what_stays()
     begun_and_replied_are_decided();
     facts_stay_true();
     finished_exactly_if_replied();
-    oracle_entries_are_a_judges();
     requests_end();
     requests_of_a_session_rise();
     sessions_go_in_turn();

@@ -16,7 +16,10 @@ ghost use Rattle.step_rules.specs.Requests.{has_reply};
 ghost use Rattle.weaver_core.specs.Cores.{Does};
 ghost use Rattle.weaver_core.specs.Splitting.{CanBeJoined, NoneInFlight, state_of};
 
+use crate::clients::Clients;
+use crate::gates::Gates;
 use crate::machines::Machines;
+use crate::shards::Shards;
 use crate::split::Split;
 use crate::stepping::step_in;
 use order_witness::order_of;
@@ -26,7 +29,7 @@ use report_rules::{Report, StepAnswer};
 use std::alloc::{AllocError, Global};
 use std::marker::Model;
 use step_rules::laws::steps_keep_the_core;
-use weave_account::laws::account_may_be_ordered;
+use weave_account::laws::{account_may_be_ordered, requests_of_a_session_rise};
 use weave_data::{Items, Name};
 
 /// The machines of a script, run step by step (Weaver, PVLDB 9(11) 2016).
@@ -36,20 +39,18 @@ use weave_data::{Items, Name};
 pub struct Core {
     script: Script,
     machines: Machines,
-    // For each entry of the oracle the vertex of the visit that asked for it, if one did. It may end before the oracle's log.
-    marks: Vec<Option<Name>>,
 }
 
 impl Model for Core {
     ghost use Rattle.weaver_core.specs.Cores.{CoreView, AreOf};
-    ghost use Rattle.weaver_core.specs.Splitting.{AreProgramsOf};
+    ghost use Rattle.weaver_core.specs.Splitting.{AreAllByLog};
 
     ghost Value = { CoreView };
 
     ghost view = { λ c. record { script = c.script; state = c.machines.state } };
 
     ghost invariant = { λ c. AreOf c.script c.machines
-        × AreProgramsOf c.script c.machines.state.account c.machines.values c.marks.items };
+        × AreAllByLog c.script c.machines.state.account c.machines.values };
 }
 
 impl Core {
@@ -60,11 +61,7 @@ impl Core {
         ensures state { IfOk result (λ core. core.state ≡ start_state script) }
     {
         let machines = Machines::new(alloc, &script)?;
-        Ok(Core {
-            script,
-            machines,
-            marks: Vec::new(alloc),
-        })
+        Ok(Core { script, machines })
     }
 
     /// Does a step: its answer, and the logs and notices that it leaves, are those of the definition of steps.
@@ -76,13 +73,7 @@ impl Core {
         ensures refused { OnErr result (self.new ≡ self.old) }
     {
         steps_keep_the_core();
-        step_in(
-            alloc,
-            &self.script,
-            &mut self.machines,
-            &mut self.marks,
-            step,
-        )
+        step_in(alloc, &self.script, &mut self.machines, step)
     }
 
     /// The script that it was started with.
@@ -94,6 +85,14 @@ impl Core {
         &self.script
     }
 
+    /// Whether no transaction is in flight. It costs a look at each gatekeeper.
+    pub fn none_in_flight(&self) -> bool
+        ensures landed { IsTrue result → NoneInFlight self.now.state.account }
+        ensures flies { NoneInFlight self.now.state.account → IsTrue result }
+    {
+        self.machines.none_in_flight()
+    }
+
     /// Takes the core apart: its script, its machines, its sessions and its notices. It takes no memory.
     pub fn split(self) -> Split
         requires landed { NoneInFlight self.state.account }
@@ -101,12 +100,31 @@ impl Core {
         ensures state { state_of result ≡ self.state }
         ensures joined { CanBeJoined result }
     {
-        let Core {
-            script,
-            machines,
-            marks: _,
-        } = self;
+        let Core { script, machines } = self;
         machines.split(script)
+    }
+
+    /// Joins parts to a core. It takes no memory.
+    pub fn join(split: Split) -> Core
+        requires { CanBeJoined split }
+        ensures script { result.script ≡ split.script }
+        ensures state { result.state ≡ state_of split }
+    {
+        requests_of_a_session_rise();
+        let Split {
+            script,
+            gates,
+            store,
+            oracle,
+            shards,
+            clients,
+            notices,
+        } = split;
+        let gates = Gates::of(script.shards, gates);
+        let shards = Shards::of(script.gates, shards);
+        let clients = Clients::of(clients);
+        let machines = Machines::of(gates, store, oracle, shards, clients, notices);
+        Core { script, machines }
     }
 
     /// How many notices there are. The last one has this number.
@@ -149,16 +167,14 @@ impl Core {
         self.machines.kept(&self.script, shard, v)
     }
 
-    /// The report of the account, without answers of steps. It costs its own size and the printed order. The one error is out of memory.
+    /// The report of the account, without answers of steps. It costs a look at each entry of the logs of sessions, oracle and shards, its own size, and the printed order. The one error is out of memory.
     pub fn report(&self, alloc: Global) -> Result<Report, AllocError>
         ensures report { IfOk result (IsReportOfAccount self.now.script self.now.state.account) }
         ensures answers { IfOk result (λ report. report.answers ≡ []) }
     {
         account_may_be_ordered();
         orders_are_of_replies_and_pairs();
-        let unordered = self
-            .machines
-            .unordered(alloc, &self.script, self.marks.as_slice())?;
+        let unordered = self.machines.unordered(alloc, &self.script)?;
         with_order(alloc, &self.script, unordered)
     }
 }

@@ -11,9 +11,9 @@ ghost use Rattle.step_rules.specs.IsCore.{IsStepOf};
 ghost use Rattle.step_rules.specs.Requests.{last_begun};
 ghost use Rattle.step_rules.specs.Trace.{is_ok};
 ghost use Rattle.weaver_core.specs.Cores.{AreOf, AreSameMachines, MachinesDo};
-ghost use Rattle.weaver_core.specs.Splitting.{AreProgramsOf};
+ghost use Rattle.weaver_core.specs.Splitting.{AreAllByLog};
 ghost use Rattle.weaver_core.specs.declared.walks.Running.{Running};
-ghost use Rattle.weaver_core.specs.Walks.{AreMarksOf, IsChangeAt, IsLook, IsLookAt, IsOtherStep, IsRunningIn, begun_with};
+ghost use Rattle.weaver_core.specs.Walks.{IsChangeAt, IsLook, IsLookAt, IsOtherStep, IsRunningIn, begun_with};
 
 use crate::machines::Machines;
 use crate::staying::what_stays;
@@ -25,7 +25,6 @@ use report_rules::StepAnswer;
 use std::alloc::{AllocError, Global};
 use vector_stamp::Stamp;
 use weave_account::laws::requests_of_a_session_rise;
-use weave_data::Name;
 use weave_entries::laws::{begun_and_replied_are_decided, sessions_go_in_turn};
 
 /// Does a step. The sessions' values stay as the logs say. The one error is out of memory.
@@ -33,20 +32,19 @@ pub(crate) fn step_in(
     alloc: Global,
     script: &Script,
     machines: &mut Machines,
-    marks: &mut Vec<Option<Name>>,
     step: &Step,
 ) -> Result<StepAnswer, AllocError>
     requires are { AreOf script.now machines.old }
-    requires programs { AreProgramsOf script.now machines.old.state.account machines.old.values marks.old.items }
+    requires programs { AreAllByLog script.now machines.old.state.account machines.old.values }
     requires there { IsStepOf script.now step.now }
     ensures done { IfOk result (λ answer. MachinesDo script.now step.now machines.old machines.new answer) }
     ensures refused { OnErr result (AreSameMachines machines.old machines.new) }
-    ensures programs { AreProgramsOf script.now machines.new.state.account machines.new.values marks.new.items }
+    ensures programs { AreAllByLog script.now machines.new.state.account machines.new.values }
 {
     match *step {
-        Step::Begin { request } => begin_with(alloc, script, machines, marks, request),
-        Step::Visit { request } => visit_with(alloc, script, machines, marks, request),
-        Step::Reply { request } => reply_with(alloc, script, machines, marks, request),
+        Step::Begin { request } => begin_with(alloc, script, machines, request),
+        Step::Visit { request } => visit_with(alloc, script, machines, request),
+        Step::Reply { request } => reply_with(alloc, script, machines, request),
         Step::Judge { .. }
         | Step::Send { .. }
         | Step::Say { .. }
@@ -55,7 +53,7 @@ pub(crate) fn step_in(
         | Step::Deliver { .. }
         | Step::Apply { .. }
         | Step::Collect { .. }
-        | Step::Epoch { .. } => other_step(alloc, script, machines, marks, step),
+        | Step::Epoch { .. } => other_step(alloc, script, machines, step),
     }
 }
 
@@ -64,21 +62,19 @@ fn other_step(
     alloc: Global,
     script: &Script,
     machines: &mut Machines,
-    marks: &Vec<Option<Name>>,
     step: &Step,
 ) -> Result<StepAnswer, AllocError>
     requires are { AreOf script.now machines.old }
-    requires programs { AreProgramsOf script.now machines.old.state.account machines.old.values marks.now.items }
+    requires programs { AreAllByLog script.now machines.old.state.account machines.old.values }
     requires there { IsStepOf script.now step.now }
     requires other { IsOtherStep step.now }
     ensures done { IfOk result (λ answer. MachinesDo script.now step.now machines.old machines.new answer) }
     ensures refused { OnErr result (AreSameMachines machines.old machines.new) }
-    ensures programs { AreProgramsOf script.now machines.new.state.account machines.new.values marks.now.items }
+    ensures programs { AreAllByLog script.now machines.new.state.account machines.new.values }
 {
     what_stays();
     begun_and_replied_are_decided();
     sessions_go_in_turn();
-    let _ = marks;
     machines.step(alloc, script, step)
 }
 
@@ -87,19 +83,18 @@ fn begin_with(
     alloc: Global,
     script: &Script,
     machines: &mut Machines,
-    marks: &Vec<Option<Name>>,
     request: u32,
 ) -> Result<StepAnswer, AllocError>
     requires are { AreOf script.now machines.old }
-    requires programs { AreProgramsOf script.now machines.old.state.account machines.old.values marks.now.items }
+    requires programs { AreAllByLog script.now machines.old.state.account machines.old.values }
     requires there { request < length script.now.requests }
     ensures done { IfOk result (λ answer. MachinesDo script.now (step.Begin request) machines.old machines.new answer) }
     ensures refused { OnErr result (AreSameMachines machines.old machines.new) }
-    ensures programs { AreProgramsOf script.now machines.new.state.account machines.new.values marks.now.items }
+    ensures programs { AreAllByLog script.now machines.new.state.account machines.new.values }
 {
     match &script.requests.as_slice()[request as usize].work {
-        Work::Change(_) => begin_change(alloc, script, machines, marks, request),
-        Work::Look(program) => begin_program(alloc, script, machines, marks, request, program),
+        Work::Change(_) => begin_change(alloc, script, machines, request),
+        Work::Look(program) => begin_program(alloc, script, machines, request, program),
     }
 }
 
@@ -107,21 +102,19 @@ fn begin_change(
     alloc: Global,
     script: &Script,
     machines: &mut Machines,
-    marks: &Vec<Option<Name>>,
     request: u32,
 ) -> Result<StepAnswer, AllocError>
     requires are { AreOf script.now machines.old }
-    requires programs { AreProgramsOf script.now machines.old.state.account machines.old.values marks.now.items }
+    requires programs { AreAllByLog script.now machines.old.state.account machines.old.values }
     requires there { request < length script.now.requests }
     requires change { IsChangeAt script.now request }
     ensures done { IfOk result (λ answer. MachinesDo script.now (step.Begin request) machines.old machines.new answer) }
     ensures refused { OnErr result (AreSameMachines machines.old machines.new) }
-    ensures programs { AreProgramsOf script.now machines.new.state.account machines.new.values marks.now.items }
+    ensures programs { AreAllByLog script.now machines.new.state.account machines.new.values }
 {
     what_stays();
     begun_and_replied_are_decided();
     sessions_go_in_turn();
-    let _ = marks;
     machines.begin(alloc, script, request)
 }
 
@@ -129,17 +122,16 @@ fn begin_program(
     alloc: Global,
     script: &Script,
     machines: &mut Machines,
-    marks: &Vec<Option<Name>>,
     request: u32,
     program: &Program,
 ) -> Result<StepAnswer, AllocError>
     requires are { AreOf script.now machines.old }
-    requires programs { AreProgramsOf script.now machines.old.state.account machines.old.values marks.now.items }
+    requires programs { AreAllByLog script.now machines.old.state.account machines.old.values }
     requires there { request < length script.now.requests }
     requires look { IsLookAt script.now request program.now }
     ensures done { IfOk result (λ answer. MachinesDo script.now (step.Begin request) machines.old machines.new answer) }
     ensures refused { OnErr result (AreSameMachines machines.old machines.new) }
-    ensures programs { AreProgramsOf script.now machines.new.state.account machines.new.values marks.now.items }
+    ensures programs { AreAllByLog script.now machines.new.state.account machines.new.values }
 {
     what_stays();
     begun_and_replied_are_decided();
@@ -147,7 +139,6 @@ fn begin_program(
     sessions_go_in_turn();
     let walk = AnyProgram::new(alloc, program)?;
     let answer = machines.begin(alloc, script, request)?;
-    let _ = marks;
     if !is_done(&answer) {
         return Ok(answer);
     }
@@ -194,15 +185,14 @@ fn visit_with(
     alloc: Global,
     script: &Script,
     machines: &mut Machines,
-    marks: &mut Vec<Option<Name>>,
     request: u32,
 ) -> Result<StepAnswer, AllocError>
     requires are { AreOf script.now machines.old }
-    requires programs { AreProgramsOf script.now machines.old.state.account machines.old.values marks.old.items }
+    requires programs { AreAllByLog script.now machines.old.state.account machines.old.values }
     requires there { request < length script.now.requests }
     ensures done { IfOk result (λ answer. MachinesDo script.now (step.Visit request) machines.old machines.new answer) }
     ensures refused { OnErr result (AreSameMachines machines.old machines.new) }
-    ensures programs { AreProgramsOf script.now machines.new.state.account machines.new.values marks.new.items }
+    ensures programs { AreAllByLog script.now machines.new.state.account machines.new.values }
 {
     what_stays();
     begun_and_replied_are_decided();
@@ -213,7 +203,7 @@ fn visit_with(
     }
     let session = session_of(script, request);
     let mut running = machines.take(session);
-    let answer = visit_taken(alloc, script, machines, &mut running, marks, request);
+    let answer = visit_taken(alloc, script, machines, &mut running, request);
     machines.put(session, running);
     answer
 }
@@ -223,22 +213,20 @@ fn visit_taken(
     script: &Script,
     machines: &mut Machines,
     running: &mut Option<Running>,
-    marks: &mut Vec<Option<Name>>,
     request: u32,
 ) -> Result<StepAnswer, AllocError>
     requires are { AreOf script.now machines.old }
     requires runs { ForSome running.old (IsRunningIn script.now machines.old.state.account request) }
     requires idle { running.old ≡ None → answer_of script.now machines.old.state (step.Visit request) ≡ answer.Idle }
-    requires marks { AreMarksOf machines.old.state.account marks.old.items }
     ensures done { IfOk result (λ answer. MachinesDo script.now (step.Visit request) machines.old machines.new answer) }
     ensures refused { OnErr result (machines.new ≡ machines.old) }
     ensures values { machines.new.values ≡ machines.old.values }
     ensures runs { ForSome running.new (IsRunningIn script.now machines.new.state.account request) }
-    ensures same { option_map (λ (one : Running). one.stamp) running.new ≡ option_map (λ (one : Running). one.stamp) running.old }
-    ensures marks { AreMarksOf machines.new.state.account marks.new.items }
+    ensures same { option_map (λ (one : Running). one.stamp) running.new
+        ≡ option_map (λ (one : Running). one.stamp) running.old }
 {
     match running {
-        Some(running) => machines.visit(alloc, script, request, running, marks),
+        Some(running) => machines.visit(alloc, script, request, running),
         None => Ok(StepAnswer::Idle),
     }
 }
@@ -248,19 +236,18 @@ fn reply_with(
     alloc: Global,
     script: &Script,
     machines: &mut Machines,
-    marks: &Vec<Option<Name>>,
     request: u32,
 ) -> Result<StepAnswer, AllocError>
     requires are { AreOf script.now machines.old }
-    requires programs { AreProgramsOf script.now machines.old.state.account machines.old.values marks.now.items }
+    requires programs { AreAllByLog script.now machines.old.state.account machines.old.values }
     requires there { request < length script.now.requests }
     ensures done { IfOk result (λ answer. MachinesDo script.now (step.Reply request) machines.old machines.new answer) }
     ensures refused { OnErr result (AreSameMachines machines.old machines.new) }
-    ensures programs { AreProgramsOf script.now machines.new.state.account machines.new.values marks.now.items }
+    ensures programs { AreAllByLog script.now machines.new.state.account machines.new.values }
 {
     match &script.requests.as_slice()[request as usize].work {
-        Work::Change(_) => reply_to_change(alloc, script, machines, marks, request),
-        Work::Look(_) => reply_to_program(alloc, script, machines, marks, request),
+        Work::Change(_) => reply_to_change(alloc, script, machines, request),
+        Work::Look(_) => reply_to_program(alloc, script, machines, request),
     }
 }
 
@@ -268,22 +255,20 @@ fn reply_to_change(
     alloc: Global,
     script: &Script,
     machines: &mut Machines,
-    marks: &Vec<Option<Name>>,
     request: u32,
 ) -> Result<StepAnswer, AllocError>
     requires are { AreOf script.now machines.old }
-    requires programs { AreProgramsOf script.now machines.old.state.account machines.old.values marks.now.items }
+    requires programs { AreAllByLog script.now machines.old.state.account machines.old.values }
     requires there { request < length script.now.requests }
     requires change { IsChangeAt script.now request }
     ensures done { IfOk result (λ answer. MachinesDo script.now (step.Reply request) machines.old machines.new answer) }
     ensures refused { OnErr result (AreSameMachines machines.old machines.new) }
-    ensures programs { AreProgramsOf script.now machines.new.state.account machines.new.values marks.now.items }
+    ensures programs { AreAllByLog script.now machines.new.state.account machines.new.values }
 {
     what_stays();
     begun_and_replied_are_decided();
     requests_of_a_session_rise();
     sessions_go_in_turn();
-    let _ = marks;
     machines.reply(alloc, script, request)
 }
 
@@ -291,22 +276,20 @@ fn reply_to_program(
     alloc: Global,
     script: &Script,
     machines: &mut Machines,
-    marks: &Vec<Option<Name>>,
     request: u32,
 ) -> Result<StepAnswer, AllocError>
     requires are { AreOf script.now machines.old }
-    requires programs { AreProgramsOf script.now machines.old.state.account machines.old.values marks.now.items }
+    requires programs { AreAllByLog script.now machines.old.state.account machines.old.values }
     requires there { request < length script.now.requests }
     requires look { IsLook script.now request }
     ensures done { IfOk result (λ answer. MachinesDo script.now (step.Reply request) machines.old machines.new answer) }
     ensures refused { OnErr result (AreSameMachines machines.old machines.new) }
-    ensures programs { AreProgramsOf script.now machines.new.state.account machines.new.values marks.now.items }
+    ensures programs { AreAllByLog script.now machines.new.state.account machines.new.values }
 {
     what_stays();
     begun_and_replied_are_decided();
     order_of_reads_is_free();
     requests_of_a_session_rise();
     sessions_go_in_turn();
-    let _ = marks;
     machines.finish(alloc, script, request)
 }

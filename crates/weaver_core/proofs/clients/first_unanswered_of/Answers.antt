@@ -1,4 +1,3 @@
-use Rattle.std.proofs.Common.{◌≡◌, length}
 use Rattle.weaver_core.proofs.Tables.{read-at}
 use Rattle.weaver_core.proofs.clients.first_unanswered_of.Goals as goal
 

@@ -3,7 +3,6 @@ use Rattle.weaver_core.proofs.staying.what_stays.Goals as goal
 pub returns-clause-stay : goal.returns-clause-stay
 returns-clause-stay c = record {
   same_reads = c.facts_stay_true.ensures.same_reads;
-  pairs = c.facts_stay_true.ensures.pairs;
   replied = c.finished_exactly_if_replied.ensures;
   ends = c.requests_end.ensures.begun;
   rise = c.requests_of_a_session_rise.ensures.rise;
@@ -12,7 +11,6 @@ returns-clause-stay c = record {
   replied_first = c.sessions_go_in_turn.ensures.replied;
   begun_tested = c.begun_and_replied_are_decided.ensures.begun;
   replied_tested = c.begun_and_replied_are_decided.ensures.replied;
-  there = c.oracle_entries_are_a_judges.ensures.there;
 }
 
 pub returns-clause-core : goal.returns-clause-core

@@ -1,4 +1,4 @@
-use Rattle.std.proofs.Common.{◌≡◌, ℕ, true, List, Option, Some, refl, sym, ap, subst, ◌∙◌}
+use Rattle.std.proofs.Common.{◌≡◌, Option, Some, refl, sym, ap, subst, ◌∙◌}
 use Rattle.vector_stamp.specs.declared.clock.Stamp.{Stamp}
 use Rattle.program_defs.specs.Works.{is_look}
 use Rattle.program_defs.specs.declared.script.Step.TheVariants.{Begin}
@@ -7,17 +7,14 @@ use Rattle.weave_account.specs.IsAccount.{IsAccount}
 use Rattle.step_rules.specs.CoreState.{CoreState}
 use Rattle.step_rules.specs.Entries.{stamp_to_begin}
 use Rattle.step_rules.specs.Requests.{last_begun}
-use Rattle.step_rules.specs.Trace.{is_ok}
 use Rattle.weaver_core.specs.Clients.{with_running}
 use Rattle.weaver_core.specs.Cores.{MachinesView}
-use Rattle.weaver_core.specs.Splitting.{AreAllByLog, AreProgramsOf}
+use Rattle.weaver_core.specs.Splitting.{AreAllByLog}
 use Rattle.weaver_core.specs.Walks.{IsRunningIn, begun_with}
 use Rattle.weaver_core.specs.declared.walks.Running.{Running}
 use Rattle.weaver_core.proofs.AfterSteps.{not-begun-values, program-values}
 use Rattle.weaver_core.proofs.BegunProgram.{begun-account, last-is, ok-is, running-begun}
-use Rattle.weaver_core.proofs.MarksAfter.{marks-same}
-use Rattle.weaver_core.proofs.SameMachines.{are-same, did-after, refused-same}
-use Rattle.weaver_core.proofs.StepStays.{begin-oracle}
+use Rattle.weaver_core.proofs.SameMachines.{did-after}
 use Rattle.weaver_core.proofs.VisitAfter.{account-after}
 use Rattle.weaver_core.proofs.Waiting.{session-laws}
 use Rattle.weaver_core.proofs.stepping.begin_program.Goals as goal
@@ -38,7 +35,6 @@ returns-clause-programs c =
     let request = look.request in
     let answer = c.in_ok-answer.answer in
     let did = c.in_ok-answer.ensures.done in
-    let marks = c.args.marks.now.items in
     let walk = c.in_ok-walk.walk in
     let stay = c.what_stays.ensures.stay in
     let core = c.what_stays.ensures.core in
@@ -54,12 +50,9 @@ returns-clause-programs c =
     ∙ last-is stay (session-laws stay) stay.rise stay.among script old are r c.args.program.now look ok is-next in
     let begun-is : c.begun_with.result ≡ Some running = c.begun_with.ensures ∙ ap (λ (o : Option Stamp). begun_with r o walk) last in
     let runs = subst (λ (all : Account). IsRunningIn script all r running) (sym is) (running-begun stay (session-laws stay) stay.rise stay.among script old are r c.args.program.now look ok is-next walk c.in_ok-walk.ensures.program c.in_ok-walk.ensures.reads) in
-    let values = program-values stay core script old new are r request look.request_is old.values c.requires.programs.values_are answer did (ap is_look look.work_is) done running refl runs in
+    let values = program-values stay core script old new are r request look.request_is old.values c.requires.programs answer did (ap is_look look.work_is) done running refl runs in
     let path : with_running old.values request.session (Some running) ≡ with_running new.values c.session_of-session.result c.begun_with.result = λ i. with_running (sym c.in_ok-answer.ensures.values i) (sym s-is i) (sym begun-is i) in
-    subst (λ (m : MachinesView). AreProgramsOf script m.state.account m.values marks) (sym c.put.ensures) (record {
-      values_are = subst (AreAllByLog script new.state.account) path values;
-      marks_are = marks-same stay core script old new are (Begin r) c.requires.there answer did (begin-oracle script old.state are.limits are.core.account are.core.sessions r request look.request_is) marks c.requires.programs.marks_are;
-    })
+    subst (λ (m : MachinesView). AreAllByLog script m.state.account m.values) (sym c.put.ensures) (subst (AreAllByLog script new.state.account) path values)
 
 -- a begin that was not done
 pub returns-then-not-is_done-clause-programs : goal.returns-then-not-is_done-clause-programs
@@ -74,10 +67,6 @@ returns-then-not-is_done-clause-programs c =
     let did = c.in_ok-answer.ensures.done in
     let stay = c.what_stays.ensures.stay in
     let core = c.what_stays.ensures.core in
-    let marks = c.args.marks.now.items in
     let fails = sym c.is_done.ensures ∙ c.if-not-is_done.true in
-    record {
-      values_are = subst (AreAllByLog script new.state.account) (sym c.in_ok-answer.ensures.values)
-          (not-begun-values stay core script old new are r look.request look.request_is old.values c.requires.programs.values_are answer did fails);
-      marks_are = marks-same stay core script old new are (Begin r) c.requires.there answer did (begin-oracle script old.state are.limits are.core.account are.core.sessions r look.request look.request_is) marks c.requires.programs.marks_are;
-    }
+    subst (AreAllByLog script new.state.account) (sym c.in_ok-answer.ensures.values)
+    (not-begun-values stay core script old new are r look.request look.request_is old.values c.requires.programs answer did fails)

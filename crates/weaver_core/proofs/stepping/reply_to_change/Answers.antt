@@ -3,12 +3,10 @@ use Rattle.program_defs.specs.Works.{is_change}
 use Rattle.program_defs.specs.declared.script.Step.TheVariants.{Reply}
 use Rattle.report_rules.specs.declared.report.StepAnswer.{StepAnswer}
 use Rattle.weaver_core.specs.Cores.{MachinesDo, MachinesView, RepliesToChange}
-use Rattle.weaver_core.specs.Splitting.{AreProgramsOf}
+use Rattle.weaver_core.specs.Splitting.{AreAllByLog}
 use Rattle.weaver_core.proofs.AfterSteps.{change-replied}
-use Rattle.weaver_core.proofs.MarksAfter.{marks-same}
 use Rattle.weaver_core.proofs.Results.{either_two}
 use Rattle.weaver_core.proofs.SameMachines.{refused-same}
-use Rattle.weaver_core.proofs.StepStays.{reply-oracle}
 use Rattle.weaver_core.proofs.stepping.reply_to_change.Goals as goal
 
 pub returns-clause-refused : goal.returns-clause-refused
@@ -20,16 +18,11 @@ returns-clause-programs c =
     let r = c.args.request in
     let old = c.args.machines.now in
     let new = c.reply.new.self in
-    let marks = c.args.marks.now.items in
     let are = c.requires.are in
     let change = c.requires.change in
     let stay = c.what_stays.ensures.stay in
     let core = c.what_stays.ensures.core in
-    let oracle = reply-oracle script old.state are.limits are.core.account are.core.sessions r change.request change.request_is in
-    either_two c.reply.result (MachinesDo script (Reply r) old new) (RepliesToChange script r old new) (new ≡ old) (AreProgramsOf script new.state.account new.values marks)
-    (λ (a : StepAnswer) did replies. record {
-      values_are = change-replied stay core script old new are r change.request change.request_is old.values c.requires.programs.values_are a did (ap is_change change.work_is) (replies change.request change.request_is);
-      marks_are = marks-same stay core script old new are (Reply r) c.requires.there a did oracle marks c.requires.programs.marks_are;
-    })
-    (λ is. subst (λ (m : MachinesView). AreProgramsOf script m.state.account m.values marks) (sym is) c.requires.programs)
+    either_two c.reply.result (MachinesDo script (Reply r) old new) (RepliesToChange script r old new) (new ≡ old) (AreAllByLog script new.state.account new.values)
+    (λ (a : StepAnswer) did replies. change-replied stay core script old new are r change.request change.request_is old.values c.requires.programs a did (ap is_change change.work_is) (replies change.request change.request_is))
+    (λ is. subst (λ (m : MachinesView). AreAllByLog script m.state.account m.values) (sym is) c.requires.programs)
     c.reply.ensures.done c.reply.ensures.values c.reply.ensures.refused

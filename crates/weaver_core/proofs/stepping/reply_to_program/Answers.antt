@@ -2,12 +2,10 @@ use Rattle.std.proofs.Common.{◌≡◌, refl, subst, sym}
 use Rattle.program_defs.specs.declared.script.Step.TheVariants.{Reply}
 use Rattle.report_rules.specs.declared.report.StepAnswer.{StepAnswer}
 use Rattle.weaver_core.specs.Cores.{MachinesDo, MachinesView}
-use Rattle.weaver_core.specs.Splitting.{AreProgramsOf, RepliesToProgram}
+use Rattle.weaver_core.specs.Splitting.{AreAllByLog, RepliesToProgram}
 use Rattle.weaver_core.proofs.AfterSteps.{program-replied}
-use Rattle.weaver_core.proofs.MarksAfter.{marks-same}
 use Rattle.weaver_core.proofs.Results.{either_two}
 use Rattle.weaver_core.proofs.SameMachines.{refused-same}
-use Rattle.weaver_core.proofs.StepStays.{reply-oracle}
 use Rattle.weaver_core.proofs.stepping.reply_to_program.Goals as goal
 
 pub returns-clause-refused : goal.returns-clause-refused
@@ -19,16 +17,11 @@ returns-clause-programs c =
     let r = c.args.request in
     let old = c.args.machines.now in
     let new = c.finish.new.self in
-    let marks = c.args.marks.now.items in
     let are = c.requires.are in
     let look = c.requires.look in
     let stay = c.what_stays.ensures.stay in
     let core = c.what_stays.ensures.core in
-    let oracle = reply-oracle script old.state are.limits are.core.account are.core.sessions r look.look.request look.look.request_is in
-    either_two c.finish.result (MachinesDo script (Reply r) old new) (RepliesToProgram script r old new) (new ≡ old) (AreProgramsOf script new.state.account new.values marks)
-    (λ (a : StepAnswer) did replies. record {
-      values_are = program-replied stay core script old new are r look.look.request look.look.request_is old.values c.requires.programs.values_are a did look.program look.look.work_is c.order_of_reads_is_free.ensures.answer refl (replies look.look.request look.look.request_is);
-      marks_are = marks-same stay core script old new are (Reply r) c.requires.there a did oracle marks c.requires.programs.marks_are;
-    })
-    (λ is. subst (λ (m : MachinesView). AreProgramsOf script m.state.account m.values marks) (sym is) c.requires.programs)
+    either_two c.finish.result (MachinesDo script (Reply r) old new) (RepliesToProgram script r old new) (new ≡ old) (AreAllByLog script new.state.account new.values)
+    (λ (a : StepAnswer) did replies. program-replied stay core script old new are r look.look.request look.look.request_is old.values c.requires.programs a did look.program look.look.work_is c.order_of_reads_is_free.ensures.answer refl (replies look.look.request look.look.request_is))
+    (λ is. subst (λ (m : MachinesView). AreAllByLog script m.state.account m.values) (sym is) c.requires.programs)
     c.finish.ensures.done c.finish.ensures.values c.finish.ensures.refused

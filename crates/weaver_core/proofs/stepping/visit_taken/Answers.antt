@@ -1,4 +1,4 @@
-use Rattle.std.proofs.Common.{◌≡◌, None, Option, Some, refl, sym, ap, subst, ◌∙◌}
+use Rattle.std.proofs.Common.{refl}
 use Rattle.program_defs.specs.declared.script.Step.TheVariants.{Visit}
 use Rattle.report_rules.specs.declared.report.StepAnswer.TheVariants.{Idle}
 use Rattle.weaver_core.proofs.Resting.{rests}

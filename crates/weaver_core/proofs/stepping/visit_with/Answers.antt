@@ -1,14 +1,13 @@
-use Rattle.std.proofs.Common.{◌≡◌, ◌<◌, ℕ, true, List, length, Option, None, Some, refl, sym, ap, subst, ◌∙◌, arith}
-use Rattle.program_defs.specs.declared.script.Request.{Request}
+use Rattle.std.proofs.Common.{◌≡◌, ◌<◌, List, length, None, Some, sym, ap, subst, ◌∙◌, arith}
 use Rattle.program_defs.specs.declared.script.Step.TheVariants.{Visit}
 use Rattle.report_rules.specs.declared.report.StepAnswer.{StepAnswer}
 use Rattle.step_rules.specs.Answers.{answer_of}
 use Rattle.step_rules.specs.CoreState.{CoreState}
 use Rattle.step_rules.specs.IsCore.{IsCore}
-use Rattle.weaver_core.specs.Walks.{AreMarksOf, IsRunningIn}
+use Rattle.weaver_core.specs.Walks.{IsRunningIn}
 use Rattle.weaver_core.specs.Clients.{SessionValues, values_at, with_running}
 use Rattle.weaver_core.specs.Cores.{AreSameMachines, MachinesDo, MachinesView}
-use Rattle.weaver_core.specs.Splitting.{AreAllByLog, AreProgramsOf}
+use Rattle.weaver_core.specs.Splitting.{AreAllByLog}
 use Rattle.weaver_core.proofs.Idle.{closed-done}
 use Rattle.weaver_core.proofs.Resting.{some-one}
 use Rattle.weaver_core.proofs.Results.{either_way, if_ok_map, on_err_map}
@@ -39,7 +38,7 @@ visit_taken-answer-requires-clause-runs c running here =
     let s-is = c.session_of-session.ensures one.0 one.1 in
     let was : (values_at m.values one.0.session).running ≡ Some running = ap (λ n. (values_at m.values n).running) (sym s-is) ∙ sym c.take-running.ensures.taken ∙ here in
     subst (λ (state : CoreState). IsRunningIn script state.account r running) (sym (ap (λ (v : MachinesView). v.state) c.take-running.ensures.left))
-    (runs-here c.what_stays.ensures.stay c.what_stays.ensures.core script m c.requires.are c.requires.programs.values_are r one.0 one.1 waits running was)
+    (runs-here c.what_stays.ensures.stay c.what_stays.ensures.core script m c.requires.are c.requires.programs r one.0 one.1 waits running was)
 
 pub visit_taken-answer-requires-clause-idle : goal.visit_taken-answer-requires-clause-idle
 visit_taken-answer-requires-clause-idle c none =
@@ -50,10 +49,7 @@ visit_taken-answer-requires-clause-idle c none =
     let waits = sym (c.is_open.ensures one.0 one.1) ∙ c.if-not-is_open.false in
     let s-is = c.session_of-session.ensures one.0 one.1 in
     ap (λ (state : CoreState). answer_of script state (Visit r)) (ap (λ (v : MachinesView). v.state) c.take-running.ensures.left)
-    ∙ idle-here c.what_stays.ensures.stay c.what_stays.ensures.core script m c.requires.are c.requires.programs.values_are r one.0 one.1 waits (ap (λ n. (values_at m.values n).running) (sym s-is) ∙ sym c.take-running.ensures.taken ∙ none)
-
-pub visit_taken-answer-requires-clause-marks : goal.visit_taken-answer-requires-clause-marks
-visit_taken-answer-requires-clause-marks c = subst (λ (state : CoreState). AreMarksOf state.account c.args.marks.now.items) (sym (ap (λ (v : MachinesView). v.state) c.take-running.ensures.left)) c.requires.programs.marks_are
+    ∙ idle-here c.what_stays.ensures.stay c.what_stays.ensures.core script m c.requires.are c.requires.programs r one.0 one.1 waits (ap (λ n. (values_at m.values n).running) (sym s-is) ∙ sym c.take-running.ensures.taken ∙ none)
 
 same-but : (m with-it : MachinesView) (values : List SessionValues) → with-it ≡ record m { values = values } → AreSameMachines m with-it
 same-but m with-it values is = record { frame = ap (λ (v : MachinesView). v.frame) is; state = ap (λ (v : MachinesView). v.state) is }
@@ -92,9 +88,8 @@ returns-clause-programs c =
     let s = c.session_of-session.result in
     let was = c.take-running.result in
     let is = c.visit_taken-answer.new.running in
-    let marks = c.visit_taken-answer.new.marks.items in
     let are = c.requires.are in
-    let all = c.requires.programs.values_are in
+    let all = c.requires.programs in
     let stay = c.what_stays.ensures.stay in
     let core = c.what_stays.ensures.core in
     let one = some-one script r c.requires.there in
@@ -111,10 +106,7 @@ returns-clause-programs c =
     (λ (a : StepAnswer) did. left-done stay core script m are all r one.0 one.1 waits visited was is was-is stamps runs a (did-before script (Visit r) m taken visited a (same-but m taken _ c.take-running.ensures.left) did))
     (λ same. left-refused stay core script m are all r one.0 one.1 waits visited was is was-is stamps runs (ap (λ (v : MachinesView). v.state) same ∙ ap (λ (v : MachinesView). v.state) c.take-running.ensures.left))
     c.visit_taken-answer.ensures.done c.visit_taken-answer.ensures.refused in
-    subst (λ (v : MachinesView). AreProgramsOf script v.state.account v.values marks) (sym c.put.ensures) (record {
-      values_are = subst (AreAllByLog script visited.state.account) (sym values) left;
-      marks_are = c.visit_taken-answer.ensures.marks;
-    })
+    subst (λ (v : MachinesView). AreAllByLog script v.state.account v.values) (sym c.put.ensures) (subst (AreAllByLog script visited.state.account) (sym values) left)
 
 -- the session is still there
 pub put-requires : goal.put-requires

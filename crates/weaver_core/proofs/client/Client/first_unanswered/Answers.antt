@@ -1,7 +1,6 @@
-use Rattle.std.proofs.Common.{◌≡◌, false, true, sym, ap, subst, ◌∙◌}
-use Rattle.weave_entries.specs.SessionReplay.{SessionState, next_request, session_of}
-use Rattle.weaver_core.specs.Clients.{last_request, unanswered_in}
-use Rattle.weaver_core.proofs.Turns.{SessionLaws}
+use Rattle.std.proofs.Common.{sym, ap, ◌∙◌}
+use Rattle.weave_entries.specs.SessionReplay.{SessionState, next_request}
+use Rattle.weaver_core.specs.Clients.{last_request}
 use Rattle.weaver_core.proofs.Unanswered.{unanswered-last, unanswered-next}
 use Rattle.weaver_core.proofs.client.Client.first_unanswered.Goals as goal
 

@@ -1,7 +1,5 @@
-use Rattle.std.proofs.Common.{sym, ap, subst, ◌∙◌}
-use Rattle.std.specs.Prelude.{Contains}
-use Rattle.weave_entries.specs.SessionReplay.{RepliesToLast, session_of}
-use Rattle.weaver_core.specs.Clients.{is_open_in, open_by_last}
+use Rattle.std.proofs.Common.{sym, ap, ◌∙◌}
+use Rattle.weaver_core.specs.Clients.{open_by_last}
 use Rattle.weaver_core.proofs.Turns.{SessionLaws, open-by-last, open-is-last, place-of}
 use Rattle.weaver_core.proofs.client.Client.is_open.Goals as goal
 

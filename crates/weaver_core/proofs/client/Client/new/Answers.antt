@@ -1,4 +1,4 @@
-use Rattle.std.proofs.Common.{List, [], ap, sym, subst, ◌∙◌}
+use Rattle.std.proofs.Common.{List, [], sym, subst}
 use Rattle.weave_entries.specs.SessionReplay.{SessionState}
 use Rattle.weaver_core.specs.Clients.{IsClientOf}
 use Rattle.weave_entries.specs.declared.session_log.SessionEntry.{SessionEntry}

@@ -1,8 +1,6 @@
-use Rattle.std.proofs.Common.{◌≡◌, sym, ap, subst, ◌∙◌}
-use Rattle.std.specs.Prelude.{Contains}
-use Rattle.weave_entries.specs.SessionReplay.{SessionState, session_of}
-use Rattle.weaver_core.specs.Clients.{IsInTurn, begun_by_last, standing_of}
-use Rattle.weaver_core.specs.declared.client.Standing.TheVariants.{Twice, Early, Next}
+use Rattle.std.proofs.Common.{sym, ap, subst, ◌∙◌}
+use Rattle.weave_entries.specs.SessionReplay.{SessionState}
+use Rattle.weaver_core.specs.Clients.{IsInTurn, begun_by_last}
 use Rattle.weaver_core.proofs.Turns.{SessionLaws, begun-by-last, place-of, stands-early, stands-next, stands-twice}
 use Rattle.weaver_core.proofs.client.Client.standing.Goals as goal
 

@@ -1,4 +1,4 @@
-use Rattle.std.proofs.Common.{List, sym, ap, subst, ◌∙◌}
+use Rattle.std.proofs.Common.{sym, ap, subst, ◌∙◌}
 use Rattle.weaver_core.specs.Clients.{AreNumbered, ClientTable, IsFirstUnanswered, least_unanswered}
 use Rattle.weaver_core.proofs.AtClients.{table_of}
 use Rattle.weaver_core.proofs.Unanswered.{first-of}

@@ -1,4 +1,4 @@
-use Rattle.std.proofs.Common.{◌≡◌, ◌∙◌, sym, subst}
+use Rattle.std.proofs.Common.{◌∙◌, sym, subst}
 use Rattle.program_defs.specs.declared.script.Step.TheVariants.{Collect}
 use Rattle.report_rules.specs.declared.report.StepAnswer.TheVariants.{Ok}
 use Rattle.weaver_core.specs.Cores.{MachinesDo, MachinesView, MayDo, machines_of}

@@ -1,4 +1,4 @@
-use Rattle.std.proofs.Common.{◌≡◌, ◌<◌, ℕ, List, Contains, Some, length, get_or, sym, ap, subst, ◌∙◌, arith}
+use Rattle.std.proofs.Common.{List, Contains, get_or, sym, ap, subst, ◌∙◌, arith}
 use Rattle.program_defs.specs.declared.script.Request.{Request}
 use Rattle.weave_account.specs.Account.{session_log}
 use Rattle.weaver_core.specs.Clients.{is_open_in}

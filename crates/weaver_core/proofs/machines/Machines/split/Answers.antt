@@ -1,4 +1,4 @@
-use Rattle.std.proofs.Common.{◌≡◌, refl, sym, ap, subst, ◌∙◌}
+use Rattle.std.proofs.Common.{refl, sym, ap, subst, ◌∙◌}
 use Rattle.weaver_core.specs.Cores.{AreOf, MachinesView}
 use Rattle.weaver_core.proofs.Parts.{parts-for, state-of-parts}
 use Rattle.weaver_core.proofs.machines.Machines.split.Goals as goal

@@ -1,12 +1,11 @@
 use Rattle.std.proofs.Common.{List, length, sym, ap, subst, ◌∙◌, arith}
 use Rattle.std.specs.Prelude.{slice_get}
-use Rattle.std.specs.List.{range_with_len}
 use Rattle.program_defs.specs.declared.script.Request.{Request}
 use Rattle.report_rules.specs.declared.report.Report.{Report}
 use Rattle.weave_account.specs.Report.{MatchesAccount}
 use Rattle.weaver_core.specs.Cores.{AreOf, MachinesView}
 use Rattle.weaver_core.specs.Reporting.{AreRequestsReplies}
-use Rattle.weaver_core.specs.Splitting.{AreProgramsOf}
+use Rattle.weaver_core.specs.Splitting.{AreAllByLog}
 use Rattle.weaver_core.proofs.Results.{if_ok_two}
 use Rattle.weaver_core.proofs.Turns.{SessionLaws}
 use Rattle.weaver_core.proofs.Unordered.{ReportLaws, homes, many, settled-homes, replies-rise, unordered-matches}
@@ -24,6 +23,7 @@ report_of-requires c =
       settled = c.stamps_are_begun.ensures.settled;
       work = c.judgements_are_of_requests.ensures.work;
       begun = c.judgements_are_of_requests.ensures.begun;
+      whole = c.updates_are_commits.ensures.whole;
       same_stamps = c.equality_is_decided.ensures.stamps;
       placed = c.placed_pairs_are_the_pairs.ensures;
     } in
@@ -33,7 +33,7 @@ report_of-requires c =
     let stamps = c.as_slice.result.now in
     let noted = c.as_slice.ensures.value ∙ c.in_ok-stamps.ensures in
     let most = are.limits.few_requests in
-    let kept = subst (λ (v : MachinesView). AreProgramsOf script v.state.account v.values c.args.marks.now) (sym c.self.view_is) c.requires.programs in
+    let kept = subst (λ (v : MachinesView). AreAllByLog script v.state.account v.values) (sym c.self.view_is) c.requires.programs in
     let stay = c.what_stays.ensures.stay in
     record {
       few = omega (arith, most, requests);
@@ -41,7 +41,7 @@ report_of-requires c =
           let below = are.limits.sessions r request (ap (λ (all : List Request). slice_get all r) (sym c.as_slice-requests.ensures) ∙ at) in
           let all = are.core.sessions in
           omega (arith, below, all);
-      rising = replies-rise laws sessions script m.gates m.store m.oracle m.shards m.clients m.notices.items are (length c.as_slice-requests.result.now) requests stamps noted stay kept.values_are;
+      rising = replies-rise laws sessions script m.gates m.store m.oracle m.shards m.clients m.notices.items are (length c.as_slice-requests.result.now) requests stamps noted stay kept;
       many = many laws sessions script m.gates m.store m.oracle m.shards m.clients m.notices.items are (length c.as_slice-requests.result.now) requests stamps noted ∙ sym requests;
       begun = homes laws sessions script m.gates m.store m.oracle m.shards m.clients m.notices.items are (length c.as_slice-requests.result.now) requests stamps noted;
       settled = settled-homes laws sessions script m.gates m.store m.oracle m.shards m.clients m.notices.items are (length c.as_slice-requests.result.now) requests stamps noted;
@@ -57,6 +57,7 @@ returns-clause-matches c =
       settled = c.stamps_are_begun.ensures.settled;
       work = c.judgements_are_of_requests.ensures.work;
       begun = c.judgements_are_of_requests.ensures.begun;
+      whole = c.updates_are_commits.ensures.whole;
       same_stamps = c.equality_is_decided.ensures.stamps;
       placed = c.placed_pairs_are_the_pairs.ensures;
     } in
@@ -65,10 +66,10 @@ returns-clause-matches c =
     let requests = ap length c.as_slice-requests.ensures in
     let stamps = c.as_slice.result.now in
     let noted = c.as_slice.ensures.value ∙ c.in_ok-stamps.ensures in
-    let kept = subst (λ (v : MachinesView). AreProgramsOf script v.state.account v.values c.args.marks.now) (sym c.self.view_is) c.requires.programs in
+    let kept = subst (λ (v : MachinesView). AreAllByLog script v.state.account v.values) (sym c.self.view_is) c.requires.programs in
     let stay = c.what_stays.ensures.stay in
     if_ok_two c.report_of.result _ _ _
     (λ (report : Report) replies pairs. subst (λ (v : MachinesView). MatchesAccount script v.state.account report) c.self.view_is
-    (unordered-matches laws sessions script m.gates m.store m.oracle m.shards m.clients m.notices.items are (length c.as_slice-requests.result.now) requests stamps noted stay c.args.marks.now kept report
+    (unordered-matches laws sessions script m.gates m.store m.oracle m.shards m.clients m.notices.items are (length c.as_slice-requests.result.now) requests stamps noted stay kept report
     (subst (λ (all : List Request). AreRequestsReplies m.store m.clients.values stamps all (length all) report.replies) c.as_slice-requests.ensures replies) pairs))
     c.report_of.ensures.replies c.report_of.ensures.pairs

@@ -7,11 +7,10 @@ use Rattle.program_defs.specs.declared.script.Step.TheVariants.{Visit}
 use Rattle.report_rules.specs.declared.report.StepAnswer.{StepAnswer}
 use Rattle.weaver_core.specs.Cores.{AreOf, MachinesDo, MachinesView, machines_of}
 use Rattle.weaver_core.specs.Visiting.{AreSameLogs, Visits}
-use Rattle.weaver_core.specs.Walks.{AreMarksOf, IsRunningIn}
+use Rattle.weaver_core.specs.Walks.{IsRunningIn}
 use Rattle.weaver_core.proofs.CanVisit.{CanVisitLaws, RunLaws, can-be-visited}
 use Rattle.weaver_core.proofs.VisitDone.{visit-done, visit-stamp}
-use Rattle.weaver_core.proofs.Visited.{MarkLaws}
-use Rattle.weaver_core.proofs.VisitAfter.{account-after, marks-if-same, request-below, runs-after, runs-if-same, visit-marks}
+use Rattle.weaver_core.proofs.VisitAfter.{account-after, request-below, runs-after, runs-if-same}
 use Rattle.weaver_core.proofs.Results.{either_way, if_ok_map, on_err_map}
 use Rattle.weaver_core.proofs.machines.Machines.visit.Goals as goal
 
@@ -22,7 +21,6 @@ visit_next-requires c =
     let running = c.args.running.now in
     let are = subst (AreOf script) (sym c.self.view_is) c.requires.are in
     let runs = subst (λ (v : MachinesView). IsRunningIn script v.state.account c.args.request running) (sym c.self.view_is) c.requires.runs in
-    let marks = subst (λ (v : MachinesView). AreMarksOf v.state.account c.args.marks.now.items) (sym c.self.view_is) c.requires.marks in
     let laws : CanVisitLaws = record {
       coherent = c.begun_stamps_are_coherent.ensures.coherent;
       differ = c.begun_stamps_are_coherent.ensures.differ;
@@ -39,7 +37,6 @@ visit_next-requires c =
     record {
       some = are.limits.some_shard;
       many = are.core.account.shards.as_many;
-      marked = marks.few;
       ready = λ (v : Name) next. can-be-visited run script (machines_of m.gates m.store m.oracle m.shards m.clients m.notices.items).state.account are.limits are.core.account c.args.request runs.look.request runs.look.request_is runs.program runs.look.work_is
           (record { author = runs.runs.author; request = c.args.request; stamp = running.stamp }) runs.runs.begun runs.runs.runs laws v;
     }
@@ -55,17 +52,15 @@ returns-clause-done c =
     let new = c.visit_next.new.shards in
     let oracle = c.visit_next.new.oracle in
     let now = c.visit_next.new.running in
-    let marks = c.args.marks.now.items in
-    let then_marks = c.visit_next.new.marks.items in
-    if_ok_map c.visit_next.result (Visits script.shards m.shards new m.oracle oracle running now marks then_marks) _
+    if_ok_map c.visit_next.result (Visits script.shards m.shards new m.oracle oracle running now) _
     (λ (a : StepAnswer) did. subst (λ (v : MachinesView). MachinesDo script (Visit r) v (machines_of m.gates m.store oracle new m.clients m.notices.items) a) c.self.view_is
-    (visit-done script m.gates m.store m.oracle m.shards m.clients m.notices.items are r running runs c.order_of_reads_is_free.ensures.next c.visit_next.ensures.asks are.frame.senders new oracle now marks then_marks a did))
+    (visit-done script m.gates m.store m.oracle m.shards m.clients m.notices.items are r running runs c.order_of_reads_is_free.ensures.next c.visit_next.ensures.asks are.frame.senders new oracle now a did))
     c.visit_next.ensures.visits
 
 pub returns-clause-refused : goal.returns-clause-refused
 returns-clause-refused c =
     let m = c.self.inside in
-    on_err_map c.visit_next.result (AreSameLogs m.shards c.visit_next.new.shards m.oracle c.visit_next.new.oracle c.args.running.now c.visit_next.new.running c.args.marks.now.items c.visit_next.new.marks.items) _
+    on_err_map c.visit_next.result (AreSameLogs m.shards c.visit_next.new.shards m.oracle c.visit_next.new.oracle c.args.running.now c.visit_next.new.running) _
     (λ same. (λ i. machines_of m.gates m.store (same.oracle_is i) (same.shards_are i) m.clients m.notices.items) ∙ c.self.view_is)
     c.visit_next.ensures.refused
 
@@ -85,45 +80,14 @@ returns-clause-runs c =
     let new = c.visit_next.new.shards in
     let oracle = c.visit_next.new.oracle in
     let now = c.visit_next.new.running in
-    let marks = c.args.marks.now.items in
-    let then_marks = c.visit_next.new.marks.items in
     let asks = c.visit_next.ensures.asks in
     let free = c.order_of_reads_is_free.ensures.next in
-    let stay = c.what_stays.ensures.stay in
-    let mark-laws : MarkLaws = record { whole = c.updates_are_commits.ensures.whole; begun = c.judgements_are_of_requests.ensures.begun } in
-    either_way c.visit_next.result (Visits script.shards m.shards new m.oracle oracle running now marks then_marks) (AreSameLogs m.shards new m.oracle oracle running now marks then_marks) _
+    either_way c.visit_next.result (Visits script.shards m.shards new m.oracle oracle running now) (AreSameLogs m.shards new m.oracle oracle running now) _
     (λ (a : StepAnswer) did.
-    let done = visit-done script m.gates m.store m.oracle m.shards m.clients m.notices.items are r running runs free asks are.frame.senders new oracle now marks then_marks a did in
+    let done = visit-done script m.gates m.store m.oracle m.shards m.clients m.notices.items are r running runs free asks are.frame.senders new oracle now a did in
     let after = account-after c.what_stays.ensures.core script old (machines_of m.gates m.store oracle new m.clients m.notices.items) (Visit r) are (request-below script r runs.look.request runs.look.request_is) a done in
-    runs-after stay mark-laws free script m.gates m.store m.oracle m.shards m.clients m.notices.items are r running runs asks new oracle now marks then_marks after.0 after.1 (λ v. shard-there script v (length m.shards.logs) are.core.account.shards.as_many are.limits.some_shard) a did)
-    (λ same. runs-if-same stay mark-laws free script m.gates m.store m.oracle m.shards m.clients m.notices.items are r running runs asks new oracle now marks then_marks same)
-    c.visit_next.ensures.visits c.visit_next.ensures.refused
-
-pub returns-clause-marks : goal.returns-clause-marks
-returns-clause-marks c =
-    let m = c.self.inside in
-    let script = c.args.script.now in
-    let r = c.args.request in
-    let running = c.args.running.now in
-    let are = subst (AreOf script) (sym c.self.view_is) c.requires.are in
-    let runs = subst (λ (v : MachinesView). IsRunningIn script v.state.account r running) (sym c.self.view_is) c.requires.runs in
-    let old = machines_of m.gates m.store m.oracle m.shards m.clients m.notices.items in
-    let new = c.visit_next.new.shards in
-    let oracle = c.visit_next.new.oracle in
-    let now = c.visit_next.new.running in
-    let marks = c.args.marks.now.items in
-    let then_marks = c.visit_next.new.marks.items in
-    let asks = c.visit_next.ensures.asks in
-    let free = c.order_of_reads_is_free.ensures.next in
-    let stay = c.what_stays.ensures.stay in
-    let mark-laws : MarkLaws = record { whole = c.updates_are_commits.ensures.whole; begun = c.judgements_are_of_requests.ensures.begun } in
-    let marked = subst (λ (v : MachinesView). AreMarksOf v.state.account marks) (sym c.self.view_is) c.requires.marks in
-    either_way c.visit_next.result (Visits script.shards m.shards new m.oracle oracle running now marks then_marks) (AreSameLogs m.shards new m.oracle oracle running now marks then_marks) _
-    (λ (a : StepAnswer) did.
-    let done = visit-done script m.gates m.store m.oracle m.shards m.clients m.notices.items are r running runs free asks are.frame.senders new oracle now marks then_marks a did in
-    let after = account-after c.what_stays.ensures.core script old (machines_of m.gates m.store oracle new m.clients m.notices.items) (Visit r) are (request-below script r runs.look.request runs.look.request_is) a done in
-    visit-marks stay mark-laws free script m.gates m.store m.oracle m.shards m.clients m.notices.items are r running runs asks new oracle now marks then_marks after.0 after.1 (λ v. shard-there script v (length m.shards.logs) are.core.account.shards.as_many are.limits.some_shard) marked a did)
-    (λ same. marks-if-same stay mark-laws free script m.gates m.store m.oracle m.shards m.clients m.notices.items are r running runs asks new oracle now marks then_marks same marked)
+    runs-after free script m.gates m.store m.oracle m.shards m.clients m.notices.items are r running runs asks new oracle now after.0 (λ v. shard-there script v (length m.shards.logs) are.core.account.shards.as_many are.limits.some_shard) a did)
+    (λ same. runs-if-same free script m.gates m.store m.oracle m.shards m.clients m.notices.items are r running runs asks new oracle now same)
     c.visit_next.ensures.visits c.visit_next.ensures.refused
 
 pub returns-clause-same : goal.returns-clause-same
@@ -134,9 +98,7 @@ returns-clause-same c =
     let new = c.visit_next.new.shards in
     let oracle = c.visit_next.new.oracle in
     let now = c.visit_next.new.running in
-    let marks = c.args.marks.now.items in
-    let then_marks = c.visit_next.new.marks.items in
-    either_way c.visit_next.result (Visits script.shards m.shards new m.oracle oracle running now marks then_marks) (AreSameLogs m.shards new m.oracle oracle running now marks then_marks) _
-    (λ (a : StepAnswer) did. visit-stamp script.shards m.shards new m.oracle oracle running now marks then_marks a did)
+    either_way c.visit_next.result (Visits script.shards m.shards new m.oracle oracle running now) (AreSameLogs m.shards new m.oracle oracle running now) _
+    (λ (a : StepAnswer) did. visit-stamp script.shards m.shards new m.oracle oracle running now a did)
     (λ same. same.program.stamp_is)
     c.visit_next.ensures.visits c.visit_next.ensures.refused

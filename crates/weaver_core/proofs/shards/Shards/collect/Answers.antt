@@ -1,7 +1,6 @@
-use Rattle.std.proofs.Common.{◌≡◌, ◌<◌, length, sym, ap, subst, ◌∙◌}
+use Rattle.std.proofs.Common.{◌≡◌, ◌<◌, length, sym, subst, ◌∙◌}
 use Rattle.std.specs.Prelude.{slice_set}
 use Rattle.shard_node.specs.Shards.{AddsEntry}
-use Rattle.weave_entries.specs.declared.shard_log.ShardDeed.{ShardDeed}
 use Rattle.weave_entries.specs.declared.shard_log.ShardDeed.TheVariants.{Collected}
 use Rattle.weave_entries.specs.ShardReplay.{bound_of}
 use Rattle.weaver_core.specs.ShardTable.{AddsAt, ShardTable, log_at, log_of}

@@ -1,4 +1,4 @@
-use Rattle.std.proofs.Common.{◌≡◌, ℕ, ◌<◌, ◌≤◌, IsTrue, length, Some, false, sym, ap, subst}
+use Rattle.std.proofs.Common.{◌≡◌, ℕ, ◌<◌, ◌≤◌, IsTrue, length, Some, false, subst}
 use Rattle.program_defs.specs.declared.script.Request.{Request}
 use Rattle.report_rules.specs.Lookups.{request_at}
 use Rattle.step_rules.specs.Requests.{has_reply}

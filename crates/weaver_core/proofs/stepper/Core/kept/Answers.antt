@@ -1,4 +1,4 @@
-use Rattle.std.proofs.Common.{◌≡◌, ◌<◌, sym, ap, subst, ◌∙◌}
+use Rattle.std.proofs.Common.{◌<◌, sym, ap, subst, ◌∙◌}
 use Rattle.weave_entries.specs.ShardReplay.{kept_of}
 use Rattle.weave_account.specs.Account.{shard_log}
 use Rattle.weaver_core.specs.Cores.{CoreView}

@@ -1,22 +1,15 @@
-use Rattle.std.proofs.Common.{◌≡◌, List, Option, sym, subst, ◌∙◌}
-use Rattle.weave_data.specs.declared.name.Name.{Name}
+use Rattle.std.proofs.Common.{◌≡◌, sym, subst, ◌∙◌}
 use Rattle.report_rules.specs.PrintedOrder.{IsPrintedOrder}
 use Rattle.report_rules.specs.declared.report.Report.{Report}
 use Rattle.weave_account.specs.Report.{IsReportOfAccount}
 use Rattle.weaver_core.specs.Cores.{CoreView}
-use Rattle.weaver_core.specs.Splitting.{AreProgramsOf}
 use Rattle.weaver_core.proofs.Results.{if_ok_map, if_ok_three}
 use Rattle.weaver_core.proofs.SameReport.{report-same}
 use Rattle.weaver_core.proofs.stepper.Core.report.Goals as goal
 
 -- the machines are those of the script, by the invariant
 pub unordered-requires : goal.unordered-requires
-unordered-requires c =
-    let m = c.self.inside in
-    record {
-      are = c.self.invariant.0;
-      programs = subst (λ (marks : List (Option Name)). AreProgramsOf m.script m.machines.state.account m.machines.values marks) (sym c.as_slice.ensures.value) c.self.invariant.1;
-    }
+unordered-requires c = record { are = c.self.invariant.0; programs = c.self.invariant.1 }
 
 -- the printed order may be asked for
 pub with_order-requires : goal.with_order-requires

@@ -1,6 +1,5 @@
-use Rattle.std.proofs.Common.{◌≡◌, sym, ap, subst, ◌∙◌}
+use Rattle.std.proofs.Common.{sym, ap, subst, ◌∙◌}
 use Rattle.program_defs.specs.declared.script.Script.{Script}
-use Rattle.weaver_core.specs.Clients.{AreNumbered}
 use Rattle.weaver_core.specs.Cores.{AreOf, CoreView}
 use Rattle.weaver_core.specs.Splitting.{AreAllByLog, ArePartsFor, NoneInFlight}
 use Rattle.weaver_core.proofs.Parts.{can-be-joined}
@@ -23,7 +22,7 @@ returns-clause-joined c =
     let script-is = sym c.split.ensures.script in
     can-be-joined m.machines split
     (subst (λ (one : Script). AreOf one m.machines) script-is c.self.invariant.0)
-    (subst (λ (one : Script). AreAllByLog one m.machines.state.account m.machines.values) script-is c.self.invariant.1.values_are)
+    (subst (λ (one : Script). AreAllByLog one m.machines.state.account m.machines.values) script-is c.self.invariant.1)
     (subst (λ (v : CoreView). NoneInFlight v.state.account) (sym c.self.view_is) c.requires.landed)
     c.split.ensures.state
     (subst (λ (one : Script). ArePartsFor one split) script-is c.split.ensures.parts)

@@ -1,4 +1,4 @@
-use Rattle.std.proofs.Common.{◌≡◌, ap, refl, subst, sym, ◌∙◌}
+use Rattle.std.proofs.Common.{ap, refl, subst, sym, ◌∙◌}
 use Rattle.report_rules.specs.declared.report.StepAnswer.{StepAnswer}
 use Rattle.step_rules.specs.IsCore.{IsStepOf}
 use Rattle.step_rules.specs.CoreState.{CoreState}

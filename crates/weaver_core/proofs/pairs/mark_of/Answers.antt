@@ -1,0 +1,15 @@
+use Rattle.std.proofs.Common.{◌<◌, Contains, List, subst, sym}
+use Rattle.proof_base.proofs.Members.{has_head, has_tail}
+use Rattle.vector_stamp.specs.declared.clock.Stamp.{Stamp}
+use Rattle.weave_entries.specs.OracleReplay.{settled_entry}
+use Rattle.weaver_core.proofs.pairs.mark_of.Goals as goal
+
+pub request_at-requires : goal.request_at-requires
+request_at-requires c = λ (event : Stamp) h.
+    let entry = settled_entry c.args.entry.now in
+    c.requires event (has_tail entry.later entry.earlier event (subst (λ (events : List Stamp). Contains events event) c.earlier_in.ensures h))
+
+pub request_of-requires : goal.request_of-requires
+request_of-requires c =
+    let entry = settled_entry c.args.entry.now in
+    subst (λ (event : Stamp). event.home < 8) (sym c.later_in.ensures) (c.requires entry.later (has_head entry.later entry.earlier))
