@@ -2,33 +2,14 @@
 use denote.Builtin.{u32}
 use denote.Param.Send.{IsSend, sendable, recorded_send, struct_send}
 use denote.Struct.Declared.{shape}
-use Rattle.std.proofs.Crossing.{Vec-send}
 use Rattle.std.proofs.option.Option.TheSendSync as maybe
-use Rattle.chronicle.proofs.Shares.{pass_send, pass_send_within}
-use Rattle.chronicle.specs.contracts.pass.Pass as pass
 use Rattle.vector_stamp.proofs.clock.Clock.TheSendSync as clock
 use Rattle.vector_stamp.proofs.clock.Stamp.TheSendSync as stamp
-use Rattle.weave_entries.specs.contracts.gate_log.GateDeed as gate_deed
-use Rattle.weave_entries.specs.contracts.oracle_log.OracleDeed as oracle_deed
-use Rattle.weave_entries.specs.contracts.shard_log.ShardDeed as shard_deed
-use Rattle.weave_entries.specs.contracts.store_log.StoreDeed as store_deed
-use Rattle.weaver_locks.specs.contracts.hand.Hand as hand
+use Rattle.weaver_locks.proofs.Crossing.{hand_send_within}
 use Rattle.locks_rows.proofs.worker.Step.TheSendSync as step
 use Rattle.locks_rows.proofs.worker.Walk.TheSendSync as walk
 use Rattle.locks_rows.specs.contracts.worker.Player as player
 use Rattle.locks_rows.specs.contracts.worker.Worker as worker
-
-hand_send_within : IsSend hand.the_field.row
-hand_send_within = struct_send (shape hand.the_type) (
-  Vec-send (pass.the_row gate_deed.the_row) (pass_send gate_deed.the_row),
-  (
-    pass_send_within store_deed.the_row,
-    (
-      pass_send_within oracle_deed.the_row,
-      (Vec-send (pass.the_row shard_deed.the_row) (pass_send shard_deed.the_row), tt),
-    ),
-  ),
-)
 
 worker_send_within : IsSend worker.the_field.row
 worker_send_within = struct_send (shape worker.the_type) (

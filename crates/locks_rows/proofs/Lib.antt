@@ -5,4 +5,5 @@ pub mod Made
 pub mod Opening
 pub mod Read
 pub mod Sending
+pub mod SentRun
 pub mod Table

@@ -1,5 +1,5 @@
-//! The tests of machines behind locks: each call of `Shared` with its answers, and what is left when it is closed. There
-//! is nothing but tests here, and the types of what a hand's next calls rely on, which definitions name.
+//! The tests of machines behind locks: each call of `Shared` with its answers, and what is left when it is closed.
+//! There is nothing but tests here, and the types of what a hand's next calls rely on, which definitions name.
 #![tactic(auto)]
 
 #[cfg(test)]
@@ -10,6 +10,8 @@ mod calls;
 mod calls_at_gates;
 #[cfg(test)]
 mod calls_at_shards;
+#[cfg(test)]
+mod dropping;
 #[cfg(test)]
 mod log_texts;
 #[cfg(test)]

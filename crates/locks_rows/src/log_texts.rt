@@ -4,6 +4,7 @@ use crate::texts::{
     write_clock, write_message, write_names, write_ops, write_stamp, write_stamp_word,
     write_verdict,
 };
+use shard_node::Shard;
 use std::alloc::{AllocError, Global};
 use vector_stamp::Stamp;
 use weave_entries::{
@@ -28,6 +29,13 @@ pub fn text_of_logs(alloc: Global, closed: &Closed) -> Result<Vec<u8>, AllocErro
         text.push(b"shard\n")?;
         write_shard_log(&mut text, shard.log())?;
     }
+    Ok(text.into_bytes())
+}
+
+/// The log of a shard alone.
+pub fn text_of_shard(alloc: Global, shard: &Shard) -> Result<Vec<u8>, AllocError> {
+    let mut text = Text::new(alloc);
+    write_shard_log(&mut text, shard.log())?;
     Ok(text.into_bytes())
 }
 

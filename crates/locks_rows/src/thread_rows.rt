@@ -37,6 +37,7 @@ fn check_judgements(rt: &impl Abort, log: &[StoreEntry], turns: u32) {
             assert!(rt; *number == commits);
         }
     }
+    assert!(rt; commits > 0);
     let end = turns.saturating_mul(4);
     assert!(rt;
         next == [

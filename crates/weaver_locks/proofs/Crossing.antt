@@ -41,8 +41,9 @@ use Rattle.weaver_locks.specs.contracts.hand.Hand as hand
 use Rattle.weaver_locks.specs.contracts.rooms.Rooms as rooms
 use Rattle.weaver_locks.specs.contracts.shared.Shared as shared
 
-pub hand_send : IsSend hand.the_row
-hand_send = recorded_send hand.the_field.row _ _ hand.the_type.to_one (struct_send (shape hand.the_type) (
+-- a hand within a struct
+pub hand_send_within : IsSend hand.the_field.row
+hand_send_within = struct_send (shape hand.the_type) (
   Vec-send (pass.the_row gate_deed.the_row) (pass_send gate_deed.the_row),
   (
     pass_send_within store_deed.the_row,
@@ -51,7 +52,10 @@ hand_send = recorded_send hand.the_field.row _ _ hand.the_type.to_one (struct_se
       (Vec-send (pass.the_row shard_deed.the_row) (pass_send shard_deed.the_row), tt),
     ),
   ),
-))
+)
+
+pub hand_send : IsSend hand.the_row
+hand_send = recorded_send hand.the_field.row _ _ hand.the_type.to_one hand_send_within
 
 abbrev list_of : RattleType → RattleType
 list_of T = vec.the_row T global.the_row handle.ghosts

@@ -31,6 +31,9 @@ pub mod ClosingRows
 pub mod ClosedLogs
 pub mod ClosedRun
 pub mod OwnLogs
+pub mod EachLog
+pub mod OwnVisits
+pub mod ByNumber
 pub mod Closings
 pub mod Preparations
 pub mod Dealings

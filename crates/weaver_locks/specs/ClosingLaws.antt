@@ -27,7 +27,8 @@ MoreIsSeen = (gates next_gates : List (List (ℕ × GateDeed))) (store next_stor
     → ((home : ℕ) → IsBeginningOf (slice_index_or gates home []) (slice_index_or next_gates home []))
     → IsBeginningOf store next_store → IsBeginningOf oracle next_oracle
     → ((shard : ℕ) → IsBeginningOf (slice_index_or shards shard []) (slice_index_or next_shards shard []))
-    → IsWithin (account_of_logs gates store oracle shards) (account_of_logs next_gates next_store next_oracle next_shards)
+    → IsWithin (account_of_logs gates store oracle shards)
+    (account_of_logs next_gates next_store next_oracle next_shards)
 
 -- the laws that the closed logs stand on
 pub record ClosingLaws : Type 0 where

@@ -2,9 +2,10 @@
 use Rattle.std.specs.Prelude.{◌≡◌, ◌≢◌, ◌⊎◌, ℕ, All, Contains, Some}
 use Rattle.vector_stamp.specs.declared.clock.Stamp.{Stamp}
 use Rattle.vector_stamp.specs.Order.{id_of}
-use Rattle.weave_entries.specs.GateReplay.{Begun, begun_in, flight_of, txs_of}
+use Rattle.weave_entries.specs.GateReplay.{Begun, begun_in, flight_of, programs_of, txs_of}
 use Rattle.weave_entries.specs.StoreRule.{stamps_judged}
 use Rattle.weave_account.specs.Account.{gate_log}
+use Rattle.seen_logs.specs.Seen.{VisitsOwnPrograms, since}
 use Rattle.weaver_locks.specs.declared.hand.Hand.{Hand}
 use Rattle.weaver_locks.specs.declared.shared.Shared.{Shared}
 use Rattle.weaver_locks.specs.Hands.{hand_number, made_by, seen_by}
@@ -33,3 +34,13 @@ pub record MayHear (shared : Shared) (hand : Hand) (stamp : Stamp) : Type 0 wher
   pub stamp_is : begun.stamp ≡ stamp
   pub there : Contains (begun_in (gate_log (made_by hand) home)) begun
       ⊎ Contains (begun_in (gate_log (start_of shared) home)) begun
+
+-- the hand began this program at the gatekeeper since the start
+abbrev pub HasBegunProgram : Shared → Hand → ℕ → ℕ → Stamp → Type 0
+HasBegunProgram shared hand home request stamp =
+    Contains (programs_of (since (gate_log (start_of shared) home) (gate_log (seen_by hand) home)))
+    (record { author = hand_number hand; request = request; stamp = stamp })
+
+-- the hand's visits since the start are of programs that it began itself
+abbrev pub VisitsItsOwnPrograms : Shared → Hand → Type 0
+VisitsItsOwnPrograms shared hand = VisitsOwnPrograms (hand_number hand) (start_of shared) (seen_by hand)

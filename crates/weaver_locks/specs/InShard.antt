@@ -46,7 +46,8 @@ pub record IsInShard (shared : Shared) (old now : Hand) (shard : ℕ) (held : He
   pub entry : log_at_entry held ≡ shard_pairs (machine_of held).shard.log
   pub own_is : (p : _) → entries_of (hand_number old) (shard_pairs (machine_of held).shard.log)
       ≡ own (slice_index_or old.shards.items shard p)
-  pub found : (p : _) → IsPrefix (seen (slice_index_or old.shards.items shard p)) (shard_pairs (machine_of held).shard.log)
+  pub found : (p : _)
+      → IsPrefix (seen (slice_index_or old.shards.items shard p)) (shard_pairs (machine_of held).shard.log)
   pub place : (machine_of held).shard.number ≡ shard
   pub gate_count : (machine_of held).shard.gates ≡ length shared.gates.items
   pub shard_count : (machine_of held).shards ≡ length shared.shards.items
@@ -69,7 +70,8 @@ pub record DoesInShard (shared : Shared) (old : Hand) (shard : ℕ) (gates : Lis
   pub asked_for : (next : Account) → shard_log next shard ≡ before ++ added
       → (entry : OracleEntry) → Contains asked entry → IsAskedAsSeen next entry
   pub found : (p : _) → IsPrefix (seen (slice_index_or old.shards.items shard p)) (shard_pairs before)
-  pub own_is : (p : _) → entries_of (hand_number old) (shard_pairs before) ≡ own (slice_index_or old.shards.items shard p)
+  pub own_is : (p : _)
+      → entries_of (hand_number old) (shard_pairs before) ≡ own (slice_index_or old.shards.items shard p)
   pub added_by : (entry : ShardEntry) → Contains added entry → entry.author ≡ hand_number old
   pub gates_legal : AreGateLogs (length shared.shards.items) (gates_seen gates)
   pub store_legal : IsStoreLog (store_entries (seen store))

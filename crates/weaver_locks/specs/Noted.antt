@@ -48,8 +48,8 @@ pub record FitLocks (locks : Locks) (machines : Machines) : Type 0 where
   pub gate_count : vec_len machines.gates ≡ length locks.gates.items
   pub gates : AllFit (λ (n : NotedGate). gate.frame_of n.gate n.notes) (λ n. map gate_pair n.gate.log) locks.gates.items
       machines.gates.items
-  pub store_frame : (machines.store.shards ∷ []) ∷ lock_noted machines.store.oracle ∷ map lock_noted machines.store.gates
-      ≡ (lock_of locks.store).frame
+  pub store_frame : (machines.store.shards ∷ [])
+      ∷ lock_noted machines.store.oracle ∷ map lock_noted machines.store.gates ≡ (lock_of locks.store).frame
   pub store_log : map store_pair machines.store.store ≡ (lock_of locks.store).start
   pub oracle_frame : (machines.oracle.shards ∷ []) ∷ map lock_noted machines.oracle.gates ≡ (lock_of locks.oracle).frame
   pub oracle_log : map oracle_pair machines.oracle.oracle ≡ (lock_of locks.oracle).start

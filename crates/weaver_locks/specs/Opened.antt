@@ -71,12 +71,14 @@ pub record AreOpened (locks : Locks) (gates : List GateView) (store : List Store
   pub gate_locks : (k : ℕ) (c : Chronicle NotedGate GateDeed) (g : GateView) → k < length locks.gates.items
       → BeginsAs (lock_of (slice_index_or locks.gates.items k c)) (passes_of locks)
       (frame_for_gate locks (slice_index_or gates k g)) (map gate_pair (slice_index_or gates k g).log)
-  pub store_lock : BeginsAs (lock_of locks.store) (passes_of locks) (frame_for_store locks (length shards)) (map store_pair store)
+  pub store_lock : BeginsAs (lock_of locks.store) (passes_of locks) (frame_for_store locks (length shards))
+      (map store_pair store)
   pub oracle_lock : BeginsAs (lock_of locks.oracle) (passes_of locks) (frame_for_oracle locks (length shards))
       (map oracle_pair oracle)
   pub shard_locks : (k : ℕ) (c : Chronicle NotedShard ShardDeed) (s : ShardView) → k < length locks.shards.items
       → BeginsAs (lock_of (slice_index_or locks.shards.items k c)) (passes_of locks)
-      (frame_for_shard locks (length shards) (slice_index_or shards k s)) (map shard_pair (slice_index_or shards k s).log)
+      (frame_for_shard locks (length shards) (slice_index_or shards k s))
+      (map shard_pair (slice_index_or shards k s).log)
 
 -- each list has the first passes of its lock, in the order of their numbers
 pub record HaveFirst (count : ℕ) (locks : Locks) (passes : Rooms) : Type 0 where

@@ -91,7 +91,8 @@ pub(crate) fn note_all(
     ensures gate_notes { IfOk result (λ m. All (λ n. GateNotesStart locks.now n.notes) m.gates.items) }
     ensures store { IfOk result (λ m. m.store.store ≡ store) }
     ensures store_frame { IfOk result (λ m.
-        (m.store.shards ∷ []) ∷ lock_noted m.store.oracle ∷ map lock_noted m.store.gates ≡ frame_for_store locks.now count) }
+        (m.store.shards ∷ []) ∷ lock_noted m.store.oracle ∷ map lock_noted m.store.gates
+        ≡ frame_for_store locks.now count) }
     ensures oracle { IfOk result (λ m. m.oracle.oracle ≡ oracle) }
     ensures oracle_frame { IfOk result (λ m. (m.oracle.shards ∷ []) ∷ map lock_noted m.oracle.gates
         ≡ frame_for_oracle locks.now count) }

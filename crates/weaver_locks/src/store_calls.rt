@@ -19,8 +19,8 @@ use weave_account::laws::begun_stamps_are_coherent;
 use weave_entries::Verdict;
 
 impl Shared {
-    /// Judges a transaction, as the store does, over the oracle in a hold within the store's. The hand began it, and has
-    /// not had it judged: none of its own judgements has that stamp. It may wait.
+    /// Judges a transaction, as the store does, over the oracle in a hold within the store's. The hand began it, and
+    /// has not had it judged: none of its own judgements has that stamp. It may wait.
     pub fn commit<R: Wait>(
         &self,
         rt: &R,
