@@ -1,5 +1,5 @@
 -- A message that was pulled has arrived: now, or earlier as the same message.
-use Rattle.std.proofs.Common.{◌≡◌, inl, inr, ℕ, ◌+◌, ◌<◌, ◌≤◌, ◌==◌, Bool, true, false, List, [], ◌∷◌, ◌++◌, length, map, Contains, Option, None, Some, Ok, refl, sym, ap, subst, ◌∙◌, arith}
+use Rattle.std.proofs.Common.{◌≡◌, inl, inr, ℕ, ◌+◌, ◌<◌, ◌≤◌, ◌==◌, Bool, true, false, List, [], ◌∷◌, ◌++◌, length, map, Contains, Option, None, Some, Ok, Err, refl, sym, ap, subst, ◌∙◌, arith}
 use Rattle.std.specs.Prelude.{is_some, ◌&&◌, if◌then◌else◌}
 use Rattle.std.specs.List.{find, range_with_len}
 use Rattle.std.specs.Option.{option_map}
@@ -27,7 +27,11 @@ use Rattle.weaver_locks.specs.declared.shared.Shared.{Shared}
 use Rattle.weaver_locks.specs.Hands.{hand_number, seen_by, IsHand}
 use Rattle.weaver_locks.specs.ShardHolds.{arrival_entries, shard_entry_by, WasAtShard}
 use Rattle.weaver_hands.specs.ArrivalLaws.{ArrivalLaws}
-use Rattle.weaver_hands.specs.Messages.{arrivals_after}
+use Rattle.weaver_hands.specs.declared.fault.HandFault.{HandFault}
+use Rattle.weaver_hands.specs.declared.fault.HandFault.TheVariants.{Busy, NotYet, Empty, Waits, Memory}
+use Rattle.weaver_hands.specs.declared.messages.Pulled.{Pulled}
+use Rattle.weaver_hands.specs.declared.messages.Pulled.TheVariants.{Unsent, Known, New}
+use Rattle.weaver_hands.specs.Messages.{arrivals_after, is_sent, pulled_by, BringsAs, Pulls, PullsAs}
 
 -- Numbers in a row
 
@@ -121,6 +125,30 @@ pub arrives_so : (F : Type 0) (shards : ℕ) (fetched new : Hand) (gate shard nu
 arrives_so F shards fetched new gate shard number message before answer was is =
     subst (λ (added : List ShardEntry). WasAtShard shards fetched new shard before added [])
     (by_answer F fetched (Arrived gate number message) (is_some (arrived_at gate number before)) answer is) was
+
+-- and whether the message was known
+pub brought_so : (known : Bool) (answer : Answer) → answer ≡ (if known then Repeat else Kept) → (shards : ℕ) (old new : Hand) (gate shard number : ℕ)
+    → (pulls : Pulls shards old new gate shard number) → is_some (arrived_at gate number pulls.before) ≡ known
+    → BringsAs shards old new gate shard number (Ok (pulled_by answer))
+brought_so true answer is shards old new gate shard number pulls known =
+    subst (λ (a : Answer). BringsAs shards old new gate shard number (Ok (pulled_by a))) (sym is) (record { pulls = pulls; known_is = known })
+brought_so false answer is shards old new gate shard number pulls known =
+    subst (λ (a : Answer). BringsAs shards old new gate shard number (Ok (pulled_by a))) (sym is) (record { pulls = pulls; known_is = known })
+
+-- what `bring` answers is what `pull` answers
+pub pulls_so : (shards : ℕ) (old new : Hand) (gate shard number : ℕ) (pulled : Pulled)
+    → BringsAs shards old new gate shard number (Ok pulled) → PullsAs shards old new gate shard number (Ok (is_sent pulled))
+pulls_so shards old new gate shard number Unsent found = found
+pulls_so shards old new gate shard number Known brings = brings.pulls
+pulls_so shards old new gate shard number New brings = brings.pulls
+
+pub refused_so : (shards : ℕ) (old new : Hand) (gate shard number : ℕ) (fault : HandFault)
+    → BringsAs shards old new gate shard number (Err fault) → PullsAs shards old new gate shard number (Err fault)
+refused_so shards old new gate shard number Memory none = none
+refused_so shards old new gate shard number Busy none = none
+refused_so shards old new gate shard number (NotYet other at) none = none
+refused_so shards old new gate shard number Empty none = none
+refused_so shards old new gate shard number (Waits vertex) none = none
 
 module _ (laws : ArrivalLaws) (shared : Shared) (fetched new : Hand) (is_new : IsHand shared new) (gate shard number : ℕ)
     (low : gate < length shared.gates.items) (message : Message) (before : List ShardEntry)

@@ -13,8 +13,12 @@ use Rattle.weaver_locks.specs.declared.hand.Hand.{Hand}
 use Rattle.weaver_locks.specs.GateHolds.{WasAtGate}
 use Rattle.weaver_locks.specs.Hands.{seen_by}
 use Rattle.weaver_locks.specs.ShardHolds.{shard_entry_by, WasAtShard}
+use Rattle.shard_queue.specs.declared.inbox.Arrival.{Arrival}
+use Rattle.shard_queue.specs.declared.inbox.Arrival.TheVariants as arrival
 use Rattle.weaver_hands.specs.declared.fault.HandFault.{HandFault}
 use Rattle.weaver_hands.specs.declared.fault.HandFault.TheVariants.{Busy, NotYet, Empty, Waits, Memory}
+use Rattle.weaver_hands.specs.declared.messages.Pulled.{Pulled}
+use Rattle.weaver_hands.specs.declared.messages.Pulled.TheVariants.{Unsent, Known, New}
 use Rattle.weaver_hands.specs.Leaving.{MadeNone}
 
 -- the entry of a message that arrives, if it has not arrived before
@@ -39,6 +43,33 @@ pub record FoundUnsent (shards : ℕ) (old new : Hand) (gate shard number : ℕ)
   pub sent : List GateEntry
   pub was : WasAtGate shards old new gate sent []
   pub unsent : sent_as number (channel_of shard sent) ≡ None
+
+-- what came of a message that the shard took in so
+abbrev pub pulled_by : Arrival → Pulled
+pulled_by arrival.Kept = New
+pulled_by arrival.Repeat = Known
+
+-- whether it was sent
+abbrev pub is_sent : Pulled → Bool
+is_sent Unsent = false
+is_sent Known = true
+is_sent New = true
+
+-- The message was brought so, and it had arrived before, or had not.
+pub record Brings (shards : ℕ) (old new : Hand) (gate shard number : ℕ) (known : Bool) : Type 0 where
+  pub pulls : Pulls shards old new gate shard number
+  pub known_is : is_some (arrived_at gate number pulls.before) ≡ known
+
+-- what `bring` answers
+abbrev pub BringsAs : ℕ → Hand → Hand → ℕ → ℕ → ℕ → Result Pulled HandFault → Type 0
+BringsAs shards old new gate shard number (Ok Unsent) = FoundUnsent shards old new gate shard number
+BringsAs shards old new gate shard number (Ok Known) = Brings shards old new gate shard number true
+BringsAs shards old new gate shard number (Ok New) = Brings shards old new gate shard number false
+BringsAs shards old new gate shard number (Err Memory) = MadeNone old new
+BringsAs shards old new gate shard number (Err Busy) = ⊥
+BringsAs shards old new gate shard number (Err (NotYet other at)) = ⊥
+BringsAs shards old new gate shard number (Err Empty) = ⊥
+BringsAs shards old new gate shard number (Err (Waits vertex)) = ⊥
 
 -- what `pull` answers
 abbrev pub PullsAs : ℕ → Hand → Hand → ℕ → ℕ → ℕ → Result Bool HandFault → Type 0

@@ -11,6 +11,7 @@ use Rattle.weave_entries.specs.declared.verdict.Verdict.{Verdict}
 use Rattle.weave_entries.specs.GateReplay.{begun_stamp, clock_of, flight_of}
 use Rattle.weaver_locks.specs.declared.hand.Hand.{Hand}
 use Rattle.weaver_locks.specs.GateHolds.{gate_entry_by, SendsIn, WasAtGate}
+use Rattle.weaver_locks.specs.Hands.{hand_number}
 use Rattle.weaver_locks.specs.StoreHolds.{JudgesIn}
 use Rattle.weaver_hands.specs.declared.fault.HandFault.{HandFault}
 use Rattle.weaver_hands.specs.declared.fault.HandFault.TheVariants.{Busy, NotYet, Empty, Waits, Memory}
@@ -31,6 +32,7 @@ pub record Transacts (shards : ℕ) (old new : Hand) (gate request : ℕ) (ops :
   pub judges : JudgesIn begun judged request stamp ops (Ok verdict)
   pub flying : List GateEntry
   pub sends : SendsIn shards judged new gate flying ops verdict (Ok tt)
+  pub flight_is : sends.flight ≡ record { author = hand_number old; request = request; stamp = stamp }
 
 -- It was begun in one hold, and then the hand was out of memory, and made no other entry.
 pub record StopsBegun (shards : ℕ) (old new : Hand) (gate request : ℕ) (last : Option Stamp) : Type 0 where

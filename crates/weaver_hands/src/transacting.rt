@@ -12,7 +12,9 @@ use std::alloc::Global;
 use std::sync::Wait;
 use vector_stamp::Stamp;
 use weave_entries::Verdict;
-use weaver_locks::laws::{begun_stamps_may_be_heard, calls_follow_each_other};
+use weaver_locks::laws::{
+    begun_stamps_may_be_heard, calls_follow_each_other, what_was_begun_goes_on,
+};
 use weaver_locks::{Hand, Shared};
 
 /// Begins a transaction at a gatekeeper after its session's last stamp, has it judged, and sends it. It may wait.
@@ -36,6 +38,7 @@ pub fn transact<R: Wait>(
 {
     begun_stamps_may_be_heard();
     calls_follow_each_other();
+    what_was_begun_goes_on();
     let stamp = match shared.begin_tx(rt, alloc, hand, gate, request, last) {
         Ok(stamp) => stamp,
         Err(fault) => return Err(of_gate(fault)),

@@ -1,44 +1,17 @@
-use Rattle.std.proofs.Common.{Err, sym, ap, subst, ◌∙◌}
-use Rattle.std.proofs.lemmas.Result.{err_from_is_err_and}
-use Rattle.std.specs.declared.alloc.AllocError.{AllocError}
+use Rattle.std.proofs.Common.{Ok, sym, subst}
+use Rattle.std.specs.Prelude.{Bool}
 use Rattle.weaver_locks.specs.Locks.{shard_count}
 use Rattle.weaver_hands.specs.Messages.{PullsAs}
-use Rattle.weaver_hands.proofs.Alone.{none-at-gate, none-at-shard, none-then-none}
-use Rattle.weaver_hands.proofs.Arrived.{arrives_so, has_arrived}
+use Rattle.weaver_hands.proofs.Arrived.{pulls_so, refused_so}
 use Rattle.weaver_hands.proofs.messages.pull.Goals as goal
 
-pub arrive-requires-clause-seen : goal.arrive-requires-clause-seen
-arrive-requires-clause-seen g c = c.in_ok-message.ensures.seen c.in-Some.message c.in-Some.is
+pub returns-in-Ok-clause-pulled : goal.returns-in-Ok-clause-pulled
+returns-in-Ok-clause-pulled g c =
+    subst (λ (b : Bool). PullsAs (shard_count c.args.shared.now) c.args.hand.now c.bring.new.hand c.args.gate c.args.shard c.args.number (Ok b))
+    (sym c.was_sent.ensures) (pulls_so (shard_count c.args.shared.now) c.args.hand.now c.bring.new.hand c.args.gate c.args.shard c.args.number
+    c.in-Ok.pulled c.in-Ok.ensures.brought)
 
-pub returns-in_err-arrive-clause-pulled : goal.returns-in_err-arrive-clause-pulled
-returns-in_err-arrive-clause-pulled g c =
-    let old = c.args.hand.now in
-    let fetched = c.fetch.new.hand in
-    let new = c.arrive.new.hand in
-    let first = c.in_ok-message.ensures.hold in
-    let second = c.in_err-arrive.ensures.hold in
-    let p = err_from_is_err_and c.from_residual-in_err-arrive.result c.from_residual-in_err-arrive.ensures.1 in
-    subst (PullsAs (shard_count c.args.shared.now) old new c.args.gate c.args.shard c.args.number) (sym (p.1 ∙ ap Err p.2))
-    (none-then-none c.more_is_seen.ensures.later old fetched new (none-at-gate old fetched c.args.gate first.0 first.1)
-    (none-at-shard fetched new c.args.shard second.0 second.1))
-
-pub returns-clause-pulled : goal.returns-clause-pulled
-returns-clause-pulled g c =
-    let shared = c.args.shared.now in
-    let fetched = c.fetch.new.hand in
-    let new = c.arrive.new.hand in
-    let message = c.in-Some.message in
-    let first = c.in_ok-message.ensures.hold in
-    let second = c.in_ok-arrive.ensures.hold in
-    let arrives = arrives_so AllocError (shard_count shared) fetched new c.args.gate c.args.shard c.args.number message second.0 _ second.1 second.2 in
-    record {
-      fetched = fetched;
-      sent = first.0;
-      fetches = first.1;
-      message = message;
-      message_is = sym first.2 ∙ c.in-Some.is;
-      before = second.0;
-      arrives = arrives;
-      arrived = has_arrived c.arrivals_keep_their_laws.ensures shared fetched new c.arrive.ensures.hand c.args.gate c.args.shard c.args.number
-          c.requires.gate message second.0 (c.in_ok-message.ensures.seen message c.in-Some.is) arrives;
-    }
+pub returns-in-Err-clause-pulled : goal.returns-in-Err-clause-pulled
+returns-in-Err-clause-pulled g c =
+    refused_so (shard_count c.args.shared.now) c.args.hand.now c.bring.new.hand c.args.gate c.args.shard c.args.number c.in-Err.fault
+    c.in-Err.ensures.brought

@@ -1,6 +1,8 @@
-use Rattle.std.proofs.Common.{◌≡◌, false, Option, Some, None, Err, inl, inr, refl, sym, ap, subst, ◌∙◌}
+use Rattle.std.proofs.Common.{◌≡◌, ℕ, false, Option, Some, None, Err, inl, inr, refl, sym, ap, subst, ◌∙◌}
 use Rattle.std.specs.Prelude.{is_some}
 use Rattle.std.proofs.lemmas.Result.{err_from_is_err_and}
+use Rattle.std.proofs.lemmas.Option.{same_Some}
+use Rattle.weave_account.specs.declared.account.Account.{Account}
 use Rattle.weaver_locks.specs.Locks.{shard_count}
 use Rattle.weaver_hands.specs.Transactions.{TransactsAs}
 use Rattle.weaver_hands.proofs.Refusals.{memory-left}
@@ -41,6 +43,12 @@ pub returns-in-Ok-send-clause-done : goal.returns-in-Ok-send-clause-done
 returns-in-Ok-send-clause-done g c =
     let hold = c.in-Ok.ensures.hold in
     let sent = c.in-Ok-send.ensures.hold in
+    let judges = c.in_ok-verdict.ensures.hold in
+    let flies = c.calls_follow_each_other.ensures.flies c.args.shared.now c.args.hand.now c.begin_tx.new.hand c.args.gate
+    c.args.request c.in-Ok.stamp hold.0 c.requires.hand c.begin_tx.ensures.hand c.requires.new hold.1 in
+    let still = c.what_was_begun_goes_on.ensures.flight c.args.shared.now c.begin_tx.new.hand c.commit.new.hand c.begin_tx.ensures.hand
+    c.commit.ensures.hand judges.was.number (ap (λ (a : Account). a.gates) judges.was.made) judges.was.more c.args.gate c.args.request
+    c.in-Ok.stamp flies in
     record {
       begun = c.begin_tx.new.hand;
       judged = c.commit.new.hand;
@@ -54,6 +62,9 @@ returns-in-Ok-send-clause-done g c =
       judges = c.in_ok-verdict.ensures.hold;
       flying = sent.0;
       sends = sent.1;
+      flight_is = same_Some _ _ (sym sent.1.as_seen ∙ still)
+          ∙ ap (λ (number : ℕ). record { author = number; request = c.args.request; stamp = c.in-Ok.stamp })
+          (judges.was.number ∙ hold.1.number);
     }
 
 pub returns-in_err-verdict-clause-done : goal.returns-in_err-verdict-clause-done
