@@ -1,5 +1,5 @@
 -- Calls at one gatekeeper, or at one shard.
-use Rattle.std.proofs.Common.{◌≡◌, ◌≢◌, ℕ, ◌+◌, ◌<◌, ◌≤◌, arith, inl, inr, true, false, List, [], ◌∷◌, ◌++◌, zero, suc, length, get_or, set, Contains, Result, Ok, Err, refl, sym, ap, ◌∙◌, subst, append_assoc}
+use Rattle.std.proofs.Common.{◌≡◌, ◌≢◌, ℕ, ◌+◌, ◌<◌, arith, inl, inr, true, false, List, [], ◌∷◌, ◌++◌, zero, suc, length, get_or, set, Result, Ok, Err, refl, sym, ap, ◌∙◌, subst, append_assoc}
 use Rattle.std.specs.Prelude.{Bool, OnOk}
 use Rattle.std.proofs.lemmas.Bool.{cases_lt}
 use Rattle.std.proofs.lemmas.List.{append-nil, get_or-set_other, get_or-set_same, length-map}
@@ -13,15 +13,17 @@ use Rattle.weave_account.specs.Account.{gate_log, shard_log}
 use Rattle.weaver_locks.specs.declared.hand.Hand.{Hand}
 use Rattle.weaver_locks.specs.declared.shared.Shared.{Shared}
 use Rattle.weaver_locks.specs.GateHolds.{gate_entry_by, WasAtGate}
-use Rattle.weaver_locks.specs.Hands.{made_by, seen_by, with_gate_entries, with_shard_entries, IsHand}
+use Rattle.weaver_locks.specs.Hands.{made_by, with_gate_entries, with_shard_entries, IsHand}
 use Rattle.weaver_locks.specs.Locks.{gate_count}
 use Rattle.weaver_locks.specs.ShardHolds.{WasAtShard}
 use Rattle.weaver_hands.specs.declared.fault.HandFault.{HandFault}
 use Rattle.weaver_hands.specs.declared.fault.HandFault.TheVariants.{Busy, NotYet, Empty, Waits, Memory}
 use Rattle.weaver_hands.specs.Leaving.{MadeNone}
-use Rattle.weaver_hands.specs.Messages.{AppliesAs, PullsAs}
+use Rattle.weaver_hands.specs.Messages.{is_sent, AppliesAs, BringsAs, PullsAs}
+use Rattle.weaver_hands.specs.declared.messages.Pulled.{Pulled}
+use Rattle.weaver_hands.specs.declared.messages.Pulled.TheVariants.{Unsent, Known, New}
 use Rattle.weaver_hands.specs.Telling.{NopsAs, Tells, TellsAs}
-use Rattle.weaver_workers.specs.Carrying.{Carries, CarriesAtGate, CarriesAtShard, HasHeard, HasHeardBelow, IsAtGate, IsAtNoOtherShard, IsAtShard, OnlyCarries}
+use Rattle.weaver_workers.specs.Carrying.{CarriesAtGate, CarriesAtShard, HasHeard, HasHeardBelow, IsAtGate, IsAtNoOtherShard, IsAtShard, OnlyCarries}
 use Rattle.weaver_workers.proofs.Carried.{onward}
 use Rattle.weaver_workers.proofs.Called.{applied, carries-on, carries-start, pulled, sent-empty, told}
 
@@ -151,6 +153,27 @@ module _ (shared : Shared) (old new : Hand) (is : IsHand shared new) where
     carries = record { hand = is; only = pulled shards old new gate shard number result pulls };
     there = pulled-there shards old new gate shard number result pulls;
   }
+
+  -- a message that was brought
+  abbrev sent-result : Result Pulled HandFault → Result Bool HandFault
+  sent-result (Ok one) = Ok (is_sent one)
+  sent-result (Err fault) = Err fault
+
+  as-pulled : (shards gate shard number : ℕ) (result : Result Pulled HandFault) → BringsAs shards old new gate shard number result
+      → PullsAs shards old new gate shard number (sent-result result)
+  as-pulled shards gate shard number (Ok Unsent) found = found
+  as-pulled shards gate shard number (Ok Known) brings = brings.pulls
+  as-pulled shards gate shard number (Ok New) brings = brings.pulls
+  as-pulled shards gate shard number (Err Memory) none = none
+  as-pulled shards gate shard number (Err Busy) none = none
+  as-pulled shards gate shard number (Err (NotYet other at)) none = none
+  as-pulled shards gate shard number (Err Empty) none = none
+  as-pulled shards gate shard number (Err (Waits vertex)) none = none
+
+  pub brings-there : (shards gate shard number : ℕ) (result : Result Pulled HandFault)
+      → BringsAs shards old new gate shard number result → CarriesAtShard shared shard old new
+  brings-there shards gate shard number result brings =
+      pulls-there shards gate shard number (sent-result result) (as-pulled shards gate shard number result brings)
 
   pub applies-there : (shards shard gate : ℕ) (result : Result (Unit {0}) HandFault) → AppliesAs shards old new shard gate result
       → CarriesAtShard shared shard old new

@@ -1,6 +1,7 @@
 //! The requests of a phase, and how many turns there are in it.
 ghost use Rattle.std.specs.Prelude.{◌≡◌, ◌≤◌, ◌-◌, ◌*◌, length};
-ghost use Rattle.weaver_workers.specs.Phases.{phase_end, phase_start};
+ghost use Rattle.program_defs.specs.Works.{is_look};
+ghost use Rattle.weaver_workers.specs.Phases.{is_program, phase_end, phase_start, programs_in};
 
 use program_defs::{Script, Work};
 
@@ -39,25 +40,32 @@ pub fn turns_of(from: u32, upto: u32) -> u32
 }
 
 /// In how many of these turns, the first ones, a gatekeeper sends empty messages: four for each program of the phase.
-pub fn program_turns(script: &Script, from: u32, upto: u32) -> u32 {
+pub fn program_turns(script: &Script, from: u32, upto: u32) -> u32
+    requires { upto ≤ 10000 }
+    ensures { result ≡ programs_in script.now from (upto - from) * 4 }
+{
     let mut turns: u32 = 0;
     for request in from..upto {
         if is_program(script, request) {
-            turns = turns.saturating_add(4);
+            turns += 4;
         }
     }
     turns
 }
 
 // Whether this request is a program.
-fn is_program(script: &Script, request: u32) -> bool {
+fn is_program(script: &Script, request: u32) -> bool
+    ensures { result ≡ is_program script.now request }
+{
     match script.requests.as_slice().get(request as usize) {
         Some(asked) => is_look(&asked.work),
         None => false,
     }
 }
 
-fn is_look(work: &Work) -> bool {
+fn is_look(work: &Work) -> bool
+    ensures { result ≡ is_look work.now }
+{
     match work {
         Work::Change(_) => false,
         Work::Look(_) => true,

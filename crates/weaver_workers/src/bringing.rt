@@ -6,35 +6,35 @@ ghost use Rattle.weaver_workers.specs.Carrying.{CarriesAtShard};
 
 use std::alloc::{AllocError, Global};
 use std::sync::Wait;
-use weaver_hands::{HandFault, apply, pull};
+use weaver_hands::{HandFault, Pulled, apply, bring, pull};
 use weaver_locks::{Hand, Shared};
 
-/// How many messages were brought so far on each channel, from the first one on.
+/// Up to which message each channel was brought so far, where that is known.
 #[derive(Drop)]
 pub struct Brought {
-    numbers: Vec<u64>,
+    numbers: Vec<Option<u64>>,
 }
 
 impl Brought {
-    /// None on any of the 8 times 16 channels. The one error is out of memory.
+    /// Nothing is known of any of the 8 times 16 channels. The one error is out of memory.
     pub fn new(alloc: Global) -> Result<Brought, AllocError> {
         let mut numbers = Vec::new(alloc);
         for _channel in 0..128 {
-            numbers.push(0)?;
+            numbers.push(None)?;
         }
         Ok(Brought { numbers })
     }
 
-    fn on(&self, gate: u32, shard: u32) -> u64 {
+    fn on(&self, gate: u32, shard: u32) -> Option<u64> {
         match self.numbers.get(place_of(gate, shard)) {
             Some(number) => *number,
-            None => 0,
+            None => None,
         }
     }
 
     fn set(&mut self, gate: u32, shard: u32, number: u64) {
         if let Some(slot) = self.numbers.get_mut(place_of(gate, shard)) {
-            *slot = number;
+            *slot = Some(number);
         }
     }
 }
@@ -43,8 +43,9 @@ fn place_of(gate: u32, shard: u32) -> usize {
     shard.wrapping_mul(8).wrapping_add(gate) as usize
 }
 
-/// A turn of a shard: all that each gatekeeper has sent to it, and that was not brought before, arrives there, and is
-/// processed as far as it can be. It may wait. The one error is out of memory.
+/// A turn of a shard: it is to take in all that each gatekeeper has sent to it and that was not brought before, and to
+/// process it as far as it can. The contract says where the hand makes entries and of which kinds. It may wait. The one
+/// error is out of memory.
 pub fn turn_shard<R: Wait>(
     rt: &R,
     alloc: Global,
@@ -63,7 +64,7 @@ pub fn turn_shard<R: Wait>(
     apply_all(rt, alloc, hand, shared, gates, shard)
 }
 
-// All that each gatekeeper has sent to the shard arrives there.
+// Brings what each gatekeeper has sent to the shard.
 fn bring_all<R: Wait>(
     rt: &R,
     alloc: Global,
@@ -79,7 +80,7 @@ fn bring_all<R: Wait>(
     ensures { CarriesAtShard shared.now shard hand.old hand.new }
 {
     for gate in 0..gates {
-        let number = bring_from(
+        let known = known_to(
             rt,
             alloc,
             hand,
@@ -88,12 +89,123 @@ fn bring_all<R: Wait>(
             shard,
             brought.on(gate, shard),
         )?;
+        let number = bring_from(rt, alloc, hand, shared, gate, shard, known)?;
         brought.set(gate, shard, number);
     }
     Ok(())
 }
 
-// All that the gatekeeper has sent to the shard arrives, but for the first ones: how many it has sent.
+// Up to which message the channel was brought: as is known, or else as a search finds.
+fn known_to<R: Wait>(
+    rt: &R,
+    alloc: Global,
+    hand: &mut Hand,
+    shared: &Shared,
+    gate: u32,
+    shard: u32,
+    known: Option<u64>,
+) -> Result<u64, AllocError>
+    requires hand { IsHand shared.now hand.old }
+    requires gate { gate < gate_count shared.now }
+    requires shard { shard < shard_count shared.now }
+    ensures { CarriesAtShard shared.now shard hand.old hand.new }
+{
+    match known {
+        Some(number) => Ok(number),
+        None => search(rt, alloc, hand, shared, gate, shard),
+    }
+}
+
+// Searches for the number of a message that had arrived before, where the next one had not; 0 if the first one had not.
+// It costs a logarithm of that number. Messages that it looks at arrive, so another hand that searches meanwhile may
+// leave those between to this one.
+fn search<R: Wait>(
+    rt: &R,
+    alloc: Global,
+    hand: &mut Hand,
+    shared: &Shared,
+    gate: u32,
+    shard: u32,
+) -> Result<u64, AllocError>
+    requires hand { IsHand shared.now hand.old }
+    requires gate { gate < gate_count shared.now }
+    requires shard { shard < shard_count shared.now }
+    ensures { CarriesAtShard shared.now shard hand.old hand.new }
+{
+    let mut known: u64 = 0;
+    let mut stride = search_up(rt, alloc, hand, shared, gate, shard)?;
+    for _halving in 0..64 {
+        if stride == 0 {
+            return Ok(known);
+        }
+        let number = known.wrapping_add(stride);
+        if is_known(rt, alloc, hand, shared, gate, shard, number)? {
+            known = number;
+        }
+        stride /= 2;
+    }
+    Ok(known)
+}
+
+// A power of two whose double is the number of a message that had not arrived before.
+fn search_up<R: Wait>(
+    rt: &R,
+    alloc: Global,
+    hand: &mut Hand,
+    shared: &Shared,
+    gate: u32,
+    shard: u32,
+) -> Result<u64, AllocError>
+    requires hand { IsHand shared.now hand.old }
+    requires gate { gate < gate_count shared.now }
+    requires shard { shard < shard_count shared.now }
+    ensures { CarriesAtShard shared.now shard hand.old hand.new }
+{
+    let mut stride: u64 = 1;
+    for _doubling in 0..62 {
+        let double = stride.wrapping_mul(2);
+        if !is_known(rt, alloc, hand, shared, gate, shard, double)? {
+            return Ok(stride);
+        }
+        stride = double;
+    }
+    Ok(stride)
+}
+
+// Whether the message had arrived before. If it was sent, it has now.
+fn is_known<R: Wait>(
+    rt: &R,
+    alloc: Global,
+    hand: &mut Hand,
+    shared: &Shared,
+    gate: u32,
+    shard: u32,
+    number: u64,
+) -> Result<bool, AllocError>
+    requires hand { IsHand shared.now hand.old }
+    requires gate { gate < gate_count shared.now }
+    requires shard { shard < shard_count shared.now }
+    ensures { CarriesAtShard shared.now shard hand.old hand.new }
+{
+    if number == 0 {
+        return Ok(true);
+    }
+    match bring(rt, alloc, hand, shared, gate, shard, number) {
+        Ok(pulled) => Ok(was_known(pulled)),
+        Err(_) => Err(AllocError),
+    }
+}
+
+// Whether the message had arrived before.
+fn was_known(pulled: Pulled) -> bool {
+    match pulled {
+        Pulled::Unsent => false,
+        Pulled::Known => true,
+        Pulled::New => false,
+    }
+}
+
+// Brings what the gatekeeper has sent to the shard after the first ones, message by message: how many it has sent.
 fn bring_from<R: Wait>(
     rt: &R,
     alloc: Global,
@@ -109,15 +221,15 @@ fn bring_from<R: Wait>(
     ensures { CarriesAtShard shared.now shard hand.old hand.new }
 {
     for number in first..u64::MAX {
-        if !bring(rt, alloc, hand, shared, gate, shard, number + 1)? {
+        if !bring_one(rt, alloc, hand, shared, gate, shard, number + 1)? {
             return Ok(number);
         }
     }
     Err(AllocError)
 }
 
-// The message arrives, if it was sent: whether it was.
-fn bring<R: Wait>(
+// Brings the message, if it was sent: whether it was.
+fn bring_one<R: Wait>(
     rt: &R,
     alloc: Global,
     hand: &mut Hand,

@@ -1,23 +1,39 @@
-//! What the workers of gatekeepers and shards do in a phase of a run on threads, turn by turn.
+//! What the workers of a phase do in a run on threads: clients, gatekeepers and shards, turn by turn.
 //!
-//! A gatekeeper's worker takes four turns for each request of the phase. In each it hears the other gatekeepers, and in
+//! `Worker::go` does a worker's part of a phase. A client goes through its session's requests, one try of one request a
+//! turn: a transaction is begun, judged and sent; a program is begun, reads vertex by vertex and is finished. It stops
+//! where its gatekeeper was busy in 16 turns one after another, or where a shard was not ready after a nudge (`nudge`). A
+//! gatekeeper's worker takes four turns for each request of the phase. In each it hears the other gatekeepers, and in
 //! the first ones, four for each program of the phase, it sends an empty message to each shard (`turn_gate`). A shard's
-//! worker takes as many turns. In each all that was sent to the shard arrives there, and is processed as far as it can
-//! be (`turn_shard`). A client's worker whose program finds a shard that is not ready does this for that shard at once
-//! (`nudge`).
+//! worker takes as many turns. In each all that was sent to the shard is to arrive there, and to be processed as far as
+//! it can be (`turn_shard`).
 //!
-//! Whatever these answer, they only carry (`Carries`): the entries that the hand makes are clocks that gatekeepers
-//! heard, empty messages, and messages that arrived at shards or were processed there. It goes on to be a hand of its
-//! locks. A turn makes entries at its own gatekeeper (`CarriesAtGate`) or at its own shard (`CarriesAtShard`) alone.
-//! After a turn that answers Ok the gatekeeper has heard each other one (`HasHeard`).
+//! The contract gives the whole list of what a client's worker did to the logs and to its client, one thing after
+//! another, each as the hand's call says it (`GoesOn`), and how it ended (`EndsAs`). The other workers only carry
+//! (`Carries`): the entries that their hands make are clocks that gatekeepers heard, empty messages, and messages that
+//! arrived at shards or were processed there, and all of these are at the worker's own gatekeeper (`CarriesAtGate`) or
+//! shard (`CarriesAtShard`). After a turn that answers Ok the gatekeeper has heard each other one (`HasHeard`). That a
+//! shard's turn brings and processes all there is, no clause says.
 #![tactic(auto)]
 
 mod bounds;
 mod bringing;
+mod changing;
+mod client_work;
+mod ended;
 mod gate_work;
+mod keeping;
+mod looking;
 mod nudging;
+mod pace;
+mod reading;
+mod tried;
+mod worker;
 
 pub use bounds::{end_of_phase, program_turns, start_of_phase, turns_of};
 pub use bringing::{Brought, turn_shard};
+pub use ended::Ended;
 pub use gate_work::turn_gate;
 pub use nudging::nudge;
+pub use pace::{NoPace, Pace, WorkKind};
+pub use worker::Worker;

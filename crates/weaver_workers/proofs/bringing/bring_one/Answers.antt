@@ -1,5 +1,5 @@
 use Rattle.weaver_workers.proofs.There.{pulls-there}
-use Rattle.weaver_workers.proofs.bringing.bring.Goals as goal
+use Rattle.weaver_workers.proofs.bringing.bring_one.Goals as goal
 
 pub returns-in-Ok : goal.returns-in-Ok
 returns-in-Ok g c = pulls-there _ _ _ c.pull.ensures.hand _ _ _ _ _ c.pull.ensures.pulled

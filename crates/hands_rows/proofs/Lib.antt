@@ -1,0 +1,7 @@
+pub mod Began
+pub mod Closing
+pub mod Crossing
+pub mod Going
+pub mod Opening
+pub mod Quiet
+pub mod Table

@@ -1,0 +1,121 @@
+//! Locks with the workers of their hands: opened, worked with, and closed.
+ghost use Rattle.std.specs.Prelude.{◌≡◌, ◌≤◌, ◌<◌, ℕ, map, slice_index_or, vec_len};
+ghost use Rattle.gatekeeper.specs.Gates.{GateView, IsNew};
+ghost use Rattle.shard_node.specs.Shards.{ShardView};
+ghost use Rattle.weaver_locks.specs.Locks.{gate_count, hands_of, shard_count};
+ghost use Rattle.hands_rows.specs.Workers.{AreWorkers, IsNewShard, hand_in, worker_of};
+
+use crate::calls::workers_keep_their_laws;
+use crate::worker::Worker;
+use backing_store::Store;
+use gatekeeper::Gate;
+use shard_node::Shard;
+use std::alloc::Global;
+use std::process::Abort;
+use timeline_oracle::Oracle;
+use weave_data::Items;
+use weaver_locks::laws::new_machines_may_start;
+use weaver_locks::{Closed, Hand, Shared};
+
+fn new_gates(rt: &impl Abort, alloc: Global, gates: u32, shards: u32) -> Vec<Gate>
+    requires gates { gates ≤ 8 }
+    requires some_shard { 1 ≤ shards }
+    requires few_shards { shards ≤ 16 }
+    ensures count { vec_len result ≡ gates }
+    ensures new { (k : ℕ) (g : GateView) → k < gates → IsNew k gates shards (slice_index_or result.items k g) }
+{
+    let mut made = Vec::new(alloc);
+    for home in 0..gates {
+        let gate = Gate::new(alloc, home, gates, shards).expect(rt, "memory");
+        made.push(gate).expect(rt, "memory");
+    }
+    made
+}
+
+fn new_shards(rt: &impl Abort, alloc: Global, gates: u32, shards: u32) -> Vec<Shard>
+    requires some { 1 ≤ gates }
+    requires few { gates ≤ 8 }
+    ensures count { vec_len result ≡ shards }
+    ensures new { (k : ℕ) (s : ShardView) → k < shards → IsNewShard k gates (slice_index_or result.items k s) }
+{
+    let mut made = Vec::new(alloc);
+    for number in 0..shards {
+        let shard = Shard::new(alloc, number, gates).expect(rt, "memory");
+        made.push(shard).expect(rt, "memory");
+    }
+    made
+}
+
+fn new_worker(alloc: Global, hand: Hand) -> Worker
+    ensures { result ≡ worker_of hand }
+{
+    Worker {
+        hand,
+        next: 0,
+        last: None,
+        walk: None,
+        ended: Items::new(alloc),
+    }
+}
+
+fn workers_of(rt: &impl Abort, alloc: Global, hands: Vec<Hand>) -> Vec<Worker>
+    ensures { result.items ≡ map worker_of hands.items }
+{
+    let mut workers = Vec::new(alloc);
+    for hand in hands {
+        workers.push(new_worker(alloc, hand)).expect(rt, "memory");
+    }
+    workers
+}
+
+fn hands_in(rt: &impl Abort, alloc: Global, workers: Vec<Worker>) -> Vec<Hand>
+    ensures { result.items ≡ map hand_in workers.items }
+{
+    let mut hands = Vec::new(alloc);
+    for worker in workers {
+        hands.push(worker.hand).expect(rt, "memory");
+    }
+    hands
+}
+
+/// New machines behind locks, and the workers of this many hands.
+pub fn open(
+    rt: &impl Abort,
+    alloc: Global,
+    gates: u32,
+    shards: u32,
+    hands: u32,
+) -> (Shared, Vec<Worker>)
+    requires some_gate { 1 ≤ gates }
+    requires few_gates { gates ≤ 8 }
+    requires some_shard { 1 ≤ shards }
+    requires few_shards { shards ≤ 16 }
+    requires hands { 1 ≤ hands }
+    ensures gates { gate_count result.0 ≡ gates }
+    ensures shards { shard_count result.0 ≡ shards }
+    ensures workers { AreWorkers result.0 result.1.items }
+    ensures count { vec_len result.1 ≡ hands_of result.0 }
+{
+    new_machines_may_start();
+    workers_keep_their_laws();
+    let made = Shared::new(
+        alloc,
+        new_gates(rt, alloc, gates, shards),
+        Store::new(alloc),
+        Oracle::new(alloc),
+        new_shards(rt, alloc, gates, shards),
+        hands,
+    );
+    let (shared, dealt) = made.expect(rt, "memory");
+    let workers = workers_of(rt, alloc, dealt);
+    (shared, workers)
+}
+
+/// Takes the machines out.
+pub fn close(rt: &impl Abort, alloc: Global, shared: Shared, workers: Vec<Worker>) -> Closed
+    requires workers { AreWorkers shared workers.items }
+    requires count { vec_len workers ≡ hands_of shared }
+{
+    let hands = hands_in(rt, alloc, workers);
+    shared.close(hands)
+}

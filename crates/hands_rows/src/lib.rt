@@ -1,0 +1,33 @@
+//! The tests of what hands do: each call of theirs with its answers, and the report of what is left when the locks are
+//! closed. There is nothing but tests here, and the types of what a hand's next calls rely on, which definitions name.
+#![tactic(auto)]
+
+#[cfg(test)]
+mod bench;
+#[cfg(test)]
+mod calls;
+#[cfg(test)]
+mod carried;
+#[cfg(test)]
+mod judged;
+#[cfg(test)]
+mod many;
+#[cfg(test)]
+mod played;
+#[cfg(test)]
+mod replies;
+#[cfg(test)]
+mod requested;
+#[cfg(test)]
+mod rows;
+#[cfg(test)]
+mod said;
+#[cfg(test)]
+mod settled;
+#[cfg(test)]
+mod thread_rows;
+#[cfg(test)]
+mod threads;
+#[cfg(test)]
+mod walked;
+pub mod worker;

@@ -1,0 +1,192 @@
+-- Deeds of a session, and what a worker has done with them.
+use Rattle.std.proofs.Common.{◌≡◌, inl, inr, ℕ, zero, suc, ◌<◌, ◌≤◌, List, [], ◌∷◌, ◌++◌, length, get_or, Option, Some, None, Err, refl, sym, ap, ◌∙◌, subst, arith}
+use Rattle.std.specs.Prelude.{is_some, slice_get, IsTrue}
+use Rattle.std.proofs.lemmas.List.{append-nil}
+use Rattle.std.proofs.lemmas.Option.{none-some, same_Some, slice_get-get_or}
+use Rattle.graph_ops.specs.declared.op.Op.{Op}
+use Rattle.vector_stamp.specs.declared.clock.Stamp.{Stamp}
+use Rattle.path_program.specs.AnyPrograms.{any_of, HasRead}
+use Rattle.path_program.specs.declared.any.AnyProgram.{AnyProgram}
+use Rattle.program_defs.specs.declared.program.Answer.{Answer}
+use Rattle.program_defs.specs.declared.program.Program.{Program}
+use Rattle.program_defs.specs.declared.script.Request.{Request}
+use Rattle.program_defs.specs.declared.script.Script.{Script}
+use Rattle.program_defs.specs.declared.script.Work.TheVariants.{Change, Look}
+use Rattle.program_defs.specs.Limits.{IsWithinLimits}
+use Rattle.program_defs.specs.Works.{ops_of}
+use Rattle.report_rules.specs.declared.report.ReplyState.TheVariants.{Finished}
+use Rattle.report_rules.specs.Lookups.{request_at}
+use Rattle.weave_account.specs.Report.{state_by_verdict}
+use Rattle.weave_entries.specs.declared.gate_log.GateEntry.{GateEntry}
+use Rattle.weave_entries.specs.GateReplay.{flight_of}
+use Rattle.weave_entries.specs.declared.session_log.SessionDeed.{SessionDeed}
+use Rattle.weave_entries.specs.declared.session_log.SessionDeed.TheVariants.{Begun, Replied}
+use Rattle.weave_entries.specs.declared.session_log.SessionEntry.{SessionEntry}
+use Rattle.weave_entries.specs.declared.verdict.Verdict.{Verdict}
+use Rattle.weave_entries.specs.SessionReplay.{session_after, session_of, SessionState}
+use Rattle.weaver_core.specs.declared.client.Client.{Client}
+use Rattle.weaver_core.specs.declared.walks.Running.{Running}
+use Rattle.weaver_core.specs.Clients.{log_of, requests_in, values_of, with_reply, AddsDeed, IsClientOf, IsSameClient, SessionValues}
+use Rattle.weaver_locks.specs.declared.hand.Hand.{Hand}
+use Rattle.weaver_locks.specs.declared.shared.Shared.{Shared}
+use Rattle.weaver_locks.specs.Hands.{IsHand}
+use Rattle.weaver_locks.specs.Locks.{gate_count, shard_count}
+use Rattle.weaver_hands.specs.Programs.{Finishes}
+use Rattle.weaver_hands.specs.declared.fault.HandFault.{HandFault}
+use Rattle.weaver_hands.specs.declared.fault.HandFault.TheVariants as hand
+use Rattle.weaver_hands.specs.Transactions.{Starts, Transacts, TransactsAs}
+use Rattle.weaver_workers.specs.declared.tried.Tried.{Tried}
+use Rattle.weaver_workers.specs.declared.tried.Tried.TheVariants.{Busy as AtGate}
+use Rattle.weaver_workers.specs.ClientWork.{reply_with, DoesChange, DoesFinish, DoesStart, GoesOn, IsNext}
+use Rattle.weaver_workers.specs.KeepLaws.{KeepLaws}
+use Rattle.weaver_workers.specs.Keeping.{KeepsClient}
+use Rattle.weaver_workers.specs.Turning.{stand, tried_at, IsAnswered, Tries}
+use Rattle.weaver_workers.proofs.Carried.{nothing-at-gate}
+use Rattle.weaver_workers.proofs.Going.{goes-carry, goes-one, goes-reserve, goes-then, same-walk}
+use Rattle.weaver_workers.proofs.Kept.{change-keeps, finish-keeps, start-keeps}
+use Rattle.weaver_workers.proofs.ReadOn.{home-there}
+
+module _ (laws : KeepLaws) where
+  -- a session after one deed more
+  pub deed-done : (number : ℕ) (was is : Client) (deed : SessionDeed) → IsClientOf number was.session was.log.items → AddsDeed number was is deed
+      → is.session ≡ session_after was.session deed
+  deed-done number was is deed at_end adds =
+      let entry : SessionEntry = record { author = number; deed = deed } in
+      adds.client.state ∙ (λ i. session_of (adds.requests i) (adds.log i)) ∙ laws.replay (requests_in was) (log_of was) entry
+      ∙ ap (λ (s : SessionState). session_after s deed) (sym at_end.state)
+
+  module _ (shared : Shared) (script : Script) (number upto : ℕ) (old new : Hand) (client reserved after : Client)
+      (keeps : KeepsClient shared script number old client) (same : IsSameClient client reserved) (is_hand : IsHand shared new) where
+    -- room was taken first
+    first : GoesOn shared script number upto (stand old client) (stand old reserved)
+    first = goes-reserve shared script number upto laws (stand old client) (stand old reserved) keeps refl same
+
+    onward : GoesOn shared script number upto (stand old reserved) (stand new after) → GoesOn shared script number upto (stand old client) (stand new after)
+    onward second = goes-then shared script number upto (stand old client) (stand old reserved) (stand new after) first second
+
+    -- a program was finished
+    pub finished : (running : Running) → reserved.running ≡ Some running → (answer : Answer) → Finishes (shard_count shared) old new running answer
+        → AddsDeed number reserved after (Replied running.request)
+        → values_of after ≡ with_reply (values_of reserved) (reply_with running.request running.stamp (Finished answer))
+        → GoesOn shared script number upto (stand old client) (stand new after)
+    finished running is answer finishes adds values =
+        let runs = first.keeps.running running is in
+        let does : DoesFinish shared number (stand old reserved) (stand new after) = record {
+          before = running;
+          before_is = is;
+          answer = answer;
+          finishes = finishes;
+          requests = adds.requests;
+          log = adds.log;
+          running = ap (λ (v : SessionValues). v.running) values;
+          replies = ap (λ (v : SessionValues). v.replies) values;
+        } in
+        onward (goes-one shared script number upto (stand old reserved) (stand new after) (inr (inr (inr (inl does))))
+        (finish-keeps laws shared script number (stand old reserved) (stand new after) first.keeps is_hand upto adds.client does
+        (deed-done number reserved after (Replied running.request) first.keeps.at_end adds)
+        (home-there shared old running first.keeps.is_hand runs.runs)))
+
+    -- a transaction was begun, judged and sent
+    pub changed : (r : ℕ) (asked : Request) → IsNext script upto reserved r asked → (ops : List Op) → asked.work ≡ Change ops
+        → asked.gate < gate_count shared → (stamp : Stamp) (verdict : Verdict)
+        → Transacts (shard_count shared) old new asked.gate r ops reserved.session.last stamp verdict
+        → IsAnswered number reserved after r stamp (state_by_verdict verdict)
+        → GoesOn shared script number upto (stand old client) (stand new after)
+    changed r asked next ops work low stamp verdict transacts answered =
+        let does : DoesChange shared script number upto (stand old reserved) (stand new after) = record {
+          r = r;
+          asked = asked;
+          next = next;
+          ops = ops;
+          work_is = work;
+          stamp = stamp;
+          verdict = verdict;
+          transacts = transacts;
+          requests = answered.requests;
+          log = answered.log;
+          running = answered.running;
+          replies = answered.replies;
+        } in
+        onward (goes-one shared script number upto (stand old reserved) (stand new after) (inl does)
+        (change-keeps laws shared script number (stand old reserved) (stand new after) first.keeps is_hand upto answered.at_end does low answered.session))
+
+    -- a program was begun
+    pub started : (r : ℕ) (asked : Request) → IsNext script upto reserved r asked → (program : Program) → asked.work ≡ Look program
+        → asked.gate < gate_count shared → (stamp : Stamp) → Starts (shard_count shared) old new asked.gate r reserved.session.last stamp
+        → (walk : AnyProgram) → any_of walk ≡ program → HasRead walk []
+        → IsClientOf number after.session after.log.items → after.session ≡ session_after reserved.session (Begun r stamp)
+        → requests_in after ≡ requests_in reserved
+        → log_of after ≡ log_of reserved ++ record { author = number; deed = Begun r stamp } ∷ []
+        → after.running ≡ Some (record { request = r; stamp = stamp; walk = walk })
+        → after.replies.items ≡ reserved.replies.items
+        → GoesOn shared script number upto (stand old client) (stand new after)
+    started r asked next program work low stamp starts walk program_is unread at_end session requests log running replies =
+        let does : DoesStart shared script number upto (stand old reserved) (stand new after) = record {
+          r = r;
+          asked = asked;
+          next = next;
+          program = program;
+          work_is = work;
+          stamp = stamp;
+          starts = starts;
+          walk = walk;
+          program_is = program_is;
+          unread = unread;
+          requests = requests;
+          log = log;
+          running = running;
+          replies = replies;
+        } in
+        onward (goes-one shared script number upto (stand old reserved) (stand new after) (inr (inl does))
+        (start-keeps laws shared script number (stand old reserved) (stand new after) first.keeps is_hand upto at_end does low session))
+
+    -- a transaction was not begun
+    pub refused : (r : ℕ) (asked : Request) → IsNext script upto reserved r asked → (ops : List Op) → asked.work ≡ Change ops
+        → (last : Option Stamp) (fault : HandFault) (answer : Tried)
+        → TransactsAs (shard_count shared) old new asked.gate r ops last (Err fault) → tried_at asked.gate fault ≡ Some answer
+        → Tries shared script number upto (stand old client) (stand new reserved) answer
+    refused r asked next ops work last hand.Busy answer found is =
+        subst (λ (a : Tried). Tries shared script number upto (stand old client) (stand new reserved) a) (same_Some (AtGate asked.gate) answer is) (record {
+          goes = goes-then shared script number upto (stand old client) (stand old reserved) (stand new reserved) first
+              (goes-carry shared script number upto laws (stand old reserved) (stand new reserved) first.keeps is_hand (record {
+                only = nothing-at-gate (shard_count shared) old new asked.gate found.before found.was;
+                same = record { session = refl; log = refl; replies = refl };
+                running = same-walk reserved.running;
+              }));
+          answered = record {
+            r = r;
+            asked = asked;
+            next = next;
+            ops = ops;
+            work_is = work;
+            gate_is = refl;
+            busy = subst (λ (log : List GateEntry). IsTrue (is_some (flight_of log))) (sym (found.was.left ∙ append-nil found.before)) found.busy;
+          };
+        })
+    refused r asked next ops work last (hand.NotYet shard at) answer none is = absurd none
+    refused r asked next ops work last hand.Empty answer none is = absurd none
+    refused r asked next ops work last (hand.Waits vertex) answer none is = absurd none
+    refused r asked next ops work last hand.Memory answer none is = absurd (none-some answer is)
+
+-- where no element is, the list has ended
+none-past : {A : Type 0} (xs : List A) (i : ℕ) → slice_get xs i ≡ None → length xs ≤ i
+none-past [] i none = omega arith
+none-past (x ∷ xs) zero none = absurd (none-some x (sym none))
+none-past (x ∷ xs) (suc i) none = let rest = none-past xs i none in omega (arith, rest)
+
+-- a request's operations are few
+pub few-ops : (script : Script) → IsWithinLimits script → (r : ℕ) (ops : List Op) → r < length script.requests
+    → ((asked : Request) → request_at script r ≡ Some asked → asked.work ≡ Change ops) → length ops < 2147483648
+few-ops script limits r ops low work = at (request_at script r) refl
+  where
+    at : (o : Option Request) → request_at script r ≡ o → length ops < 2147483648
+    at None none = absurd (let past = none-past script.requests r none in omega (arith, low, past))
+    at (Some asked) is =
+        let few = subst (λ w. length (ops_of w) ≤ 64) (work asked is) (limits.few_ops r asked is) in
+        omega (arith, few)
+
+-- the request that was looked up
+pub asked-there : (script : Script) (requests : List Request) (r : ℕ) (asked : Request) → requests ≡ script.requests
+    → r < length script.requests → asked ≡ get_or requests r asked → request_at script r ≡ Some asked
+asked-there script requests r asked same low is =
+    slice_get-get_or script.requests r asked low ∙ ap Some (ap (λ (xs : List Request). get_or xs r asked) (sym same) ∙ sym is)

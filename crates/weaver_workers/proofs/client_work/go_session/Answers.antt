@@ -1,0 +1,53 @@
+use Rattle.std.proofs.Common.{sym, ◌∙◌}
+use Rattle.weaver_core.specs.Clients.{log_of, requests_in, unanswered_in}
+use Rattle.weaver_workers.specs.Turning.{stand}
+use Rattle.weaver_workers.proofs.Answered.{below-parts, has-replies, in-script, none-from, unanswered-of}
+use Rattle.weaver_workers.proofs.Going.{goes-none, goes-then}
+use Rattle.weaver_workers.proofs.ReadOn.{ends-by}
+use Rattle.weaver_workers.proofs.client_work.go_session.Goals as goal
+
+pub loop-init : goal.loop-init
+loop-init g c = goes-none c.args.shared.now c.args.script.now c.args.number c.args.upto (stand c.args.hand.now c.args.client.now) c.requires.keeps
+
+pub next_below-requires : goal.next_below-requires
+next_below-requires g c = (c.args.number, c.loop.invariant.keeps.at_end)
+
+pub returns-in_default-clause-ends : goal.returns-in_default-clause-ends
+returns-in_default-clause-ends g c =
+    has-replies c.workers_keep_their_laws.ensures c.args.number c.loop.client c.loop.invariant.keeps.at_end c.args.upto
+    (sym c.next_below.ensures.next ∙ none-from c.next_below.result c.in_default.not-Some)
+
+pub try_next-requires-clause-there : goal.try_next-requires-clause-there
+try_next-requires-clause-there g c =
+    let request = c.in-Some-next_below.request in
+    let parts = below-parts c.args.upto request (unanswered_in (requests_in c.loop.client) (log_of c.loop.client))
+    (sym c.next_below.ensures.next ∙ c.in-Some-next_below.is) in
+    in-script c.args.script.now c.args.number request
+    (unanswered-of c.args.script.now c.args.number c.loop.client request c.loop.invariant.keeps.requests parts.0)
+
+pub returns-in-Some-ended_by-clause-goes : goal.returns-in-Some-ended_by-clause-goes
+returns-in-Some-ended_by-clause-goes g c =
+    let request = c.in-Some-next_below.request in
+    let parts = below-parts c.args.upto request (unanswered_in (requests_in c.loop.client) (log_of c.loop.client))
+    (sym c.next_below.ensures.next ∙ c.in-Some-next_below.is) in
+    goes-then c.args.shared.now c.args.script.now c.args.number c.args.upto (stand c.args.hand.now c.args.client.now)
+    (stand c.loop.hand c.loop.client) (stand c.try_next.new.hand c.try_next.new.client) c.loop.invariant
+    (c.in_ok-tried.ensures c.args.upto parts.1).goes
+
+pub returns-in-Some-ended_by-clause-ends : goal.returns-in-Some-ended_by-clause-ends
+returns-in-Some-ended_by-clause-ends g c =
+    let request = c.in-Some-next_below.request in
+    let parts = below-parts c.args.upto request (unanswered_in (requests_in c.loop.client) (log_of c.loop.client))
+    (sym c.next_below.ensures.next ∙ c.in-Some-next_below.is) in
+    ends-by c.args.shared.now c.args.script.now c.args.upto (stand c.try_next.new.hand c.try_next.new.client) c.in_ok-tried.tried
+    c.ended_by.result c.in-Some-ended_by.ended c.ended_by.ensures c.in-Some-ended_by.is
+    (c.in_ok-tried.ensures c.args.upto parts.1).answered
+
+pub loop-preserved : goal.loop-preserved
+loop-preserved g c =
+    let request = c.in-Some-next_below.request in
+    let parts = below-parts c.args.upto request (unanswered_in (requests_in c.loop.client) (log_of c.loop.client))
+    (sym c.next_below.ensures.next ∙ c.in-Some-next_below.is) in
+    goes-then c.args.shared.now c.args.script.now c.args.number c.args.upto (stand c.args.hand.now c.args.client.now)
+    (stand c.loop.hand c.loop.client) (stand c.try_next.new.hand c.try_next.new.client) c.loop.invariant
+    (c.in_ok-tried.ensures c.args.upto parts.1).goes

@@ -1,0 +1,125 @@
+-- What a turn of a client's worker answers, and what it leaves. No public contract cites this but for `stand`.
+use Rattle.std.specs.Prelude.{◌≡◌, ◌⊎◌, ℕ, nat_lt, if◌then◌else◌, ◌∷◌, ◌++◌, [], Bool, true, false, Option, None, Some, ⊤}
+use Rattle.std.specs.Option.{option_and_then}
+use Rattle.program_defs.specs.declared.script.Script.{Script}
+use Rattle.path_program.specs.AnyPrograms.{next_read}
+use Rattle.report_rules.specs.declared.report.ReplyState.{ReplyState}
+use Rattle.vector_stamp.specs.declared.clock.Stamp.{Stamp}
+use Rattle.weave_entries.specs.SessionReplay.{with_begun, with_reply}
+use Rattle.weaver_core.specs.declared.client.Client.{Client}
+use Rattle.weaver_core.specs.declared.walks.Running.{Running}
+use Rattle.weaver_core.specs.Clients.{log_of, requests_in, unanswered_in, IsClientOf}
+use Rattle.weaver_locks.specs.declared.hand.Hand.{Hand}
+use Rattle.weaver_locks.specs.declared.shared.Shared.{Shared}
+use Rattle.weaver_hands.specs.declared.fault.HandFault.{HandFault}
+use Rattle.weaver_hands.specs.declared.fault.HandFault.TheVariants as fault
+use Rattle.weaver_hands.specs.Programs.{FoundNotReady, IsRunning, Visits}
+use Rattle.weaver_workers.specs.declared.ended.Ended.{Ended}
+use Rattle.weaver_workers.specs.declared.ended.Ended.TheVariants as ended
+use Rattle.weaver_workers.specs.declared.reading.Read.{Read}
+use Rattle.weaver_workers.specs.declared.reading.Read.TheVariants as read
+use Rattle.weaver_workers.specs.declared.tried.Tried.{Tried}
+use Rattle.weaver_workers.specs.declared.tried.Tried.TheVariants as tried
+use Rattle.weaver_workers.specs.ClientWork.{begun_entry, replied_entry, reply_with, FoundBusy, FoundUnready, GoesOn, Stand}
+use Rattle.weaver_workers.specs.Keeping.{KeepsClient}
+
+-- a hand and its client
+abbrev pub stand : Hand → Client → Stand
+stand hand client = record { hand = hand; client = client }
+
+-- Reading
+
+-- a program of the hand is running in the client
+pub record RunsIn (shared : Shared) (at : Stand) : Type 0 where
+  pub running : Running
+  pub running_is : at.client.running ≡ Some running
+  pub runs : IsRunning shared at.hand running
+
+-- whichever the session is, the worker went on with it
+abbrev pub KeepsOn : Shared → Stand → Stand → Type 0
+KeepsOn shared old new = (script : Script) (number upto : ℕ) → KeepsClient shared script number old.hand old.client
+    → GoesOn shared script number upto old new
+
+-- what came of a read by its refusal, if it was one of a shard that was not ready
+abbrev pub read_of : HandFault → Option Read
+read_of (fault.NotYet shard gate) = Some (read.NotYet shard gate)
+read_of fault.Busy = None
+read_of fault.Empty = None
+read_of (fault.Waits vertex) = None
+read_of fault.Memory = None
+
+-- what a read leaves of the hand and the program
+abbrev pub VisitsNext : ℕ → ℕ → Hand → Hand → Running → Running → Read → Type 0
+VisitsNext gates shards old new was is read.Over = ((new ≡ old) × (is ≡ was)) × (next_read is.walk ≡ None)
+VisitsNext gates shards old new was is read.More = Visits gates shards old new was is
+VisitsNext gates shards old new was is (read.NotYet shard gate) = FoundNotReady gates shards old new was is shard gate
+
+-- the running program has read all that it visits
+pub record HasReadAll (at : Stand) : Type 0 where
+  pub running : Running
+  pub running_is : at.client.running ≡ Some running
+  pub over : next_read running.walk ≡ None
+
+-- what a read answers
+abbrev pub ReadAs : Shared → Stand → Read → Type 0
+ReadAs shared new read.Over = HasReadAll new
+ReadAs shared new read.More = ⊤
+ReadAs shared new (read.NotYet shard gate) = FoundUnready shared new shard gate
+
+-- whether a vertex was read
+abbrev pub is_more : Read → Bool
+is_more read.Over = false
+is_more read.More = true
+is_more (read.NotYet shard gate) = false
+
+-- the shard that was not ready
+abbrev pub unready_in : Read → Option ℕ
+unready_in read.Over = None
+unready_in read.More = None
+unready_in (read.NotYet shard gate) = Some shard
+
+-- Tries
+
+-- the try ended where a shard was not ready
+abbrev pub tried_by : Read → Option Tried
+tried_by read.Over = None
+tried_by read.More = None
+tried_by (read.NotYet shard gate) = Some (tried.NotYet shard gate)
+
+-- a transaction was not begun since another one was in flight at its gatekeeper
+abbrev pub tried_at : ℕ → HandFault → Option Tried
+tried_at gate fault.Busy = Some (tried.Busy gate)
+tried_at gate (fault.NotYet shard at) = None
+tried_at gate fault.Empty = None
+tried_at gate (fault.Waits vertex) = None
+tried_at gate fault.Memory = None
+
+-- the client has the reply to a request that was begun with this stamp
+pub record IsAnswered (number : ℕ) (old new : Client) (r : ℕ) (stamp : Stamp) (state : ReplyState) : Type 0 where
+  pub at_end : IsClientOf number new.session new.log.items
+  pub session : new.session ≡ with_reply (with_begun stamp old.session)
+  pub requests : requests_in new ≡ requests_in old
+  pub log : log_of new ≡ (log_of old ++ begun_entry number r stamp ∷ []) ++ replied_entry number r ∷ []
+  pub running : new.running ≡ None
+  pub replies : new.replies.items ≡ old.replies.items ++ reply_with r stamp state ∷ []
+
+-- what is so after a try of a request, by what came of it
+abbrev pub TriedAs : Shared → Script → ℕ → Stand → Tried → Type 0
+TriedAs shared script upto new tried.Replied = ⊤
+TriedAs shared script upto new (tried.Busy gate) = FoundBusy script upto new gate
+TriedAs shared script upto new (tried.NotYet shard gate) = FoundUnready shared new shard gate
+
+-- a request was tried, and the worker went on with its session's requests before `upto`
+pub record Tries (shared : Shared) (script : Script) (number upto : ℕ) (old new : Stand) (answer : Tried) : Type 0 where
+  pub goes : GoesOn shared script number upto old new
+  pub answered : TriedAs shared script upto new answer
+
+-- the session's first request without a reply, if it comes before `upto`
+abbrev pub below_in : ℕ → Client → Option ℕ
+below_in upto client = option_and_then (λ r. if nat_lt r upto then Some r else None) (unanswered_in (requests_in client) (log_of client))
+
+-- a worker that ends after a try ends by what the try answered
+abbrev pub IsEndOf : Tried → Option Ended → Type 0
+IsEndOf tried.Replied end = end ≡ None
+IsEndOf (tried.Busy gate) end = (end ≡ None) ⊎ (end ≡ Some (ended.Busy gate))
+IsEndOf (tried.NotYet shard gate) end = end ≡ Some (ended.NotYet shard gate)
