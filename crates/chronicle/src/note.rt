@@ -4,7 +4,7 @@ ghost use Rattle.chronicle.specs.Seats.{AreBare};
 use crate::chronicle::Chronicle;
 use crate::machine::Machine;
 use crate::pass::Pass;
-use crate::rule::WORD;
+use crate::rule::STILL;
 use crate::steps::{Compares, Copies, Gathers};
 use crate::view::View;
 use atomic_table::Badge;
@@ -62,7 +62,7 @@ impl<M: Machine> Chronicle<M> {
         let mut seat = mem::replace(&mut pass.badge, Badge::blank()).into_seat::<Option<M>>();
         let other = mem::replace(&mut note.badge, Badge::blank()).into_seat();
         shared.join_seat::<Gathers>(&mut seat, other);
-        shared.load::<Compares>(&mut seat, WORD);
+        shared.load::<Compares>(&mut seat, STILL);
         note.badge = shared.split_seat::<Copies>(&mut seat).into_badge();
         pass.badge = seat.into_badge();
     }

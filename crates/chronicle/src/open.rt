@@ -36,7 +36,7 @@ fn open<M: Machine, N: Machine<Entry = M::Entry>, J: Opening<M::Entry>>(
     seat: &mut Seat<Option<M>, View<M::Entry>>,
     _like: &N,
 )
-    requires table { (seat.old.table_id ≡ shared.now.table_id) × (shared.now.table_id.words ≡ 1) }
+    requires table { (seat.old.table_id ≡ shared.now.table_id) × (shared.now.table_id.words ≡ 16) }
     requires first { seat.old.me ≡ (unopened shared.now.key, []) }
     ensures table { seat.new.table_id ≡ seat.old.table_id }
     ensures opened { seat.new.me ≡ (opened J.frame J.log shared.now.key, (0, None) ∷ []) }
@@ -53,7 +53,12 @@ impl<M: Machine> Chronicle<M> {
         ensures unopened { IfOk result (λ r. IsUnopened (lock_of r.0) r.1) }
     {
         let made = Vec::with_capacity(alloc, passes as usize)?;
-        let (table, seat) = Table::vacant(alloc, &[UNOPENED], 1, &passes)?;
+        let (table, seat) = Table::vacant(
+            alloc,
+            &[0, 0, 0, 0, 0, 0, 0, 0, UNOPENED, 0, 0, 0, 0, 0, 0, 0],
+            1,
+            &passes,
+        )?;
         let chronicle = Chronicle {
             table,
             opened: Snapshot::of(&seat),

@@ -17,7 +17,7 @@ pub(crate) struct View<E> {
     pub(crate) seen: LinkedList<(u32, E)>,
     /// After a join the shorter of the two lists, until they are compared. Else it is `start`.
     pub(crate) shorter: LinkedList<(u32, E)>,
-    /// 0, or the word while the seat has the turn.
+    /// 0, or what the lock's word says while the seat has the turn.
     pub(crate) turn: u64,
     pub(crate) authors: LinkedList<Author<E>>,
 }
