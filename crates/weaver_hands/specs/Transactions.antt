@@ -11,17 +11,24 @@ use Rattle.weave_entries.specs.declared.verdict.Verdict.{Verdict}
 use Rattle.weave_entries.specs.GateReplay.{begun_stamp, clock_of, flight_of}
 use Rattle.weaver_locks.specs.declared.hand.Hand.{Hand}
 use Rattle.weaver_locks.specs.GateHolds.{gate_entry_by, SendsIn, WasAtGate}
-use Rattle.weaver_locks.specs.Hands.{hand_number}
+use Rattle.weaver_locks.specs.Closing.{entries_by}
+use Rattle.weaver_locks.specs.Hands.{hand_number, made_by, seen_by}
 use Rattle.weaver_locks.specs.StoreHolds.{JudgesIn}
 use Rattle.weaver_hands.specs.declared.fault.HandFault.{HandFault}
 use Rattle.weaver_hands.specs.declared.fault.HandFault.TheVariants.{Busy, NotYet, Empty, Waits, Memory}
 use Rattle.weaver_hands.specs.Leaving.{MadeNone}
 
+-- what the hand made is what has its number among what it has seen
+abbrev pub HasSeenOwn : Hand → Type 0
+HasSeenOwn hand = made_by hand ≡ entries_by (hand_number hand) (seen_by hand)
+
 -- A transaction was begun in one hold, judged in a second and sent in a third.
 pub record Transacts (shards : ℕ) (old new : Hand) (gate request : ℕ) (ops : List Op) (last : Option Stamp)
     (stamp : Stamp) (verdict : Verdict) : Type 0 where
   pub begun : Hand
+  pub begun_seen : HasSeenOwn begun
   pub judged : Hand
+  pub judged_seen : HasSeenOwn judged
   pub before : List GateEntry
   pub begins : WasAtGate shards old begun gate before (gate_entry_by old (BeganTx request stamp) ∷ [])
   pub stamp_is : stamp ≡ begun_stamp gate (clock_of gate before) last

@@ -13,7 +13,8 @@ use std::sync::Wait;
 use vector_stamp::Stamp;
 use weave_entries::Verdict;
 use weaver_locks::laws::{
-    begun_stamps_may_be_heard, calls_follow_each_other, what_was_begun_goes_on,
+    begun_stamps_may_be_heard, calls_follow_each_other, own_entries_are_those_seen,
+    what_was_begun_goes_on,
 };
 use weaver_locks::{Hand, Shared};
 
@@ -38,6 +39,7 @@ pub fn transact<R: Wait>(
 {
     begun_stamps_may_be_heard();
     calls_follow_each_other();
+    own_entries_are_those_seen();
     what_was_begun_goes_on();
     let stamp = match shared.begin_tx(rt, alloc, hand, gate, request, last) {
         Ok(stamp) => stamp,

@@ -7,6 +7,7 @@ mod OnlyCarried
 mod Transacted
 mod Kept
 mod Going
+mod Below
 mod ReadOn
 mod Answered
 mod Deeds

@@ -30,7 +30,7 @@ use Rattle.weaver_workers.specs.declared.ended.Ended.{Ended}
 use Rattle.weaver_workers.specs.declared.ended.Ended.TheVariants as ended
 use Rattle.weaver_workers.specs.declared.tried.Tried.{Tried}
 use Rattle.weaver_workers.specs.declared.tried.Tried.TheVariants as tried
-use Rattle.weaver_workers.specs.ClientWork.{DoesCarry, DoesVisit, EndsAs, IsSameWalk, Stand}
+use Rattle.weaver_workers.specs.ClientWork.{DoesCarry, DoesVisit, EndsAs, IsSameWalk, Stand, RunsBelow}
 use Rattle.weaver_workers.specs.KeepLaws.{KeepLaws}
 use Rattle.weaver_workers.specs.Turning.{stand, IsEndOf, KeepsOn, ReadAs, RunsIn, TriedAs, VisitsNext}
 use Rattle.weaver_workers.proofs.Carried.{carries-none, nothing-at-shard}
@@ -146,10 +146,10 @@ if-both (Err e) leads p q = tt
 
 -- a worker that ends after a try ends as the try answered
 pub ends-by : (shared : Shared) (script : Script) (upto : ℕ) (new : Stand) (try : Tried) (end : Option Ended) (last : Ended) → IsEndOf try end
-    → end ≡ Some last → TriedAs shared script upto new try → EndsAs shared script upto new last
-ends-by shared script upto new tried.Replied end last by is as_tried = absurd (none-some last (sym by ∙ is))
-ends-by shared script upto new (tried.Busy gate) end last (inl none) is as_tried = absurd (none-some last (sym none ∙ is))
-ends-by shared script upto new (tried.Busy gate) end last (inr by) is as_tried =
+    → end ≡ Some last → TriedAs shared script upto new try → RunsBelow upto new.client → EndsAs shared script upto new last
+ends-by shared script upto new tried.Replied end last by is as_tried below = absurd (none-some last (sym by ∙ is))
+ends-by shared script upto new (tried.Busy gate) end last (inl none) is as_tried below = absurd (none-some last (sym none ∙ is))
+ends-by shared script upto new (tried.Busy gate) end last (inr by) is as_tried below =
     subst (EndsAs shared script upto new) (same_Some (ended.Busy gate) last (sym by ∙ is)) as_tried
-ends-by shared script upto new (tried.NotYet shard gate) end last by is as_tried =
-    subst (EndsAs shared script upto new) (same_Some (ended.NotYet shard gate) last (sym by ∙ is)) as_tried
+ends-by shared script upto new (tried.NotYet shard gate) end last by is as_tried below =
+    subst (EndsAs shared script upto new) (same_Some (ended.NotYet shard gate) last (sym by ∙ is)) (as_tried, below)

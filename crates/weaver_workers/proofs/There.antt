@@ -1,18 +1,20 @@
 -- Calls at one gatekeeper, or at one shard.
 use Rattle.std.proofs.Common.{◌≡◌, ◌≢◌, ℕ, ◌+◌, ◌<◌, arith, inl, inr, true, false, List, [], ◌∷◌, ◌++◌, zero, suc, length, get_or, set, Result, Ok, Err, refl, sym, ap, ◌∙◌, subst, append_assoc}
-use Rattle.std.specs.Prelude.{Bool, OnOk}
+use Rattle.std.specs.Prelude.{◌⊎◌, Bool, Contains, OnOk, Option, Some, None}
 use Rattle.std.proofs.lemmas.Bool.{cases_lt}
 use Rattle.std.proofs.lemmas.List.{append-nil, get_or-set_other, get_or-set_same, length-map}
 use Rattle.std.proofs.lemmas.List.Elements.{Contains-append_left, Contains-append_right}
 use Rattle.proof_base.proofs.Members.{has_head}
+use Rattle.vector_stamp.specs.declared.clock.Clock.{Clock}
 use Rattle.weave_entries.specs.declared.gate_log.GateEntry.{GateEntry}
 use Rattle.weave_entries.specs.declared.gate_log.GateDeed.TheVariants.{Heard}
 use Rattle.weave_entries.specs.declared.shard_log.ShardEntry.{ShardEntry}
 use Rattle.weave_account.specs.declared.account.Account.{Account}
 use Rattle.weave_account.specs.Account.{gate_log, shard_log}
+use Rattle.weave_entries.specs.GateReplay.{clock_of}
 use Rattle.weaver_locks.specs.declared.hand.Hand.{Hand}
 use Rattle.weaver_locks.specs.declared.shared.Shared.{Shared}
-use Rattle.weaver_locks.specs.GateHolds.{gate_entry_by, WasAtGate}
+use Rattle.weaver_locks.specs.GateHolds.{gate_entries_of, gate_entry_by, WasAtGate}
 use Rattle.weaver_locks.specs.Hands.{made_by, with_gate_entries, with_shard_entries, IsHand}
 use Rattle.weaver_locks.specs.Locks.{gate_count}
 use Rattle.weaver_locks.specs.ShardHolds.{WasAtShard}
@@ -23,8 +25,8 @@ use Rattle.weaver_hands.specs.Messages.{is_sent, AppliesAs, BringsAs, PullsAs}
 use Rattle.weaver_hands.specs.declared.messages.Pulled.{Pulled}
 use Rattle.weaver_hands.specs.declared.messages.Pulled.TheVariants.{Unsent, Known, New}
 use Rattle.weaver_hands.specs.Telling.{NopsAs, Tells, TellsAs}
-use Rattle.weaver_workers.specs.Carrying.{CarriesAtGate, CarriesAtShard, HasHeard, HasHeardBelow, IsAtGate, IsAtNoOtherShard, IsAtShard, OnlyCarries}
-use Rattle.weaver_workers.proofs.Carried.{onward}
+use Rattle.weaver_workers.specs.Carrying.{is_telling, AreTold, CarriesAtGate, CarriesAtShard, HasHeard, HasSaid, HasTold, IsAtGate, IsAtNoOtherShard, IsAtShard, IsUpToDate, IsUpToDateBelow, OnlyCarries}
+use Rattle.weaver_workers.proofs.Carried.{at-gate, nothing-at-gate, one-passes, onward}
 use Rattle.weaver_workers.proofs.Called.{applied, carries-on, carries-start, pulled, sent-empty, told}
 
 -- Holds without an entry
@@ -245,46 +247,125 @@ heard-now shared shards old new from to is low tells =
       deed = ap Heard tells.clock_is;
     }
 
+-- What was said and what was heard, in two holds
+
+-- one hold in which nothing was made
+pub listens-there : (shared : Shared) (shards : ℕ) (old new : Hand) (from to : ℕ) (before : List GateEntry) → IsHand shared new
+    → WasAtGate shards old new from before [] → CarriesAtGate shared to old new
+listens-there shared shards old new from to before is was = record {
+  carries = record { hand = is; only = nothing-at-gate shards old new from before was };
+  there = none-at-this-gate old new to (none-at-gate old new from before was);
+}
+
+pub was-said : (shards : ℕ) (old new : Hand) (from : ℕ) (before : List GateEntry) (clock : Clock)
+    → WasAtGate shards old new from before [] → clock ≡ clock_of from before → HasSaid old new from clock
+was-said shards old new from before clock was is =
+    record { said = before; late = was.found; seen = ([], was.left); clock_is = is }
+
+-- one in which a clock was heard, or no memory was left
+pub hears-there : {F : Type 0} (shared : Shared) (shards : ℕ) (old new : Hand) (to : ℕ) (before : List GateEntry) (clock : Clock)
+    (result : Result (Unit {0}) F) → IsHand shared new
+    → WasAtGate shards old new to before (gate_entries_of old (λ _. Heard clock) result) → CarriesAtGate shared to old new
+hears-there shared shards old new to before clock (Ok done) is was = record {
+  carries = record { hand = is; only = at-gate shards old new to before _ was (one-passes (λ e. is_telling e.deed) _ refl) };
+  there = made-at-gate old new to _ was.made;
+}
+hears-there shared shards old new to before clock (Err fault) is was = listens-there shared shards old new to to before is was
+
+pub is-told : {F : Type 0} (shared : Shared) (shards : ℕ) (old new : Hand) (to : ℕ) (before : List GateEntry) (clock : Clock)
+    (result : Result (Unit {0}) F) → IsHand shared old → to < gate_count shared
+    → WasAtGate shards old new to before (gate_entries_of old (λ _. Heard clock) result) → OnOk result (HasTold new to clock)
+is-told shared shards old new to before clock (Ok done) is low was =
+    let entry : GateEntry = gate_entry_by old (Heard clock) in
+    let long : length (made_by old).gates ≡ gate_count shared = length-map _ _ ∙ (length-map _ _ ∙ is.gates) in
+    let log = ap (λ (a : Account). gate_log a to) was.made
+    ∙ get_or-set_same (made_by old).gates to (gate_log (made_by old) to ++ entry ∷ []) [] (subst (λ n. to < n) (sym long) low) in record {
+      entry = entry;
+      own = subst (λ (l : List GateEntry). Contains l entry) (sym log)
+          (Contains-append_right (gate_log (made_by old) to) (entry ∷ []) entry (has_head entry []));
+      deed = refl;
+    }
+is-told shared shards old new to before clock (Err fault) is low was = tt
+
 -- it stays so
-pub heard-before : (old mid new : Hand) (gate from : ℕ) → HasHeard old mid gate from → OnlyCarries mid new → HasHeard old new gate from
-heard-before old mid new gate from first second =
-    let more = second.gates gate in record {
-      said = first.said;
-      late = first.late;
-      seen = onward _ _ _ first.seen (second.more.gates from);
-      added = first.added ++ more.added;
-      log = more.log ∙ ap (λ (l : List GateEntry). l ++ more.added) first.log ∙ append_assoc _ first.added more.added;
-      entry = first.entry;
-      heard = Contains-append_left first.added more.added first.entry first.heard;
-      deed = first.deed;
+pub still-told : (old new : Hand) (gate : ℕ) (clock : Clock) → HasTold old gate clock → OnlyCarries old new → HasTold new gate clock
+still-told old new gate clock told only =
+    let more = only.gates gate in record {
+      entry = told.entry;
+      own = subst (λ (l : List GateEntry). Contains l told.entry) (sym more.log)
+          (Contains-append_left (gate_log (made_by old) gate) more.added told.entry told.own);
+      deed = told.deed;
     }
 
-pub heard-all-before : (old mid new : Hand) (gate bound : ℕ) → HasHeardBelow bound gate old mid → OnlyCarries mid new
-    → HasHeardBelow bound gate old new
-heard-all-before old mid new gate bound first second from low other =
-    heard-before old mid new gate from (first from low other) second
+pub still-all-told : (old new : Hand) (gate : ℕ) (clocks : List (Option Clock)) → AreTold old gate clocks → OnlyCarries old new
+    → AreTold new gate clocks
+still-all-told old new gate clocks told only from clock is = still-told old new gate clock (told from clock is) only
+
+pub still-said : (old mid new : Hand) (from : ℕ) (clock : Clock) → HasSaid old mid from clock → OnlyCarries mid new
+    → HasSaid old new from clock
+still-said old mid new from clock said only = record {
+  said = said.said;
+  late = said.late;
+  seen = onward _ _ _ said.seen (only.more.gates from);
+  clock_is = said.clock_is;
+}
+
+-- no clock is there
+pub none-told : (hand : Hand) (gate : ℕ) (clocks : List (Option Clock)) → ((from : ℕ) → get_or clocks from None ≡ None)
+    → AreTold hand gate clocks
+none-told hand gate clocks none from clock is = absurd (cc (none from, is))
+
+-- one more clock is there, or no room for it
+one-set : (clocks : List (Option Clock)) (place from : ℕ) (now clock : Clock) → get_or (set clocks place (Some now)) from None ≡ Some clock
+    → (get_or clocks from None ≡ Some clock) ⊎ (now ≡ clock)
+one-set [] place from now clock is = inl is
+one-set (c ∷ cs) zero zero now clock is = inr (cc is)
+one-set (c ∷ cs) zero (suc from) now clock is = inl is
+one-set (c ∷ cs) (suc place) zero now clock is = inl is
+one-set (c ∷ cs) (suc place) (suc from) now clock is = one-set cs place from now clock is
+
+pub one-more-told : (hand : Hand) (gate : ℕ) (clocks news : List (Option Clock)) (place : ℕ) (now : Clock) → AreTold hand gate clocks
+    → HasTold hand gate now → news ≡ set clocks place (Some now) → AreTold hand gate news
+one-more-told hand gate clocks news place now told heard made from clock is =
+    elim (one-set clocks place from now clock (ap (λ (cs : List (Option Clock)). get_or cs from None) (sym made) ∙ is)) [
+      | inl before ↦ told from clock before
+      | inr same ↦ subst (HasTold hand gate) same heard
+    ]
+
+-- Up to date
+
+pub still-up-to-date : (old mid new : Hand) (gate from : ℕ) → IsUpToDate old mid gate from → OnlyCarries mid new → IsUpToDate old new gate from
+still-up-to-date old mid new gate from first only = record {
+  clock = first.clock;
+  said = still-said old mid new from first.clock first.said only;
+  told = still-told mid new gate first.clock first.told only;
+}
+
+pub still-all-up-to-date : (old mid new : Hand) (gate bound : ℕ) → IsUpToDateBelow bound gate old mid → OnlyCarries mid new
+    → IsUpToDateBelow bound gate old new
+still-all-up-to-date old mid new gate bound first only from low other =
+    still-up-to-date old mid new gate from (first from low other) only
 
 -- and was so for a hand that had seen less
-pub heard-after : (old mid new : Hand) (gate from : ℕ) → OnlyCarries old mid → HasHeard mid new gate from → HasHeard old new gate from
-heard-after old mid new gate from first second =
-    let before = first.gates gate in record {
-      said = second.said;
-      late = onward _ _ _ (first.more.gates from) second.late;
-      seen = second.seen;
-      added = before.added ++ second.added;
-      log = second.log ∙ ap (λ (l : List GateEntry). l ++ second.added) before.log ∙ append_assoc _ before.added second.added;
-      entry = second.entry;
-      heard = Contains-append_right before.added second.added second.entry second.heard;
-      deed = second.deed;
-    }
+since-before : (old mid new : Hand) (gate from : ℕ) → OnlyCarries old mid → IsUpToDate mid new gate from → IsUpToDate old new gate from
+since-before old mid new gate from only second = record {
+  clock = second.clock;
+  said = record {
+    said = second.said.said;
+    late = onward _ _ _ (only.more.gates from) second.said.late;
+    seen = second.said.seen;
+    clock_is = second.said.clock_is;
+  };
+  told = second.told;
+}
 
--- one more is heard, unless it is the gatekeeper itself
-pub heard-more : (old mid new : Hand) (gate bound : ℕ) → OnlyCarries old mid → OnlyCarries mid new → HasHeardBelow bound gate old mid
-    → (bound ≢ gate → HasHeard mid new gate bound) → HasHeardBelow (bound + 1) gate old new
-heard-more old mid new gate bound first second heard next from low other = elim (cases_lt from bound) [
-  | inl less ↦ heard-before old mid new gate from (heard from less other) second
+-- one more is, unless it is the gatekeeper itself
+pub one-more-up-to-date : (old mid new : Hand) (gate bound : ℕ) → OnlyCarries old mid → OnlyCarries mid new
+    → IsUpToDateBelow bound gate old mid → (bound ≢ gate → IsUpToDate mid new gate bound) → IsUpToDateBelow (bound + 1) gate old new
+one-more-up-to-date old mid new gate bound first second before next from low other = elim (cases_lt from bound) [
+  | inl less ↦ still-up-to-date old mid new gate from (before from less other) second
   | inr far ↦ (let same : bound ≡ from = omega (arith, low, far) in
-      subst (HasHeard old new gate) same (heard-after old mid new gate bound first (next (λ is. other (sym same ∙ is)))))
+      subst (IsUpToDate old new gate) same (since-before old mid new gate bound first (next (λ is. other (sym same ∙ is)))))
 ]
 
 -- what holds, holds of any result that is Ok

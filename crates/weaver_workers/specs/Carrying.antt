@@ -1,5 +1,6 @@
 -- What hands do that begin nothing: clocks are told, empty messages are sent, messages are brought and processed.
-use Rattle.std.specs.Prelude.{◌≡◌, ◌≢◌, ℕ, ◌<◌, Bool, true, false, List, ◌++◌, Contains, IsTrue}
+use Rattle.std.specs.Prelude.{◌≡◌, ◌≢◌, ℕ, ◌<◌, Bool, true, false, List, ◌++◌, slice_index_or, Contains, IsTrue, Option, Some, None}
+use Rattle.vector_stamp.specs.declared.clock.Clock.{Clock}
 use Rattle.weave_entries.specs.declared.gate_log.GateEntry.{GateEntry}
 use Rattle.weave_entries.specs.declared.gate_log.GateDeed.{GateDeed}
 use Rattle.weave_entries.specs.declared.gate_log.GateDeed.TheVariants.{Heard, Nop}
@@ -85,6 +86,29 @@ pub record HasHeard (old new : Hand) (gate from : ℕ) : Type 0 where
   pub heard : Contains added entry
   pub deed : entry.deed ≡ Heard (clock_of from said)
 
--- it heard each other one below this number
-abbrev pub HasHeardBelow : ℕ → ℕ → Hand → Hand → Type 0
-HasHeardBelow bound gate old new = (from : ℕ) → from < bound → from ≢ gate → HasHeard old new gate from
+-- The log of a gatekeeper gives this clock at a place that the hand had not gone past before, and has seen since.
+pub record HasSaid (old new : Hand) (from : ℕ) (clock : Clock) : Type 0 where
+  pub said : List GateEntry
+  pub late : IsBeginningOf (gate_log (seen_by old) from) said
+  pub seen : IsBeginningOf said (gate_log (seen_by new) from)
+  pub clock_is : clock ≡ clock_of from said
+
+-- the gatekeeper has heard this clock from the hand
+pub record HasTold (hand : Hand) (gate : ℕ) (clock : Clock) : Type 0 where
+  pub entry : GateEntry
+  pub own : Contains (gate_log (made_by hand) gate) entry
+  pub deed : entry.deed ≡ Heard clock
+
+-- it has heard each clock of a list that has one
+abbrev pub AreTold : Hand → ℕ → List (Option Clock) → Type 0
+AreTold hand gate clocks = (from : ℕ) (clock : Clock) → slice_index_or clocks from None ≡ Some clock → HasTold hand gate clock
+
+-- Another gatekeeper, `from`, has said its clock since, and this one has heard that clock: now, or it had before.
+pub record IsUpToDate (old new : Hand) (gate from : ℕ) : Type 0 where
+  pub clock : Clock
+  pub said : HasSaid old new from clock
+  pub told : HasTold new gate clock
+
+-- it is up to date with each other one below this number
+abbrev pub IsUpToDateBelow : ℕ → ℕ → Hand → Hand → Type 0
+IsUpToDateBelow bound gate old new = (from : ℕ) → from < bound → from ≢ gate → IsUpToDate old new gate from

@@ -1,5 +1,6 @@
 -- What a client's worker does, one thing after another, and how it ends.
 use Rattle.std.specs.Prelude.{◌≡◌, ◌⊎◌, ℕ, ◌<◌, List, [], ◌∷◌, ◌++◌, Contains, IsTrue, is_some, Option, None, Some}
+use Rattle.std.specs.Option.{ForSome}
 use Rattle.graph_ops.specs.declared.op.Op.{Op}
 use Rattle.weave_data.specs.declared.name.Name.{Name}
 use Rattle.weave_data.specs.Names.{shard_of}
@@ -184,8 +185,12 @@ pub record FoundUnready (shared : Shared) (new : Stand) (shard gate : ℕ) : Typ
   pub shard_is : shard ≡ shard_of vertex (shard_count shared)
   pub unready : first_unready (gate_count shared) running.stamp (shard_log (seen_by new.hand) shard) ≡ Some gate
 
+-- if a program is running it is of a request before `upto`
+abbrev pub RunsBelow : ℕ → Client → Type 0
+RunsBelow upto client = ForSome client.running (λ (running : Running). running.request < upto)
+
 -- how a client's worker ends
 abbrev pub EndsAs : Shared → Script → ℕ → Stand → Ended → Type 0
 EndsAs shared script upto new Done = HasReplies upto new.client
 EndsAs shared script upto new (Busy gate) = FoundBusy script upto new gate
-EndsAs shared script upto new (NotYet shard gate) = FoundUnready shared new shard gate
+EndsAs shared script upto new (NotYet shard gate) = FoundUnready shared new shard gate × RunsBelow upto new.client

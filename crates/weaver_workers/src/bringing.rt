@@ -44,7 +44,8 @@ fn place_of(gate: u32, shard: u32) -> usize {
 }
 
 /// A turn of a shard: it is to take in all that each gatekeeper has sent to it and that was not brought before, and to
-/// process it as far as it can. The contract says where the hand makes entries and of which kinds. It may wait. The one
+/// process it as far as it can. If there is nothing new it processes nothing: who brings a message processes what can be
+/// processed then. The contract says where the hand makes entries and of which kinds. It may wait. The one
 /// error is out of memory.
 pub fn turn_shard<R: Wait>(
     rt: &R,
@@ -60,11 +61,14 @@ pub fn turn_shard<R: Wait>(
     requires shard { shard < shard_count shared.now }
     ensures { CarriesAtShard shared.now shard hand.old hand.new }
 {
-    bring_all(rt, alloc, hand, shared, gates, shard, brought)?;
-    apply_all(rt, alloc, hand, shared, gates, shard)
+    let is_new = bring_all(rt, alloc, hand, shared, gates, shard, brought)?;
+    if is_new {
+        return apply_all(rt, alloc, hand, shared, gates, shard);
+    }
+    Ok(())
 }
 
-// Brings what each gatekeeper has sent to the shard.
+// Brings what each gatekeeper has sent to the shard: whether there is any that this worker had not found sent before.
 fn bring_all<R: Wait>(
     rt: &R,
     alloc: Global,
@@ -73,26 +77,21 @@ fn bring_all<R: Wait>(
     gates: u32,
     shard: u32,
     brought: &mut Brought,
-) -> Result<(), AllocError>
+) -> Result<bool, AllocError>
     requires hand { IsHand shared.now hand.old }
     requires gates { gates ≤ gate_count shared.now }
     requires shard { shard < shard_count shared.now }
     ensures { CarriesAtShard shared.now shard hand.old hand.new }
 {
+    let mut is_new = false;
     for gate in 0..gates {
-        let known = known_to(
-            rt,
-            alloc,
-            hand,
-            shared,
-            gate,
-            shard,
-            brought.on(gate, shard),
-        )?;
+        let before = brought.on(gate, shard);
+        let known = known_to(rt, alloc, hand, shared, gate, shard, before)?;
         let number = bring_from(rt, alloc, hand, shared, gate, shard, known)?;
         brought.set(gate, shard, number);
+        is_new = is_new | (before != Some(number));
     }
-    Ok(())
+    Ok(is_new)
 }
 
 // Up to which message the channel was brought: as is known, or else as a search finds.

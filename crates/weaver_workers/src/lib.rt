@@ -12,8 +12,8 @@
 //! another, each as the hand's call says it (`GoesOn`), and how it ended (`EndsAs`). The other workers only carry
 //! (`Carries`): the entries that their hands make are clocks that gatekeepers heard, empty messages, and messages that
 //! arrived at shards or were processed there, and all of these are at the worker's own gatekeeper (`CarriesAtGate`) or
-//! shard (`CarriesAtShard`). After a turn that answers Ok the gatekeeper has heard each other one (`HasHeard`). That a
-//! shard's turn brings and processes all there is, no clause says.
+//! shard (`CarriesAtShard`). After a turn that answers Ok the gatekeeper has heard each other one, now or, if that one's
+//! clock is still the same, before (`IsUpToDate`). That a shard's turn brings and processes all there is, no clause says.
 #![tactic(auto)]
 
 mod bounds;
@@ -22,6 +22,7 @@ mod changing;
 mod client_work;
 mod ended;
 mod gate_work;
+mod hearing;
 mod keeping;
 mod looking;
 mod nudging;

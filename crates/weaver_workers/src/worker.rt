@@ -11,6 +11,7 @@ use crate::bringing::{Brought, turn_shard};
 use crate::client_work::go_session;
 use crate::ended::Ended;
 use crate::gate_work::turn_gate;
+use crate::hearing::no_clocks;
 use crate::keeping::workers_keep_their_laws;
 use crate::pace::{Pace, WorkKind};
 use program_defs::Script;
@@ -117,6 +118,7 @@ fn go_gate<R: Wait, P: Pace>(
     let from = start_of_phase(script, phase);
     let upto = end_of_phase(script, phase);
     let sending = program_turns(script, from, upto);
+    let mut last = no_clocks(alloc)?;
     for turn in 0..turns_of(from, upto) {
         pace.before(WorkKind::Gate, gate, turn);
         turn_gate(
@@ -128,6 +130,7 @@ fn go_gate<R: Wait, P: Pace>(
             script.shards,
             gate,
             turn < sending,
+            &mut last,
         )?;
         pace.after(WorkKind::Gate, gate, turn);
     }

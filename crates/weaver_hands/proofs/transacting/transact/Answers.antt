@@ -51,7 +51,9 @@ returns-in-Ok-send-clause-done g c =
     c.in-Ok.stamp flies in
     record {
       begun = c.begin_tx.new.hand;
+      begun_seen = c.own_entries_are_those_seen.ensures c.args.shared.now c.begin_tx.new.hand c.begin_tx.ensures.hand;
       judged = c.commit.new.hand;
+      judged_seen = c.own_entries_are_those_seen.ensures c.args.shared.now c.commit.new.hand c.commit.ensures.hand;
       before = hold.0;
       begins = hold.1;
       stamp_is = hold.2;

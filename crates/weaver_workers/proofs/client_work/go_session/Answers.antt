@@ -2,6 +2,7 @@ use Rattle.std.proofs.Common.{sym, ◌∙◌}
 use Rattle.weaver_core.specs.Clients.{log_of, requests_in, unanswered_in}
 use Rattle.weaver_workers.specs.Turning.{stand}
 use Rattle.weaver_workers.proofs.Answered.{below-parts, has-replies, in-script, none-from, unanswered-of}
+use Rattle.weaver_workers.proofs.Below.{first-below, goes-below}
 use Rattle.weaver_workers.proofs.Going.{goes-none, goes-then}
 use Rattle.weaver_workers.proofs.ReadOn.{ends-by}
 use Rattle.weaver_workers.proofs.client_work.go_session.Goals as goal
@@ -42,6 +43,11 @@ returns-in-Some-ended_by-clause-ends g c =
     ends-by c.args.shared.now c.args.script.now c.args.upto (stand c.try_next.new.hand c.try_next.new.client) c.in_ok-tried.tried
     c.ended_by.result c.in-Some-ended_by.ended c.ended_by.ensures c.in-Some-ended_by.is
     (c.in_ok-tried.ensures c.args.upto parts.1).answered
+    (let goes = (c.in_ok-tried.ensures c.args.upto parts.1).goes in
+    goes-below c.args.shared.now c.args.script.now c.args.number c.args.upto goes.path (stand c.loop.hand c.loop.client)
+    (stand c.try_next.new.hand c.try_next.new.client) goes.went
+    (first-below c.args.shared.now c.args.script.now c.args.number c.args.upto (stand c.loop.hand c.loop.client) c.loop.invariant.keeps
+    request parts.0 parts.1))
 
 pub loop-preserved : goal.loop-preserved
 loop-preserved g c =
