@@ -4,9 +4,13 @@
 #[cfg(test)]
 mod check_tests;
 #[cfg(test)]
+mod example_tests;
+#[cfg(test)]
 mod load_tests;
 #[cfg(test)]
 mod run_tests;
+#[cfg(test)]
+mod threads_tests;
 #[cfg(test)]
 mod top_tests;
 #[cfg(test)]

@@ -1,13 +1,19 @@
-//! Scripts that are run whole: the script, and the report that `run` writes. `check` says of each that it is right.
+//! Scripts that are run whole, driven by `execute` and on threads by `weave`. `check` says of each report that it is right.
 use crate::top_tests::{HONEST, call, gives};
 use std::alloc::{AllocError, Global};
 use std::sync::Wait;
 use std::test::Fail;
 use std::thread::Threads;
-use weaver_top::Status;
+use weave_io::{MemorySink, MemorySource};
+use weaver_top::{Status, execute};
 
-// Scripts, and their reports.
-const RUNS: [(&str, &str); 9] = [
+// Scripts, and the reports that `run` writes of them where the core is driven.
+const RUNS: [(&str, &str); 10] = [
+    // People, whom they know, and where they live (examples/people.weave).
+    (
+        "# People, whom they know, and where they live.\nweaver 1 1 2\ntx t1 0 0\ncreate ann\ncreate bob\ncreate oslo\nset ann age y41\nlink ann knows bob\nlink ann lives oslo\ntag ann lives since y2019\nend\ntx t2 0 0\nget ann\nunlink ann lives\nend\ntx t3 0 0\ncreate bob\nend\n",
+        "report 1\ntx t1 0:0:1 committed 1\ntx t2 0:0:2 committed 2\ngot 1 record age=y41 knows>bob lives>oslo,since=y2019\ntx t3 0:0:3 refused 1 exists at 2\norder t1 t2\nend\n",
+    ),
     // Nothing to do, at all gatekeepers and shards.
     ("weaver 1 8 16\n", "report 1\norder\nend\n"),
     // Phases without requests: before the first request, between two, and after the last.
@@ -73,26 +79,48 @@ fn is_right<R: Threads + Wait + Sync>(
     )
 }
 
-// Whether `run` writes this report for the script, and `check` says that it is right.
-fn is_run<R: Threads + Wait + Sync>(
+// Calls `execute` with `run`, and gives the status and what was written.
+fn drive(alloc: Global, script: &[u8]) -> Result<(Status, Vec<u8>), AllocError> {
+    let mut words = Vec::new(alloc);
+    words.push(String::from_str(alloc, "run")?)?;
+    let mut source = MemorySource::new(Vec::from_slice(alloc, script)?, Vec::new(alloc), 65_536);
+    let mut sink = MemorySink::new(alloc, Vec::new(alloc), 65_536);
+    let status = execute(alloc, &words, &mut source, &mut sink);
+    Ok((status, Vec::from_slice(alloc, sink.bytes())?))
+}
+
+// Whether `run` writes this report for the script where the core is driven, and `check` says that it is right.
+fn is_driven<R: Threads + Wait + Sync>(
     rt: &R,
     alloc: Global,
     script: &[u8],
     report: &[u8],
 ) -> Result<bool, AllocError> {
-    let (status, written) = call(rt, alloc, &["run"], script, HONEST)?;
+    let (status, written) = drive(alloc, script)?;
     let right = is_right(rt, alloc, script, written.as_slice())?;
     Ok(status == Status::Done && written.as_slice() == report && right)
 }
 
-// The number of the first row that is not run so, from 0; that of all rows if there is none.
+// Whether `run` on threads writes a report of which `check` says that it is right.
+fn is_run<R: Threads + Wait + Sync>(
+    rt: &R,
+    alloc: Global,
+    script: &[u8],
+) -> Result<bool, AllocError> {
+    let (status, written) = call(rt, alloc, &["run"], script, HONEST)?;
+    let right = is_right(rt, alloc, script, written.as_slice())?;
+    Ok(status == Status::Done && right)
+}
+
+// The number of the first row that is not driven and run so, from 0; that of all rows if there is none.
 fn rows_run<R: Threads + Wait + Sync>(
     rt: &R,
     alloc: Global,
     rows: &[(&str, &str)],
 ) -> Result<usize, AllocError> {
     for (number, (script, report)) in rows.iter().enumerate() {
-        if !is_run(rt, alloc, script.as_bytes(), report.as_bytes())? {
+        let driven = is_driven(rt, alloc, script.as_bytes(), report.as_bytes())?;
+        if !driven || !is_run(rt, alloc, script.as_bytes())? {
             return Ok(number);
         }
     }
@@ -100,8 +128,8 @@ fn rows_run<R: Threads + Wait + Sync>(
 }
 
 #[test]
-fn scripts_that_are_driven(rt: HostRuntime) -> Result<(), Fail> {
-    assert_eq!(rt; rows_run(&rt, rt.alloc(), RUNS.as_slice())?, 9);
+fn scripts_that_are_driven_and_run(rt: HostRuntime) -> Result<(), Fail> {
+    assert_eq!(rt; rows_run(&rt, rt.alloc(), RUNS.as_slice())?, 10);
     Ok(())
 }
 
@@ -123,21 +151,93 @@ fn many_phases(alloc: Global) -> Result<Vec<u8>, AllocError> {
     Ok(input)
 }
 
-// Whether `run` takes the script, its report ends so, and `check` says that it is right.
+// Whether `run` takes the script, its report ends with one of the two, and `check` says that it is right.
 fn is_run_to<R: Threads + Wait + Sync>(
     rt: &R,
     alloc: Global,
     script: &[u8],
     end: &[u8],
+    other: &[u8],
 ) -> Result<bool, AllocError> {
     let (status, report) = call(rt, alloc, &["run"], script, HONEST)?;
     let right = is_right(rt, alloc, script, report.as_slice())?;
-    Ok(status == Status::Done && report.as_slice().ends_with(end) && right)
+    let ends = report.as_slice().ends_with(end) || report.as_slice().ends_with(other);
+    Ok(status == Status::Done && ends && right)
 }
 
+// The two requests of the last phase are of two sessions, so either may come last.
 #[test]
 fn thirty_phases(rt: HostRuntime) -> Result<(), Fail> {
     let script = many_phases(rt.alloc())?;
-    assert!(rt; is_run_to(&rt, rt.alloc(), script.as_slice(), b" t29 p29\nend\n")?);
+    let (end, other) = (b" t29 p29\nend\n", b" p29 t29\nend\n");
+    assert!(rt; is_run_to(&rt, rt.alloc(), script.as_slice(), end, other)?);
+    Ok(())
+}
+
+// Vertices that all sessions share.
+const SHARED: u32 = 40;
+
+// A program, of one kind or the other.
+fn program_line(alloc: Global, number: u32) -> Result<String, AllocError> {
+    let (session, gate) = (number.wrapping_mul(7) % 64, number.wrapping_mul(5) % 8);
+    let (v, w) = (
+        number.wrapping_mul(13) % SHARED,
+        number.wrapping_mul(29) % SHARED,
+    );
+    if number % 10 == 8 {
+        return format!(in alloc; "prog p{number} {session} {gate} around v{v} 2\n");
+    }
+    format!(in alloc; "prog p{number} {session} {gate} reach v{v} v{w}\n")
+}
+
+// A transaction that changes two vertices, or one and its edge.
+fn transaction_lines(alloc: Global, number: u32) -> Result<String, AllocError> {
+    let (session, gate) = (number.wrapping_mul(7) % 64, number.wrapping_mul(5) % 8);
+    let (v, w) = (
+        number.wrapping_mul(13) % SHARED,
+        number.wrapping_mul(29) % SHARED,
+    );
+    if number % 10 == 7 {
+        return format!(in alloc;
+            "tx t{number} {session} {gate}\nget v{v}\nlink v{v} e{number} v{w}\ntag v{v} e{number} k x\nend\n"
+        );
+    }
+    format!(in alloc;
+        "tx t{number} {session} {gate}\nset v{v} k x{number}\nset v{w} k y{number}\nend\n"
+    )
+}
+
+// A request at one of eight gatekeepers: two of ten are programs.
+fn add_request(text: &mut Vec<u8>, number: u32) -> Result<(), AllocError> {
+    let alloc = *text.allocator();
+    let lines = if number % 10 < 8 {
+        transaction_lines(alloc, number)?
+    } else {
+        program_line(alloc, number)?
+    };
+    text.extend_from_slice(lines.as_str().as_bytes())
+}
+
+// The vertices, and then fifty phases of twenty requests each, at eight gatekeepers and sixteen shards.
+fn fifty_phases(alloc: Global) -> Result<Vec<u8>, AllocError> {
+    let mut input = Vec::from_slice(alloc, b"weaver 1 8 16\ntx t 0 0\n")?;
+    for v in 0..SHARED {
+        let line = format!(in alloc; "create v{v}\n")?;
+        input.extend_from_slice(line.as_str().as_bytes())?;
+    }
+    input.extend_from_slice(b"end\n")?;
+    for number in 0..1_000 {
+        if number % 20 == 0 {
+            input.extend_from_slice(b"phase\n")?;
+        }
+        add_request(&mut input, number)?;
+    }
+    Ok(input)
+}
+
+#[test]
+fn a_thousand_requests_in_fifty_phases(rt: HostRuntime) -> Result<(), Fail> {
+    let script = fifty_phases(rt.alloc())?;
+    assert!(rt; is_run(&rt, rt.alloc(), script.as_slice())?);
     Ok(())
 }

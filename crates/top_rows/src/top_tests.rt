@@ -6,7 +6,7 @@ use std::sync::Wait;
 use std::test::Fail;
 use std::thread::Threads;
 use weave_io::{MemorySink, MemorySource};
-use weaver_top::{NoPace, Status, weave};
+use weaver_top::{NoPace, Pace, Status, weave};
 
 pub(crate) const FIRST: &[u8] =
     b"weaver 1 1 1\ntx t1 0 0\ncreate v\nset v color red\nend\ntx t2 0 0\nget v\nend\n";
@@ -40,6 +40,20 @@ pub(crate) fn call<R: Threads + Wait + Sync>(
 ) -> Result<(Status, Vec<u8>), AllocError>
     requires { 0 < outside.source_piece }
 {
+    call_at_pace(rt, alloc, words, input, outside, &NoPace)
+}
+
+// The same with a pace.
+pub(crate) fn call_at_pace<R: Threads + Wait + Sync, P: Pace>(
+    rt: &R,
+    alloc: Global,
+    words: &[&str],
+    input: &[u8],
+    outside: Outside,
+    pace: &P,
+) -> Result<(Status, Vec<u8>), AllocError>
+    requires { 0 < outside.source_piece }
+{
     let mut all = Vec::new(alloc);
     for word in words {
         all.push(String::from_str(alloc, word)?)?;
@@ -52,7 +66,7 @@ pub(crate) fn call<R: Threads + Wait + Sync>(
     );
     let sink_fails = vec![in alloc; outside.sink_fails; 1]?;
     let mut sink = MemorySink::new(alloc, sink_fails, outside.sink_piece);
-    let status = weave(rt, alloc, &all, &mut source, &mut sink, &NoPace);
+    let status = weave(rt, alloc, &all, &mut source, &mut sink, pace);
     Ok((status, Vec::from_slice(alloc, sink.bytes())?))
 }
 

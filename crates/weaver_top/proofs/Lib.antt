@@ -3,6 +3,7 @@ pub mod Begun
 pub mod Unanswered
 pub mod Onward
 pub mod PhaseEnds
+pub mod OnThreads
 pub mod Headline
 pub mod Tracing
 pub mod Refused

@@ -1,13 +1,9 @@
 -- How many requests and steps a generated script has.
-use Rattle.std.proofs.Common.{◌≡◌, ℕ, zero, suc, ◌*◌, Bool, true, false, cond, ◌==◌, List, [], ◌∷◌, ◌++◌, length, refl, arith}
-use Rattle.std.specs.Prelude.{nat_lt}
-use Rattle.std.specs.List.{AllByRecursion}
+use Rattle.std.proofs.Common.{◌≡◌, ℕ, zero, suc, ◌*◌, List, [], ◌∷◌, length, refl, arith}
 use Rattle.std.proofs.lemmas.List.{length-append}
-use Rattle.program_defs.specs.declared.script.Script.{Script}
-use Rattle.program_defs.specs.declared.script.Step.{Step}
 use Rattle.weave_script.specs.Scripts.{steps_of}
 use Rattle.load_maker.specs.Words.{Words, drawn_list, words_of}
-use Rattle.load_maker.specs.Generated.{request_of, script_from, script_of, step_of, step_of_form}
+use Rattle.load_maker.specs.Generated.{request_of, script_from, script_of, step_of}
 
 drawn-length : {A : Type 0} (item : List A → Words → A × Words) (n : ℕ) (words : Words) → length (drawn_list item n words).0 ≡ n
 unfolding drawn_list

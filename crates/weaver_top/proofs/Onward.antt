@@ -1,5 +1,5 @@
 -- A run goes on: what driving and collecting leave, one after another.
-use Rattle.std.proofs.Common.{◌≡◌, ℕ, ◌<◌, ◌≤◌, ◌==◌, List, [], ◌∷◌, ◌++◌, fold, Contains, IsTrue, Some, inl, inr, refl, sym, ap, subst, ◌∙◌, append_assoc, arith}
+use Rattle.std.proofs.Common.{◌≡◌, ℕ, ◌<◌, ◌==◌, List, [], ◌∷◌, ◌++◌, fold, Contains, IsTrue, inl, inr, sym, ap, subst, ◌∙◌, append_assoc}
 use Rattle.std.proofs.lemmas.List.{append-nil}
 use Rattle.std.proofs.lemmas.List.Concat.{flat_map-append}
 use Rattle.std.proofs.lemmas.List.Elements.{Contains-append_cases, Contains-append_left}
@@ -9,7 +9,6 @@ use Rattle.program_defs.specs.declared.script.Script.{Script}
 use Rattle.program_defs.specs.declared.script.Step.{Step}
 use Rattle.program_defs.specs.declared.script.Step.TheVariants.{Collect}
 use Rattle.program_defs.specs.Limits.{IsWithinLimits}
-use Rattle.weave_entries.specs.declared.gate_log.GateEntry.{GateEntry}
 use Rattle.weave_entries.specs.declared.session_log.SessionEntry.{SessionEntry}
 use Rattle.weave_entries.specs.SessionReplay.{replied_in, reply_by}
 use Rattle.weave_account.specs.declared.account.Account.{Account}
@@ -20,9 +19,10 @@ use Rattle.step_rules.specs.CoreState.{CoreState}
 use Rattle.step_rules.specs.IsCore.{IsCore, IsStepOf}
 use Rattle.step_rules.specs.Requests.{has_reply}
 use Rattle.step_rules.specs.Trace.{state_after}
-use Rattle.weave_drive.specs.Driving.{AreDriving, AreReplied, DrivesGates, IsDriven, is_driving_deed}
+use Rattle.weave_drive.specs.Driving.{AreDriving, DrivesGates, IsDriven}
+use Rattle.workers_account.specs.Pairs.{AddsOpenPairs}
 use Rattle.weaver_top.specs.LowerLaws.{LowerLaws}
-use Rattle.weaver_top.specs.PhaseByPhase.{AddsOpenPairs, EndsAt, RunsBelow}
+use Rattle.weaver_top.specs.PhaseByPhase.{EndsAt, RunsBelow}
 use Rattle.weaver_top.proofs.Unanswered.{step-adds}
 
 -- Accounts go on

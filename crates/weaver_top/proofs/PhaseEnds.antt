@@ -1,39 +1,35 @@
 -- The phases of a run end one after another, and with the last requests it is a run by phases.
-use Rattle.std.proofs.Common.{◌≡◌, ℕ, zero, suc, ◌+◌, ◌<◌, ◌≤◌, ◌==◌, ◌⊎◌, Bool, true, false, cond, nat_le, nat_lt, List, [], ◌∷◌, ◌++◌, length, replicate, get_or, Contains, IsTrue, Option, None, Some, inl, inr, refl, sym, ap, subst, ◌∙◌, arith}
-use Rattle.std.specs.Prelude.{count_by, slice_get, ◌&&◌}
+use Rattle.std.proofs.Common.{◌≡◌, ℕ, zero, suc, ◌+◌, ◌<◌, ◌≤◌, ◌==◌, ◌⊎◌, Bool, true, false, cond, nat_le, nat_lt, List, [], ◌∷◌, length, replicate, get_or, Contains, IsTrue, Option, None, Some, inl, inr, refl, sym, ap, subst, ◌∙◌, arith}
+use Rattle.std.specs.Prelude.{count_by, slice_get}
 use Rattle.std.specs.List.{find, list_any}
 use Rattle.std.specs.Option.{option_map}
-use Rattle.std.proofs.lemmas.Bool.{and_parts, cases_eq, eqb-true, le-leb, leb-false, leb-true, lt-ltb, ltb-true}
+use Rattle.std.proofs.lemmas.Bool.{cases_eq, eqb-true, le-leb, leb-false, leb-true, lt-ltb, ltb-true}
 use Rattle.std.proofs.lemmas.List.Elements.{Contains-append_cases}
 use Rattle.std.proofs.lemmas.Option.{slice_get_within}
 use Rattle.std.proofs.lemmas.List.Sums.{count_by-le-length, sum_by-cons}
 use Rattle.proof_base.proofs.Images.{flat-has}
-use Rattle.proof_base.proofs.Members.{any_has, cut_at, find_has, has_none, only}
+use Rattle.proof_base.proofs.Members.{any_has, find_has, has_none, only}
 use Rattle.vector_stamp.specs.declared.clock.Stamp.{Stamp}
 use Rattle.vector_stamp.specs.Order.{id_of}
 use Rattle.program_defs.specs.declared.script.Request.{Request}
 use Rattle.program_defs.specs.declared.script.Script.{Script}
-use Rattle.program_defs.specs.declared.script.Work.{Work}
 use Rattle.program_defs.specs.Limits.{IsWithinLimits}
-use Rattle.program_defs.specs.Works.{is_change, is_look}
-use Rattle.report_rules.specs.Lookups.{is_some_and, request_at}
-use Rattle.report_rules.specs.Meetings.{phase_of}
+use Rattle.report_rules.specs.Lookups.{request_at}
 use Rattle.weave_script.specs.Scripts.{RiseTo}
 use Rattle.weave_entries.specs.declared.gate_log.GateDeed.{GateDeed}
 use Rattle.weave_entries.specs.declared.gate_log.GateDeed.TheVariants.{BeganTx, BeganProgram, Sent, Nop, Heard, Raised, Finished}
 use Rattle.weave_entries.specs.declared.gate_log.GateEntry.{GateEntry}
-use Rattle.weave_entries.specs.GateReplay.{Begun, begun_by, begun_in}
+use Rattle.weave_entries.specs.GateReplay.{Begun, begun_by}
 use Rattle.weave_account.specs.declared.account.Account.{Account}
-use Rattle.weave_account.specs.Account.{all_begun, gate_log, pairs_in, stamp_of}
+use Rattle.weave_account.specs.Account.{all_begun, gate_log, stamp_of}
 use Rattle.weave_account.specs.Clocks.{is_raised, raises_to}
-use Rattle.weave_account.specs.Gatekeepers.{BeginsAs}
 use Rattle.weave_account.specs.IsAccount.{IsAccount}
 use Rattle.weave_account.specs.NoLogs.{no_logs}
-use Rattle.weave_account.specs.Phases.{EndsPhase, IsRunByPhases}
+use Rattle.weave_account.specs.Phases.{EndsPhase}
 use Rattle.step_rules.specs.Requests.{has_reply}
 use Rattle.weave_drive.specs.Driving.{AreReplied, DrivesGates, is_driving_deed}
 use Rattle.weaver_top.specs.LowerLaws.{LowerLaws}
-use Rattle.weaver_top.specs.PhaseByPhase.{AddsOpenPairs, EndsAt, HasEnded, IsRunUpTo, IsWholeRun, RunsBelow}
+use Rattle.weaver_top.specs.PhaseByPhase.{EndsAt, HasEnded, IsRunUpTo, IsWholeRun, RunsBelow}
 use Rattle.weaver_top.proofs.Begun.{at-home, place-of}
 use Rattle.weaver_top.proofs.Onward.{adds-through, goes-further, goes-same, runs-same}
 
@@ -143,10 +139,10 @@ raises-none bound epoch (Raised to) t raised = cc
 raises-none bound epoch (Finished r) t raised = cc
 
 -- all deeds at the gatekeepers are such
-abbrev AreBelow : ℕ → Account → Type 0
+abbrev pub AreBelow : ℕ → Account → Type 0
 AreBelow bound account = (home : ℕ) (entry : GateEntry) → Contains (gate_log account home) entry → IsTrue (is_driving_deed bound entry.deed)
 
-all-below : (bound : ℕ) (account : Account) → AreBelow bound account → (b : Begun) → Contains (all_begun account) b → b.request < bound
+pub all-below : (bound : ℕ) (account : Account) → AreBelow bound account → (b : Begun) → Contains (all_begun account) b → b.request < bound
 all-below bound account are b h =
     let home = at-home account b h in
     let entry = flat-has (λ (e : GateEntry). begun_by e.author e.deed) (gate_log account home.0) b home.1 in
@@ -186,7 +182,7 @@ started script is = record {
 }
 
 -- a request below their number is there
-there-below : (requests : List Request) (r : ℕ) → r < length requests → (request : Request) × (slice_get requests r ≡ Some request)
+pub there-below : (requests : List Request) (r : ℕ) → r < length requests → (request : Request) × (slice_get requests r ≡ Some request)
 there-below [] r less = absurd (omega (arith, less))
 there-below (request ∷ requests) zero less = (request, refl)
 there-below (request ∷ requests) (suc r) less = there-below requests r (omega (arith, less))

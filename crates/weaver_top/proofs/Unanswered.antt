@@ -1,12 +1,12 @@
 -- A step adds pairs to requests that have no reply, and so do steps one after another.
-use Rattle.std.proofs.Common.{◌≡◌, ℕ, ◌⊎◌, Bool, true, false, cond, List, [], ◌∷◌, ◌++◌, fold, Contains, IsTrue, Option, None, Some, inl, inr, refl, sym, ap, subst, ◌∙◌}
+use Rattle.std.proofs.Common.{◌≡◌, ℕ, ◌⊎◌, Bool, true, false, cond, List, [], ◌∷◌, ◌++◌, Contains, IsTrue, Option, None, Some, inl, inr, refl, sym, ap, subst, ◌∙◌}
 use Rattle.std.specs.Prelude.{map, slice_get, ◌==◌}
 use Rattle.std.proofs.lemmas.Bool.{eqb-true}
 use Rattle.vector_stamp.specs.Seeing.{last_seen}
 use Rattle.weave_data.specs.Names.{shard_of}
 use Rattle.program_defs.specs.Works.{is_look}
 use Rattle.weave_entries.specs.SessionReplay.{has_reply_in}
-use Rattle.std.specs.List.{cons_option, filter_map, flat_map}
+use Rattle.std.specs.List.{cons_option, filter_map}
 use Rattle.std.specs.Option.{option_map}
 use Rattle.std.proofs.lemmas.List.Concat.{flat_map-append}
 use Rattle.std.proofs.lemmas.List.Elements.{Contains-append_cases}
@@ -14,10 +14,8 @@ use Rattle.proof_base.proofs.Members.{find_has, has_none, has_read}
 use Rattle.vector_stamp.specs.declared.clock.Clock.{Clock}
 use Rattle.vector_stamp.specs.declared.clock.Stamp.{Stamp}
 use Rattle.vector_stamp.specs.Precedence.{Given}
-use Rattle.vector_stamp.specs.Settling.{additions_from, entries_of_call, places_of}
+use Rattle.vector_stamp.specs.Settling.{entries_of_call}
 use Rattle.weave_data.specs.declared.name.Name.{Name}
-use Rattle.graph_ops.specs.declared.op.Op.{Op}
-use Rattle.program_defs.specs.declared.program.Program.{Program}
 use Rattle.program_defs.specs.declared.script.Request.{Request}
 use Rattle.program_defs.specs.declared.script.Script.{Script}
 use Rattle.program_defs.specs.declared.script.Step.{Step}
@@ -25,7 +23,6 @@ use Rattle.program_defs.specs.declared.script.Step.TheVariants.{Begin, Judge, Se
 use Rattle.program_defs.specs.declared.script.Work.{Work}
 use Rattle.program_defs.specs.declared.script.Work.TheVariants.{Change, Look}
 use Rattle.program_defs.specs.Limits.{IsWithinLimits}
-use Rattle.program_defs.specs.Visits.{next_visit}
 use Rattle.report_rules.specs.Lookups.{request_at}
 use Rattle.weave_entries.specs.declared.message.Message.{Message}
 use Rattle.weave_entries.specs.declared.oracle_log.OracleEntry.{OracleEntry}
@@ -36,16 +33,15 @@ use Rattle.weave_entries.specs.OracleReplay.{oracle_entry, pairs_of_entry, pairs
 use Rattle.weave_entries.specs.StoreReplay.{Judgement}
 use Rattle.weave_entries.specs.StoreRule.{asked_stamps, entries_of_settling, settled_if}
 use Rattle.weave_account.specs.declared.account.Account.{Account}
-use Rattle.weave_account.specs.Account.{all_begun, gate_log, pairs_in, reads_of, session_log}
+use Rattle.weave_account.specs.Account.{gate_log, pairs_in, session_log}
 use Rattle.weave_account.specs.IsAccount.{IsAccount}
 use Rattle.step_rules.specs.CoreState.{CoreState}
 use Rattle.step_rules.specs.Answers.{answer_of}
 use Rattle.step_rules.specs.Entries.{account_with, after_begin, after_deliver, after_hear, after_judge, after_reply, after_send, after_visit, after_work, at_request, lasts_in, seen_in, state_with, update_stamps, verdict_in, with_finish}
-use Rattle.step_rules.specs.IsCore.{IsCore}
 use Rattle.step_rules.specs.Requests.{has_ended, next_vertex, ops_in}
 use Rattle.step_rules.specs.Trace.{is_ok, state_after}
 use Rattle.weaver_top.specs.LowerLaws.{LowerLaws}
-use Rattle.weaver_top.specs.PhaseByPhase.{AddsOpenPairs, IsOpen}
+use Rattle.workers_account.specs.Pairs.{AddsOpenPairs}
 use Rattle.weaver_top.proofs.Begun.{all-in, flight-begun, flight-unanswered, program-begun-in}
 
 -- What the oracle adds

@@ -1,6 +1,5 @@
 -- A run by phases, a part at a time: what each part leaves, and how far the run has come. No public contract cites this.
-use Rattle.std.specs.Prelude.{◌≡◌, ◌⊎◌, ℕ, ◌<◌, ◌≤◌, length, Contains, IsTrue, Some, slice_get}
-use Rattle.vector_stamp.specs.declared.clock.Stamp.{Stamp}
+use Rattle.std.specs.Prelude.{◌≡◌, ℕ, ◌<◌, ◌≤◌, length, Contains, IsTrue, Some, slice_get}
 use Rattle.program_defs.specs.declared.script.Request.{Request}
 use Rattle.program_defs.specs.declared.script.Script.{Script}
 use Rattle.report_rules.specs.Lookups.{request_at}
@@ -8,28 +7,16 @@ use Rattle.report_rules.specs.Meetings.{phase_of}
 use Rattle.weave_entries.specs.declared.gate_log.GateEntry.{GateEntry}
 use Rattle.weave_entries.specs.GateReplay.{Begun}
 use Rattle.weave_account.specs.declared.account.Account.{Account}
-use Rattle.weave_account.specs.Account.{all_begun, gate_log, pairs_in}
+use Rattle.weave_account.specs.Account.{all_begun, gate_log}
 use Rattle.weave_account.specs.Clocks.{is_raised}
 use Rattle.weave_account.specs.GoesOn.{GoesOn}
 use Rattle.weave_account.specs.IsAccount.{IsAccount}
 use Rattle.weave_account.specs.Phases.{IsRunByPhases}
 use Rattle.step_rules.specs.Requests.{has_reply}
+use Rattle.workers_account.specs.Pairs.{AddsOpenPairs}
 use Rattle.weave_drive.specs.Driving.{AreReplied, DrivesGates, is_driving_deed}
 
 -- Parts of a run
-
--- a begun request of this stamp that had no reply before
-pub record IsOpen (script : Script) (old new : Account) (stamp : Stamp) : Type 0 where
-  pub begun : Begun
-  pub there : Contains (all_begun new) begun
-  pub stamp_is : begun.stamp ≡ stamp
-  pub unanswered : (request : Request) → request_at script begun.request ≡ Some request → ¬ IsTrue (has_reply old begun.request request)
-
--- the later end of each pair that was added is a request that had no reply before
-abbrev pub AddsOpenPairs : Script → Account → Account → Type 0
-AddsOpenPairs script old new =
-    (earlier later : Stamp) → Contains (pairs_in new) (earlier, later)
-    → Contains (pairs_in old) (earlier, later) ⊎ IsOpen script old new later
 
 -- The logs went on. They are an account; no request from the bound on began, no epoch was raised, and pairs were
 -- added to requests without a reply alone.

@@ -181,8 +181,8 @@ fn prepare_from_input<S: Source>(
     }
 }
 
-// Writes an answer's text.
-fn write_answer<K: Sink>(sink: &mut K, answer: &Answer) -> Status
+/// Writes an answer's text.
+pub(crate) fn write_answer<K: Sink>(sink: &mut K, answer: &Answer) -> Status
     ensures delivered { Delivers answer.now result (K.written sink.old) (K.written sink.new)
         (Rose (K.faults sink.old) (K.faults sink.new) ⊎ Rose (K.stalls sink.old) (K.stalls sink.new)) }
     ensures without_stall { result ≢ Status.Write → K.stalls sink.new ≡ K.stalls sink.old }
@@ -193,8 +193,8 @@ fn write_answer<K: Sink>(sink: &mut K, answer: &Answer) -> Status
     }
 }
 
-// Why there is nothing to write.
-enum PrepareError {
+/// Why there is nothing to write.
+pub(crate) enum PrepareError {
     Read,
     Memory,
 }

@@ -4,7 +4,10 @@
 //! it and writes its report; `trace` reads a script, does its steps one after another, and writes their report; `check`
 //! reads a script and a report after it, and writes whether the report is right for the script. It judges every script
 //! and report that can be read. `load` reads nothing: it makes a script, does its steps, answers every request, and
-//! writes a summary of the report. `weave` is `execute` with a runtime, for threads to come.
+//! writes a summary of the report.
+//!
+//! `weave` has a runtime. There `run` has workers on threads, and may wait; the other commands are those of `execute`,
+//! which has no runtime and always returns. In `execute` itself `run` drives a core, without workers.
 #![tactic(auto)]
 
 mod answer;
@@ -14,7 +17,7 @@ mod execution;
 mod load_command;
 mod load_laws;
 mod lower_laws;
-mod pace;
+mod on_threads;
 mod phases;
 mod run_command;
 mod status;
@@ -24,6 +27,6 @@ mod trace_command;
 
 pub use command::Command;
 pub use execution::execute;
-pub use pace::{NoPace, Pace, WorkKind};
 pub use status::Status;
 pub use top_call::weave;
+pub use weaver_workers::{NoPace, Pace, WorkKind};

@@ -3,19 +3,25 @@ ghost use Rattle.std.specs.Prelude.{◌≤◌, ℕ, List, length, IfOk};
 ghost use Rattle.weave_script.specs.Scripts.{IsScript};
 ghost use Rattle.weave_script.specs.ScriptLines.{IsTextOf};
 ghost use Rattle.weaver_top.specs.Answers.{IsAnswerTo, TellsRun};
+ghost use Rattle.weaver_top.specs.PhaseByPhase.{IsWholeRun};
 
 use crate::answer::{Answer, refusal};
 use crate::command::Command;
+use crate::on_threads::run_on_threads;
 use crate::phases::run;
 use crate::status::Status;
 use program_defs::Script;
 use std::alloc::{AllocError, Global};
+use std::sync::Wait;
+use std::thread::Threads;
 use weave_account::laws::{account_is_right, phases_are_kept, replied_requests_are_final};
 use weave_report::{print_report, printed_text_is_text};
 use weave_script::{
     ScriptFault, read_script, report_texts_follow_script_texts, script_names_are_distinct,
     scripts_are_small, texts_are_of_one_script, texts_are_read,
 };
+use weaver_core::Core;
+use weaver_workers::Pace;
 
 /// Reads the script, runs it, and prints its report; or says why the input is refused.
 pub(crate) fn report_on(alloc: Global, input: &[u8]) -> Result<Answer, AllocError>
@@ -37,17 +43,56 @@ fn answer_for(alloc: Global, script: Script) -> Result<Answer, AllocError>
     ensures { IfOk result (λ answer. (input : List ℕ)
         → length input ≤ 4194304 → IsTextOf input script → IsAnswerTo Command.Run input answer) }
 {
+    let core = run(alloc, script)?;
     Ok(Answer {
         status: Status::Done,
-        text: report_of(alloc, script)?,
+        text: report_of(alloc, &core)?,
     })
 }
 
-// Runs the script, and prints its report.
-fn report_of(alloc: Global, script: Script) -> Result<Vec<u8>, AllocError>
+/// Reads the script, runs it by workers on threads, and prints its report; or says why the input is refused. It may wait.
+pub(crate) fn report_on_threads<R: Threads + Wait + Sync, P: Pace>(
+    rt: &R,
+    alloc: Global,
+    input: &[u8],
+    pace: &P,
+) -> Result<Answer, AllocError>
+    requires { length input.now ≤ 4194304 }
+    ensures { IfOk result (IsAnswerTo Command.Run input.now) }
+{
+    texts_are_read();
+    texts_are_of_one_script();
+    match read_script(alloc, input) {
+        Ok(script) => answer_on_threads(rt, alloc, script, pace),
+        Err(ScriptFault::Refused { line, cause }) => refusal(alloc, line, cause.text()),
+        Err(ScriptFault::Memory) => Err(AllocError),
+    }
+}
+
+// Runs the script by workers on threads.
+fn answer_on_threads<R: Threads + Wait + Sync, P: Pace>(
+    rt: &R,
+    alloc: Global,
+    script: Script,
+    pace: &P,
+) -> Result<Answer, AllocError>
     requires { IsScript script }
+    ensures { IfOk result (λ answer. (input : List ℕ)
+        → length input ≤ 4194304 → IsTextOf input script → IsAnswerTo Command.Run input answer) }
+{
+    let core = run_on_threads(rt, alloc, script, pace)?;
+    Ok(Answer {
+        status: Status::Done,
+        text: report_of(alloc, &core)?,
+    })
+}
+
+// Prints the report of a core whose script was run.
+fn report_of(alloc: Global, core: &Core) -> Result<Vec<u8>, AllocError>
+    requires valid { IsScript core.now.script }
+    requires whole { IsWholeRun core.now.script core.now.state.account }
     ensures { IfOk result (λ text. (input : List ℕ)
-        → length input ≤ 4194304 → IsTextOf input script → TellsRun input text.items) }
+        → length input ≤ 4194304 → IsTextOf input core.now.script → TellsRun input text.items) }
 {
     account_is_right();
     phases_are_kept();
@@ -56,7 +101,6 @@ fn report_of(alloc: Global, script: Script) -> Result<Vec<u8>, AllocError>
     script_names_are_distinct();
     printed_text_is_text();
     report_texts_follow_script_texts();
-    let core = run(alloc, script)?;
     let report = core.report(alloc)?;
     let text = print_report(alloc, core.script(), &report)?;
     Ok(text)

@@ -1,26 +1,30 @@
 //! The top call.
-ghost use Rattle.std.specs.Prelude.{◌≡◌, ◌⊎◌, ◌↔◌, ℕ, [], map, string_bytes, IsTrue, None, IfSome};
+ghost use Rattle.std.specs.Prelude.{◌≡◌, ◌⊎◌, ◌↔◌, ℕ, [], map, string_bytes, IsTrue, Err, None, IfOk, OnOk, IfSome};
 ghost use Rattle.weave_io.specs.Counts.{Rose};
 ghost use Rattle.weave_io.specs.Told.{IsReadWhole, KeepsWritten, Tells, TakesAtMost, Writes, WritesPrefix};
 ghost use Rattle.weaver_top.specs.Acceptance.{IsAcceptedByCheck};
-ghost use Rattle.weaver_top.specs.Answers.{TellsAnswer};
+ghost use Rattle.weaver_top.specs.Answers.{IsAnswerTo, TellsAnswer, can_end};
 ghost use Rattle.weaver_top.specs.Commands.{Asks, command_of, reads_input};
 ghost use Rattle.weaver_top.specs.Headlines.{TellsRightReport, TellsTrace, TellsYes};
 ghost use Rattle.weaver_top.specs.Loads.{WritesLoad, WritesLoadPrefix};
 ghost use Rattle.weaver_top.specs.Refusals.{CanBeTaken, TellsRefusal, check_input, run_input, trace_input};
 ghost use Rattle.weaver_top.specs.VerdictLines.{TellsNo};
 
-use crate::command::Command;
-use crate::execution::execute;
-use crate::pace::Pace;
+use crate::answer::{Answer, too_long};
+use crate::command::{Command, command_of};
+use crate::execution::{PrepareError, execute, write_answer};
+use crate::run_command::report_on_threads;
 use crate::status::Status;
 use std::alloc::Global;
 use std::sync::Wait;
 use std::thread::Threads;
-use weave_io::{Sink, Source};
+use weave_io::{ReadFault, Sink, Source, read_all};
+use weaver_workers::Pace;
 
-/// Runs the command of the command line, as `execute` does. The threads that a command may start, and what is called
-/// round each turn of them, are given here.
+/// Runs the command of the command line. `run` runs its script phase by phase: in each phase with requests there is a
+/// thread for each session that has requests in it, for each gatekeeper and for each shard, and `pace` is called round
+/// each turn of these. What they leave undone a drive ends after the phase, and then the shards drop old versions. `run`
+/// may wait. Every other command is as in `execute`, without threads, and always returns.
 pub fn weave<R: Threads + Wait + Sync, S: Source, K: Sink, P: Pace>(
     rt: &R,
     alloc: Global,
@@ -110,7 +114,43 @@ pub fn weave<R: Threads + Wait + Sync, S: Source, K: Sink, P: Pace>(
         → ¬ Rose (K.stalls sink.old) (K.stalls sink.new)
         → (result ≡ Status.Done) ⊎ (result ≡ Status.Memory) }
 {
-    let _ = rt;
-    let _ = pace;
-    execute(alloc, words, source, sink)
+    match command_of(words) {
+        Some(Command::Run) => match prepare_run(rt, alloc, source, pace) {
+            Ok(answer) => write_answer(sink, &answer),
+            Err(PrepareError::Read) => Status::Read,
+            Err(PrepareError::Memory) => Status::Memory,
+        },
+        _ => execute(alloc, words, source, sink),
+    }
+}
+
+// Reads a script, runs it by workers on threads, and finds out what is to be written.
+fn prepare_run<R: Threads + Wait + Sync, S: Source, P: Pace>(
+    rt: &R,
+    alloc: Global,
+    source: &mut S,
+    pace: &P,
+) -> Result<Answer, PrepareError>
+    ensures fits { IfOk result (λ answer. IfSome (S.left source.old) (λ input. IsAnswerTo Command.Run input answer)) }
+    ensures ends { IfOk result (λ answer. IsTrue (can_end Command.Run answer.status)) }
+    ensures all_is_read { IfOk result (λ answer. (answer.status ≡ Status.Done) ⊎ (answer.status ≡ Status.NotRight)
+        → Tells (S.left source.new) []) }
+    ensures read { result ≡ Err PrepareError.Read → Rose (S.faults source.old) (S.faults source.new) }
+    ensures read_in_time { result ≡ Err PrepareError.Read
+        → TakesAtMost (S.left source.old) (S.left source.new) 4194304 }
+    ensures read_first { OnOk result (IsReadWhole (S.left source.old) (S.left source.new)) }
+    ensures rest { TakesAtMost (S.left source.old) (S.left source.new) (4194305) }
+{
+    match read_all(alloc, source) {
+        Ok(input) => match report_on_threads(rt, alloc, &input, pace) {
+            Ok(answer) => Ok(answer),
+            Err(_) => Err(PrepareError::Memory),
+        },
+        Err(ReadFault::TooLong) => match too_long(alloc) {
+            Ok(answer) => Ok(answer),
+            Err(_) => Err(PrepareError::Memory),
+        },
+        Err(ReadFault::Read) => Err(PrepareError::Read),
+        Err(ReadFault::Memory) => Err(PrepareError::Memory),
+    }
 }

@@ -1,7 +1,5 @@
-use Rattle.std.proofs.Common.{◌≡◌, length, sym, ap, ◌∙◌, subst}
+use Rattle.std.proofs.Common.{◌≡◌, sym, ap, ◌∙◌, subst}
 use Rattle.program_defs.specs.declared.script.Script.{Script}
-use Rattle.report_rules.specs.Lookups.{request_at}
-use Rattle.weave_account.specs.Report.{IsReportOfAccount}
 use Rattle.weave_report.specs.ReportText.{report_text}
 use Rattle.weave_report.specs.TextOf.{IsReportTextOf}
 use Rattle.weaver_top.proofs.Headline.{IsWellRun, accepted, run_told}
@@ -10,14 +8,13 @@ use Rattle.weaver_top.proofs.run_command.report_of.Goals as goal
 
 pub returns : goal.returns
 returns c input short is_text =
-    let script = c.args.script in
-    let valid = c.requires in
-    let same = c.in_ok-core.ensures.script in
-    let run = c.in_ok-core.ensures.whole in
+    let script = c.args.core.now.script in
+    let valid = c.requires.valid in
+    let run = c.requires.whole in
     let report = c.in_ok-report.report in
     let limits = c.scripts_are_small.ensures.limits script valid in
     let laws = c.account_is_right.ensures in
-    let by = subst (λ (s : Script). IsReportOfAccount s c.in_ok-core.core.state.account report) same c.in_ok-report.ensures.report in
+    let by = c.in_ok-report.ensures.report in
     let well : IsWellRun script report = record {
       of_script = laws.of_the_script script _ report limits run.is_account by;
       right = laws.right script _ report limits run.is_account by;
@@ -27,7 +24,7 @@ returns c input short is_text =
       final = c.replied_requests_are_final.ensures script _ report limits run.is_account by.matches (all-replied script _ run);
       no_steps = c.in_ok-report.ensures.answers;
     } in
-    let printed : c.in_ok-text.text.items ≡ report_text script report = c.in_ok-text.ensures.text ∙ ap (λ (s : Script). report_text s report) (c.script.ensures.script ∙ same) in
+    let printed : c.in_ok-text.text.items ≡ report_text script report = c.in_ok-text.ensures.text ∙ ap (λ (s : Script). report_text s report) c.script.ensures.script in
     let names = c.script_names_are_distinct.ensures in
     let told : IsReportTextOf script (report_text script report) report = c.printed_text_is_text.ensures script report (names.told script valid) (names.typed script valid) well.of_script c.in_ok-text.ensures.typed in
     let here = subst (λ bytes. IsReportTextOf script bytes report) (sym printed) told in

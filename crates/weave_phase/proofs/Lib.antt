@@ -1,0 +1,13 @@
+pub mod ReadySeats
+pub mod RanSeats
+pub mod Numbered
+pub mod ShardLogs
+pub mod PhaseParts
+pub mod JoinedParts
+pub mod Ran
+pub mod Crossing
+pub mod Opened
+pub mod Placed
+pub mod SoFar
+pub mod Rising
+pub mod PhaseRuns

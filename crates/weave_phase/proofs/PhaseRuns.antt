@@ -1,0 +1,58 @@
+-- What a phase leaves of a core, by what it leaves of its parts.
+use Rattle.std.proofs.Common.{◌≡◌, ℕ, [], inl, refl, sym, ap, subst, ◌∙◌}
+use Rattle.std.proofs.lemmas.List.{append-nil}
+use Rattle.proof_base.proofs.Members.{has_none}
+use Rattle.program_defs.specs.declared.script.Script.{Script}
+use Rattle.weave_account.specs.declared.account.Account.{Account}
+use Rattle.weave_account.specs.Account.{gate_log, session_log, shard_log}
+use Rattle.weave_account.specs.GoesOn.{GoesOn}
+use Rattle.hands_account.proofs.Places.{whole}
+use Rattle.step_rules.specs.CoreState.{CoreState}
+use Rattle.weaver_core.specs.declared.split.Split.{Split}
+use Rattle.weaver_core.specs.Cores.{CoreView}
+use Rattle.weaver_core.specs.Splitting.{account_of, state_of, NoneInFlight}
+use Rattle.weaver_workers.specs.Phases.{phase_end}
+use Rattle.workers_account.specs.Pairs.{AddsOpenPairs, GainBelow}
+use Rattle.weave_phase.specs.Parts.{PartsGoOn}
+use Rattle.weave_phase.specs.RunsPhase.{RunsPhase}
+
+-- nothing was done
+pub runs-none : (upto : ℕ) (core : CoreView) → NoneInFlight core.state.account → RunsPhase upto core core
+runs-none upto core landed =
+    let account = core.state.account in
+    record {
+      script = refl;
+      goes_on = record {
+        gates = λ home. whole (gate_log account home);
+        store = whole account.store;
+        oracle = whole account.oracle;
+        shards = λ shard. whole (shard_log account shard);
+        sessions = λ session. whole (session_log account session);
+      };
+      landed = landed;
+      begins = λ home. record {
+        more = [];
+        log = sym (append-nil (gate_log account home));
+        begun = λ begun h. absurd (has_none begun h);
+        epochs = λ entry h epoch. absurd (has_none entry h);
+      };
+      pairs = λ earlier later h. inl h;
+    }
+
+-- the parts went on
+pub runs-parts : (phase : ℕ) (core next : CoreView) (split left : Split) → split.script ≡ core.script → state_of split ≡ core.state
+    → PartsGoOn phase split left → next.script ≡ left.script → next.state ≡ state_of left → RunsPhase (phase_end core.script phase) core next
+runs-parts phase core next split left script_is state_is parts next_script next_state =
+    let old : account_of split ≡ core.state.account = ap (λ (s : CoreState). s.account) state_is in
+    let new : account_of left ≡ next.state.account = sym (ap (λ (s : CoreState). s.account) next_state) in
+    record {
+      script = next_script ∙ parts.script ∙ script_is;
+      goes_on = subst (λ (a : Account). GoesOn a next.state.account) old (subst (λ (b : Account). GoesOn (account_of split) b) new parts.goes_on);
+      landed = subst NoneInFlight new parts.joined.landed;
+      begins = subst (λ (s : Script). GainBelow (phase_end s phase) core.state.account next.state.account) script_is
+          (subst (λ (a : Account). GainBelow (phase_end split.script phase) a next.state.account) old
+          (subst (λ (b : Account). GainBelow (phase_end split.script phase) (account_of split) b) new parts.begins));
+      pairs = subst (λ (s : Script). AddsOpenPairs s core.state.account next.state.account) script_is
+          (subst (λ (a : Account). AddsOpenPairs split.script a next.state.account) old
+          (subst (λ (b : Account). AddsOpenPairs split.script (account_of split) b) new parts.pairs));
+    }

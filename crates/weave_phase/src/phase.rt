@@ -1,0 +1,117 @@
+//! A phase of a script, run by workers on threads.
+ghost use Rattle.std.specs.Prelude.{◌≡◌, ℕ, ◌<◌, ◌≤◌, AllPairs, Contains, IfOk, length};
+ghost use Rattle.weave_entries.specs.ShardRules.{IsShardLog};
+ghost use Rattle.weave_entries.specs.StoreRule.{IsStoreLog};
+ghost use Rattle.weave_account.specs.Account.{shard_log};
+ghost use Rattle.weave_account.specs.GoesOn.{GoesOn};
+ghost use Rattle.weaver_core.specs.Splitting.{account_of, CanBeJoined, NoneInFlight};
+ghost use Rattle.weaver_workers.specs.Phases.{phase_end, phase_start};
+ghost use Rattle.weaver_workers.specs.Workers.{HasPhase};
+ghost use Rattle.workers_account.specs.Pairs.{AddsOpenPairs, GainBelow};
+ghost use Rattle.workers_account.specs.Ready.{IsAnsweredUpTo};
+ghost use Rattle.weave_phase.specs.Parts.{AreReadyParts, PartsGoOn};
+ghost use Rattle.weave_phase.specs.RunsPhase.{RunsPhase};
+
+use crate::lower_laws::phases_keep_their_laws;
+use crate::rules::{shows_shards, shows_store};
+use crate::running::run_all;
+use crate::seats::{all_done, seat_all, unseat_all};
+use crate::sessions::sessions_of;
+use crate::slots::{from_slots, into_slots};
+use std::alloc::{AllocError, Global};
+use std::sync::Wait;
+use std::thread::Threads;
+use weaver_core::{Core, Split};
+use weaver_locks::{Closed, Shared};
+use weaver_workers::{Pace, end_of_phase, start_of_phase};
+
+/// Runs a phase, numbered from 0, on as many threads as it has workers: one for each session with requests in it, each
+/// gatekeeper and each shard. A phase without requests has none. It may wait. How far the workers came, no clause says: a
+/// client stops where its gatekeeper was busy 16 times one after another, or where a shard was not ready after a nudge,
+/// and what is left is for whoever drives the core afterwards.
+///
+/// The one error is out of memory, and then the core is gone.
+pub fn run_phase<R: Threads + Wait + Sync, P: Pace>(
+    rt: &R,
+    alloc: Global,
+    core: Core,
+    phase: u32,
+    pace: &P,
+) -> Result<Core, AllocError>
+    requires phase { HasPhase core.script phase }
+    requires landed { NoneInFlight core.state.account }
+    requires before { IsAnsweredUpTo core.script (phase_start core.script phase) core.state.account }
+    ensures { IfOk result (RunsPhase (phase_end core.script phase) core) }
+{
+    let from = start_of_phase(core.script(), phase);
+    let upto = end_of_phase(core.script(), phase);
+    if upto <= from {
+        return Ok(core);
+    }
+    let split = core.split();
+    shows_store(&split.store);
+    shows_shards(split.shards.as_slice());
+    let sessions = sessions_of(alloc, &split.script, from, upto)?;
+    let left = run_parts(rt, alloc, split, phase, sessions.as_slice(), pace)?;
+    Ok(Core::join(left))
+}
+
+// Runs a phase on the parts of a core, with workers for these sessions.
+fn run_parts<R: Threads + Wait + Sync, P: Pace>(
+    rt: &R,
+    alloc: Global,
+    split: Split,
+    phase: u32,
+    sessions: &[u32],
+    pace: &P,
+) -> Result<Split, AllocError>
+    requires parts { AreReadyParts phase split }
+    requires rising { AllPairs (λ (a b : ℕ). a < b) sessions.now }
+    requires few { (session : ℕ) → Contains sessions.now session → session < 64 }
+    requires count { length sessions.now ≤ 64 }
+    ensures { IfOk result (PartsGoOn phase split) }
+{
+    phases_keep_their_laws();
+    let Split {
+        script,
+        gates,
+        store,
+        oracle,
+        shards,
+        clients,
+        notices,
+    } = split;
+    let count = sessions.len() as u32 + script.gates + script.shards;
+    let (shared, hands) = Shared::new(alloc, gates, store, oracle, shards, count)?;
+    let mut slots = into_slots(alloc, clients)?;
+    let mut seats = seat_all(alloc, hands, &mut slots, sessions, script.gates)?;
+    run_all(
+        rt,
+        alloc,
+        &shared,
+        &script,
+        phase,
+        seats.as_mut_slice(),
+        pace,
+    );
+    if !all_done(&seats) {
+        return Err(AllocError);
+    }
+    let hands = unseat_all(alloc, seats, &mut slots, sessions)?;
+    let clients = from_slots(alloc, slots)?;
+    let Closed {
+        gates,
+        store,
+        oracle,
+        shards,
+    } = shared.close(hands);
+    Ok(Split {
+        script,
+        gates,
+        store,
+        oracle,
+        shards,
+        clients,
+        notices,
+    })
+}

@@ -1,0 +1,172 @@
+-- What a session at the end of its log says of that log: which requests have no reply there, and which was begun last.
+use Rattle.std.proofs.Common.{◌≡◌, ℕ, zero, suc, ◌-◌, ◌<◌, ◌≤◌, Bool, List, [], ◌∷◌, ◌++◌, take, AllPairs, Contains, Some, ◌⊎◌, inl, inr, refl, sym, ap, subst, ◌∙◌, arith}
+use Rattle.std.specs.Prelude.{slice_get, if◌then◌else◌}
+use Rattle.std.proofs.lemmas.List.Concat.{flat_map-append}
+use Rattle.std.proofs.lemmas.List.Elements.{Contains-append_cases, Contains-append_left, Contains-append_right}
+use Rattle.std.proofs.lemmas.List.Sums.{fold-append}
+use Rattle.std.proofs.lemmas.Option.{none-some, same_Some}
+use Rattle.proof_base.proofs.Ends.{by_last, flat_push}
+use Rattle.proof_base.proofs.Entries.{each_before, each_last}
+use Rattle.proof_base.proofs.Images.{get-has}
+use Rattle.proof_base.proofs.Members.{has_last, has_none, has_read}
+use Rattle.proof_base.proofs.Ordered.{pairs_head, pairs_tail}
+use Rattle.vector_stamp.specs.declared.clock.Stamp.{Stamp}
+use Rattle.weave_entries.specs.declared.session_log.SessionEntry.{SessionEntry}
+use Rattle.weave_entries.specs.declared.session_log.SessionDeed.{SessionDeed}
+use Rattle.weave_entries.specs.declared.session_log.SessionDeed.TheVariants.{Begun, Replied}
+use Rattle.weave_entries.specs.SessionReplay.{FitsSession, IsSessionLog, RepliesToLast, SessionState, begin_by, begins_in, replied_count, replied_in, reply_by, session_after, session_of, session_start}
+use Rattle.weave_account.specs.GoesOn.{IsBeginningOf}
+use Rattle.weaver_core.specs.Clients.{IsClientOf, IsInTurn}
+use Rattle.workers_account.specs.ReadLaws.{ReadLaws}
+
+-- Logs that go on
+
+-- what was begun stays so
+pub begins-on : (log next : List SessionEntry) → IsBeginningOf log next → (begun : ℕ × Stamp) → Contains (begins_in log) begun
+    → Contains (begins_in next) begun
+begins-on log next on begun h =
+    subst (λ (l : List SessionEntry). Contains (begins_in l) begun) (sym on.1)
+    (subst (λ (l : List (ℕ × Stamp)). Contains l begun) (sym (flat_map-append (λ (e : SessionEntry). begin_by e.deed) log on.0))
+    (Contains-append_left (begins_in log) (begins_in on.0) begun h))
+
+-- and what was begun since is begun
+pub begins-now : (log next : List SessionEntry) (on : IsBeginningOf log next) (begun : ℕ × Stamp) → Contains (begins_in on.0) begun
+    → Contains (begins_in next) begun
+begins-now log next on begun h =
+    subst (λ (l : List SessionEntry). Contains (begins_in l) begun) (sym on.1)
+    (subst (λ (l : List (ℕ × Stamp)). Contains l begun) (sym (flat_map-append (λ (e : SessionEntry). begin_by e.deed) log on.0))
+    (Contains-append_right (begins_in log) (begins_in on.0) begun h))
+
+-- what has its reply keeps it
+pub replied-on : (log next : List SessionEntry) → IsBeginningOf log next → (r : ℕ) → Contains (replied_in log) r
+    → Contains (replied_in next) r
+replied-on log next on r h =
+    subst (λ (l : List SessionEntry). Contains (replied_in l) r) (sym on.1)
+    (subst (λ (l : List ℕ). Contains l r) (sym (flat_map-append (λ (e : SessionEntry). reply_by e.deed) log on.0))
+    (Contains-append_left (replied_in log) (replied_in on.0) r h))
+
+-- and what got its reply since has it
+pub replied-now : (log next : List SessionEntry) (on : IsBeginningOf log next) (r : ℕ) → Contains (replied_in on.0) r
+    → Contains (replied_in next) r
+replied-now log next on r h =
+    subst (λ (l : List SessionEntry). Contains (replied_in l) r) (sym on.1)
+    (subst (λ (l : List ℕ). Contains l r) (sym (flat_map-append (λ (e : SessionEntry). reply_by e.deed) log on.0))
+    (Contains-append_right (replied_in log) (replied_in on.0) r h))
+
+-- what has its reply had it, or got it since
+pub replied-cases : (log next : List SessionEntry) (on : IsBeginningOf log next) (r : ℕ) → Contains (replied_in next) r
+    → Contains (replied_in log) r ⊎ Contains (replied_in on.0) r
+replied-cases log next on r h =
+    Contains-append_cases (replied_in log) (replied_in on.0) r
+    (subst (λ (l : List ℕ). Contains l r) (ap replied_in on.1 ∙ flat_map-append (λ (e : SessionEntry). reply_by e.deed) log on.0) h)
+
+-- What has no reply
+
+-- of rising numbers the first ones are less than a later one
+pub front-less : (xs : List ℕ) → AllPairs (λ (a b : ℕ). a < b) xs → (n r m a : ℕ) → slice_get xs n ≡ Some r → m ≤ n
+    → Contains (take m xs) a → a < r
+front-less [] rise n r m a at low h = absurd (none-some r at)
+front-less (x ∷ xs) rise n r zero a at low h = absurd (has_none a h)
+front-less (x ∷ xs) rise zero r (suc m) a at low h = absurd (omega (arith, low))
+front-less (x ∷ xs) rise (suc n) r (suc m) a at low h =
+    elim (has_read x (take m xs) a h) [
+      | inl here ↦ subst (λ (y : ℕ). y < r) here (pairs_head (λ (a b : ℕ). a < b) x xs r rise (get-has xs n r at))
+      | inr more ↦ front-less xs (pairs_tail (λ (a b : ℕ). a < b) x xs rise) n r m a at (omega (arith, low)) more
+    ]
+
+module _ (laws : ReadLaws) (number : ℕ) (session : SessionState) (log : List SessionEntry) (is : IsClientOf number session log) where
+  -- a request at a place past those that have their replies has none
+  no-reply : (n r m : ℕ) → slice_get session.requests n ≡ Some r → replied_count session ≡ m → m ≤ n → Contains (replied_in log) r → ⊥
+  no-reply n r m at count low h =
+      let first : replied_in log ≡ take m session.requests = laws.replied_first number session.requests log is.right
+      ∙ ap (λ (s : SessionState). take (replied_count s) session.requests) (sym is.state)
+      ∙ ap (λ (k : ℕ). take k session.requests) count in
+      let less = front-less session.requests is.rising n r m r at low (subst (λ (l : List ℕ). Contains l r) first h) in
+      omega (arith, less)
+
+  -- the next request has no reply
+  pub next-unreplied : (r : ℕ) → IsInTurn session r → Contains (replied_in log) r → ⊥
+  next-unreplied r turn h =
+      no-reply session.begun r session.begun turn.next
+      (ap (λ (b : Bool). if b then session.begun - 1 else session.begun) turn.replied) (omega arith) h
+
+  -- one that waits for its reply has none
+  pub waiting-unreplied : (r : ℕ) → RepliesToLast session r → Contains (replied_in log) r → ⊥
+  waiting-unreplied r turn h =
+      no-reply (session.begun - 1) r (session.begun - 1) turn.last
+      (ap (λ (b : Bool). if b then session.begun - 1 else session.begun) turn.waits) (omega arith) h
+
+-- What was begun last
+
+-- nothing was begun
+record NoneBegun (state : SessionState) : Type 0 where
+  begun-is : state.begun ≡ 0
+
+-- something was begun: at the last place so far, with the last stamp
+record SomeBegun (requests : List ℕ) (state : SessionState) (begins : List (ℕ × Stamp)) : Type 0 where
+  place : ℕ
+  request : ℕ
+  stamp : Stamp
+  begun-is : state.begun ≡ suc place
+  at : slice_get requests place ≡ Some request
+  last-is : state.last ≡ Some stamp
+  there : Contains begins (request, stamp)
+
+abbrev IsAfter : List ℕ → SessionState → List (ℕ × Stamp) → Type 0
+IsAfter requests state begins = (state.requests ≡ requests) × (NoneBegun state ⊎ SomeBegun requests state begins)
+
+last-step : (requests : List ℕ) (state : SessionState) (begins : List (ℕ × Stamp)) (deed : SessionDeed) → FitsSession state deed
+    → IsAfter requests state begins → IsAfter requests (session_after state deed) (begins ++ begin_by deed)
+last-step requests state begins (Begun r stamp) fits (same, so_far) = (
+  same,
+  inr (record {
+    place = state.begun;
+    request = r;
+    stamp = stamp;
+    begun-is = omega arith;
+    at = ap (λ (rs : List ℕ). slice_get rs state.begun) (sym same) ∙ fits.next;
+    last-is = refl;
+    there = has_last begins (r, stamp);
+  }),
+)
+last-step requests state begins (Replied r) fits (same, inl none) = (same, inl (record { begun-is = none.begun-is }))
+last-step requests state begins (Replied r) fits (same, inr some) = (
+  same,
+  inr (record {
+    place = some.place;
+    request = some.request;
+    stamp = some.stamp;
+    begun-is = some.begun-is;
+    at = some.at;
+    last-is = some.last-is;
+    there = Contains-append_left begins [] (some.request, some.stamp) some.there;
+  }),
+)
+
+last-begun : (number : ℕ) (requests : List ℕ) (log : List SessionEntry) → IsSessionLog number requests log
+    → IsAfter requests (session_of requests log) (begins_in log)
+last-begun number requests =
+    by_last (λ (log : List SessionEntry). IsSessionLog number requests log → IsAfter requests (session_of requests log) (begins_in log))
+    (λ each. (refl, inl (record { begun-is = refl })))
+    (λ log entry so_far each.
+    let rule = λ (before : List SessionEntry) (e : SessionEntry). (e.author ≡ number) × FitsSession (session_of requests before) e.deed in
+    let fits = each_last rule log entry each in
+    subst (λ (s : SessionState). IsAfter requests s (begins_in (log ++ entry ∷ [])))
+    (sym (fold-append (λ session (e : SessionEntry). session_after session e.deed) (session_start requests) log (entry ∷ [])))
+    (subst (IsAfter requests (session_after (session_of requests log) entry.deed)) (sym (flat_push (λ (e : SessionEntry). begin_by e.deed) log entry))
+    (last-step requests (session_of requests log) (begins_in log) entry.deed fits.1 (so_far (each_before rule log (entry ∷ []) each)))))
+
+-- the request that waits was begun with the session's last stamp
+pub last-there : (number : ℕ) (session : SessionState) (log : List SessionEntry) → IsClientOf number session log → (r : ℕ) (stamp : Stamp)
+    → 1 ≤ session.begun → RepliesToLast session r → session.last ≡ Some stamp → Contains (begins_in log) (r, stamp)
+last-there number session log is r stamp some turn last =
+    by (subst (λ (s : SessionState). IsAfter session.requests s (begins_in log)) (sym is.state) (last-begun number session.requests log is.right)).1
+  where
+    by : NoneBegun session ⊎ SomeBegun session.requests session (begins_in log) → Contains (begins_in log) (r, stamp)
+    by (inl none) = absurd (omega (arith, some, none.begun-is))
+    by (inr one) =
+        let place : session.begun - 1 ≡ one.place = omega (arith, one.begun-is) in
+        let request : one.request ≡ r = same_Some one.request r (sym one.at ∙ ap (slice_get session.requests) (sym place) ∙ turn.last) in
+        let stamps : one.stamp ≡ stamp = same_Some one.stamp stamp (sym one.last-is ∙ last) in
+        subst (λ (q : ℕ). Contains (begins_in log) (q, stamp)) request
+        (subst (λ (s : Stamp). Contains (begins_in log) (one.request, s)) stamps one.there)

@@ -1,0 +1,144 @@
+-- What each thing that a client's worker does leaves of what its hand has read, of the store's entries and of the session's log.
+use Rattle.std.proofs.Common.{◌≡◌, ◌≢◌, inl, inr, ℕ, ◌==◌, List, [], ◌∷◌, ◌++◌, Contains, Some, refl, sym, ap, ◌∙◌, subst, append_assoc}
+use Rattle.std.specs.Prelude.{IsTrue, filter}
+use Rattle.std.specs.List.{flat_map}
+use Rattle.std.proofs.lemmas.List.{append-nil}
+use Rattle.std.proofs.lemmas.List.Concat.{flat_map-append}
+use Rattle.proof_base.proofs.Members.{has_head, has_tail}
+use Rattle.program_defs.specs.declared.script.Script.{Script}
+use Rattle.weave_entries.specs.declared.session_log.SessionEntry.{SessionEntry}
+use Rattle.weave_entries.specs.declared.shard_log.ShardEntry.{ShardEntry}
+use Rattle.weave_entries.specs.declared.shard_log.ShardDeed.{ShardDeed}
+use Rattle.weave_entries.specs.declared.shard_log.ShardDeed.TheVariants.{Arrived, Applied, Visited, Collected}
+use Rattle.weave_entries.specs.declared.store_log.StoreDeed.TheVariants.{Judged}
+use Rattle.weave_entries.specs.declared.store_log.StoreEntry.{StoreEntry}
+use Rattle.weave_entries.specs.SessionReplay.{replied_in}
+use Rattle.weave_entries.specs.ShardReplay.{Visit, visit_by}
+use Rattle.weave_entries.specs.StoreReplay.{commits_of}
+use Rattle.weave_entries.specs.StoreRule.{asked_vertices, lasts_of}
+use Rattle.weave_account.specs.declared.account.Account.{Account}
+use Rattle.weave_account.specs.Account.{shard_log}
+use Rattle.weave_account.specs.GoesOn.{visits_by, IsBeginningOf}
+use Rattle.weaver_core.specs.declared.walks.Running.{Running}
+use Rattle.weaver_core.specs.Clients.{log_of}
+use Rattle.weaver_locks.specs.declared.hand.Hand.{Hand}
+use Rattle.weaver_locks.specs.declared.shared.Shared.{Shared}
+use Rattle.weaver_locks.specs.Hands.{hand_number, made_by, IsHand}
+use Rattle.weaver_locks.specs.Locks.{gate_count, shard_count}
+use Rattle.weaver_hands.specs.Leaving.{MakesNoVisit}
+use Rattle.weaver_hands.specs.Programs.{own_reads}
+use Rattle.weaver_workers.specs.Carrying.{is_bringing, OnlyCarries}
+use Rattle.weaver_workers.specs.ClientWork.{begun_entry, replied_entry, Does, DoesChange, Stand}
+use Rattle.weaver_workers.specs.Keeping.{KeepsClient}
+use Rattle.workers_account.specs.ReadLaws.{ReadLaws}
+use Rattle.workers_account.proofs.SessionEnds.{waiting-unreplied}
+
+-- Hands that only carry
+
+-- a message that arrives or is processed is no visit
+no-visit : (author : ℕ) (deed : ShardDeed) → IsTrue (is_bringing deed) → visit_by author deed ≡ []
+no-visit author (Arrived gate number message) brings = refl
+no-visit author (Applied gate number) brings = refl
+no-visit author (Visited r stamp v updates settled) brings = absurd cc
+no-visit author (Collected bound) brings = refl
+
+-- entries that give nothing
+nothing : {E A : Type 0} (f : E → List A) (added : List E) → ((entry : E) → Contains added entry → f entry ≡ [])
+    → (log : List E) → flat_map f (log ++ added) ≡ flat_map f log
+nothing f added none log = flat_map-append f log added ∙ ap (λ l. flat_map f log ++ l) (all f added none) ∙ append-nil (flat_map f log)
+  where
+    all : {E A : Type 0} (f : E → List A) (added : List E) → ((entry : E) → Contains added entry → f entry ≡ []) → flat_map f added ≡ []
+    all f [] none = refl
+    all f (entry ∷ added) none =
+        ap (λ l. l ++ flat_map f added) (none entry (has_head entry added)) ∙ all f added (λ e h. none e (has_tail entry added e h))
+
+-- a hand that only carries makes no visit
+pub carry-unvisited : (old new : Hand) → OnlyCarries old new → (r : ℕ) → MakesNoVisit old new r
+carry-unvisited old new only r = record {
+  number = only.number;
+  more = only.more;
+  visits = λ shard. (let gains = only.shards shard in
+      ap (visits_by r) gains.log
+      ∙ ap (filter (λ (visit : Visit). visit.request == r)) (nothing (λ (e : ShardEntry). visit_by e.author e.deed) gains.added
+      (λ entry h. no-visit entry.author entry.deed (gains.pass entry h)) (shard_log (made_by old) shard)));
+}
+
+-- Steps
+
+-- no program is running for this request
+abbrev pub RunsNot : Stand → ℕ → Type 0
+RunsNot at r = (running : Running) → at.client.running ≡ Some running → r ≢ running.request
+
+module _ (shared : Shared) (script : Script) (number upto : ℕ) (old new : Stand) where
+  -- no visit is made for a request that doesn't run
+  pub step-unvisited : ReadLaws → Does shared script number upto old new → (r : ℕ) → RunsNot old r → MakesNoVisit old.hand new.hand r
+  step-unvisited laws (inl change) r other =
+      laws.transact (shard_count shared) old.hand new.hand change.asked.gate change.r change.ops old.client.session.last
+      change.stamp change.verdict change.transacts r
+  step-unvisited laws (inr (inl start)) r other =
+      laws.start (shard_count shared) old.hand new.hand start.asked.gate start.r old.client.session.last start.stamp start.starts r
+  step-unvisited laws (inr (inr (inl visit))) r other =
+      laws.visit (gate_count shared) (shard_count shared) old.hand new.hand visit.before visit.after visit.visits r
+      (other visit.before visit.before_is)
+  step-unvisited laws (inr (inr (inr (inl finish)))) r other =
+      laws.finish (shard_count shared) old.hand new.hand finish.before finish.answer finish.finishes r
+  step-unvisited laws (inr (inr (inr (inr carry)))) r other = carry-unvisited old.hand new.hand carry.only r
+
+  -- so what was read for it stays
+  pub step-reads : ReadLaws → IsHand shared old.hand → IsHand shared new.hand → Does shared script number upto old new → (r : ℕ)
+      → RunsNot old r → own_reads new.hand r ≡ own_reads old.hand r
+  step-reads laws was is does r other =
+      laws.reads shared old.hand new.hand r was is (step-unvisited laws does r other)
+
+  -- the store's entry of a transaction
+  abbrev pub judged-entry : DoesChange shared script number upto old new → StoreEntry
+  judged-entry change = record {
+    author = hand_number change.transacts.begun;
+    deed = Judged change.r change.stamp change.ops
+        (asked_vertices change.stamp (lasts_of change.ops (commits_of change.transacts.judges.before))) change.verdict;
+  }
+
+  -- it is at the end of what the hand had it judge
+  pub change-store : (change : DoesChange shared script number upto old new)
+      → (made_by new.hand).store ≡ (made_by old.hand).store ++ judged-entry change ∷ []
+  change-store change =
+      let did = change.transacts in
+      ap (λ (a : Account). a.store) did.sends.was.made ∙ ap (λ (a : Account). a.store) did.judges.was.made
+      ∙ ap (λ (a : Account). a.store ++ judged-entry change ∷ []) did.begins.made
+
+  -- the store has what the hand had it judge before
+  pub step-store : Does shared script number upto old new → IsBeginningOf (made_by old.hand).store (made_by new.hand).store
+  step-store (inl change) = (judged-entry change ∷ [], change-store change)
+  step-store (inr (inl start)) = ([], ap (λ (a : Account). a.store) start.starts.begins.made ∙ sym (append-nil (made_by old.hand).store))
+  step-store (inr (inr (inl visit))) = ([], ap (λ (a : Account). a.store) visit.visits.visits.was.made ∙ sym (append-nil (made_by old.hand).store))
+  step-store (inr (inr (inr (inl finish)))) = ([], ap (λ (a : Account). a.store) finish.finishes.was.made ∙ sym (append-nil (made_by old.hand).store))
+  step-store (inr (inr (inr (inr carry)))) = ([], carry.only.store ∙ sym (append-nil (made_by old.hand).store))
+
+  -- the session's entries of what was done
+  abbrev pub step-entries : Does shared script number upto old new → List SessionEntry
+  step-entries (inl change) = begun_entry number change.r change.stamp ∷ replied_entry number change.r ∷ []
+  step-entries (inr (inl start)) = begun_entry number start.r start.stamp ∷ []
+  step-entries (inr (inr (inl visit))) = []
+  step-entries (inr (inr (inr (inl finish)))) = replied_entry number finish.before.request ∷ []
+  step-entries (inr (inr (inr (inr carry)))) = []
+
+  -- its log has these entries more
+  pub step-log : (does : Does shared script number upto old new) → log_of new.client ≡ log_of old.client ++ step-entries does
+  step-log (inl change) =
+      change.log ∙ append_assoc (log_of old.client) (begun_entry number change.r change.stamp ∷ []) (replied_entry number change.r ∷ [])
+  step-log (inr (inl start)) = start.log
+  step-log (inr (inr (inl visit))) = visit.same.log ∙ sym (append-nil (log_of old.client))
+  step-log (inr (inr (inr (inl finish)))) = finish.log
+  step-log (inr (inr (inr (inr carry)))) = carry.same.log ∙ sym (append-nil (log_of old.client))
+
+  -- so it goes on
+  abbrev pub step-on : Does shared script number upto old new → IsBeginningOf (log_of old.client) (log_of new.client)
+  step-on does = (step-entries does, step-log does)
+
+-- what has its reply doesn't run
+pub replied-rests : (laws : ReadLaws) (shared : Shared) (script : Script) (number : ℕ) (at : Stand)
+    → KeepsClient shared script number at.hand at.client → (r : ℕ)
+    → Contains (replied_in (log_of at.client)) r → RunsNot at r
+replied-rests laws shared script number at keeps r h running is same =
+    waiting-unreplied laws number at.client.session (log_of at.client) keeps.at_end running.request (keeps.running running is).turn
+    (subst (λ (q : ℕ). Contains (replied_in (log_of at.client)) q) same h)

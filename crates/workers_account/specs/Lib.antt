@@ -1,0 +1,13 @@
+pub mod Gained
+pub mod Begins
+pub mod Visits
+pub mod Asked
+pub mod Followed
+pub mod Phase
+pub mod Pairs
+pub mod PhaseLaws
+pub mod TurnLaws
+pub mod ReadLaws
+pub mod Ready
+pub mod InStepLaws
+pub mod ReadyLaws

@@ -1,0 +1,37 @@
+-- What a part of a run leaves of begins and of the oracle's pairs.
+use Rattle.std.specs.Prelude.{◌≡◌, ◌≢◌, ◌⊎◌, ℕ, ◌<◌, List, ◌++◌, Contains, IsTrue, Some}
+use Rattle.vector_stamp.specs.declared.clock.Stamp.{Stamp}
+use Rattle.program_defs.specs.declared.script.Request.{Request}
+use Rattle.program_defs.specs.declared.script.Script.{Script}
+use Rattle.report_rules.specs.Lookups.{request_at}
+use Rattle.weave_entries.specs.declared.gate_log.GateEntry.{GateEntry}
+use Rattle.weave_entries.specs.declared.gate_log.GateDeed.TheVariants.{Raised}
+use Rattle.weave_entries.specs.GateReplay.{Begun, begun_in}
+use Rattle.weave_account.specs.declared.account.Account.{Account}
+use Rattle.weave_account.specs.Account.{all_begun, gate_log, pairs_in}
+use Rattle.step_rules.specs.Requests.{has_reply}
+
+-- a begun request of this stamp that had no reply before
+pub record IsOpen (script : Script) (old new : Account) (stamp : Stamp) : Type 0 where
+  pub begun : Begun
+  pub there : Contains (all_begun new) begun
+  pub stamp_is : begun.stamp ≡ stamp
+  pub unanswered : (request : Request) → request_at script begun.request ≡ Some request
+      → ¬ IsTrue (has_reply old begun.request request)
+
+-- the later end of each pair that was added is a request that had no reply before
+abbrev pub AddsOpenPairs : Script → Account → Account → Type 0
+AddsOpenPairs script old new =
+    (earlier later : Stamp) → Contains (pairs_in new) (earlier, later)
+    → Contains (pairs_in old) (earlier, later) ⊎ IsOpen script old new later
+
+-- a gatekeeper's log has gained entries that begin no request from this number on and raise no epoch
+pub record GainsBelow (upto : ℕ) (old new : List GateEntry) : Type 0 where
+  pub more : List GateEntry
+  pub log : new ≡ old ++ more
+  pub begun : (begun : Begun) → Contains (begun_in more) begun → begun.request < upto
+  pub epochs : (entry : GateEntry) → Contains more entry → (epoch : ℕ) → entry.deed ≢ Raised epoch
+
+-- each gatekeeper's has
+abbrev pub GainBelow : ℕ → Account → Account → Type 0
+GainBelow upto old new = (home : ℕ) → GainsBelow upto (gate_log old home) (gate_log new home)
