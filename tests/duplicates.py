@@ -1,0 +1,64 @@
+#!/usr/bin/env python3
+"""Lists what is said twice: words that the specs of two files define, and lemmas that two files prove letter for letter.
+
+Run it by hand at the top of the repository, or give the top as the argument. It reads declarations by their layout, so a
+line of its list is a place to look, not a verdict: two words of one name may mean two things, and a short lemma may be
+dearer to share than to repeat. Answers and invariants are left out.
+"""
+import collections
+import os
+import re
+import sys
+
+TOP = sys.argv[1] if len(sys.argv) > 1 else "."
+DECLARED = re.compile(r"^(\s*)(?:pub |abbrev |unfoldable |opaque )*(?:record |data )?([^\s:(){}]+)\s*(?:\([^)]*\)\s*|\{[^}]*\}\s*)*:\s")
+FIRST_WORDS = re.compile(r"^\s*(?:pub |abbrev |unfoldable )*")
+OF_A_FUNCTION = ("Answers.antt", "Invariants.antt", "Proof.antt")
+
+
+def declarations(path):
+    """Gives the name and the text of each declaration at the top of the file or of a module in it."""
+    found, last = [], None
+    with open(path, encoding="utf-8") as file:
+        for line in file:
+            if not line.strip() or line.strip().startswith("--"):
+                continue
+            if re.match(r"\s*(use|module|mod|pub mod|pub use)\b", line):
+                last = None
+                continue
+            begins = DECLARED.match(line)
+            if begins and len(begins[1]) <= 4:
+                last = (begins[2], [FIRST_WORDS.sub("", line).strip()])
+                found.append(last)
+            elif last:
+                last[1].append(line.strip())
+    return [(name, " ".join(text)) for name, text in found]
+
+
+def files(part):
+    for at, folders, names in os.walk(f"{TOP}/crates"):
+        folders[:] = sorted(it for it in folders if it != "out")
+        if f"/{part}" in at:
+            for name in sorted(names):
+                if name.endswith(".antt") and name not in OF_A_FUNCTION:
+                    yield f"{at}/{name}"
+
+
+words, lemmas = collections.defaultdict(set), collections.defaultdict(set)
+for path in files("specs"):
+    for name, text in declarations(path):
+        if not text.startswith("pub ") and name[0].isupper():
+            words[name].add(os.path.relpath(path, f"{TOP}/crates"))
+for path in files("proofs"):
+    for name, text in declarations(path):
+        if len(text) > 60:
+            lemmas[name, text].add(os.path.relpath(path, f"{TOP}/crates"))
+
+twice = {name: places for name, places in words.items() if len(places) > 1}
+print(f"words of specs that more than one file defines: {len(twice)}")
+for name, places in sorted(twice.items()):
+    print(f"  {name}: {', '.join(sorted(places))}")
+again = {key: places for key, places in lemmas.items() if len(places) > 1}
+print(f"lemmas that more than one file proves letter for letter: {len(again)}")
+for (name, text), places in sorted(again.items(), key=lambda it: -len(it[0][1])):
+    print(f"  {len(text)} characters, {name}: {', '.join(sorted(places))}")
