@@ -5,8 +5,8 @@
 //! where its gatekeeper was busy in 16 turns one after another, or where a shard was not ready after a nudge (`nudge`). A
 //! gatekeeper's worker takes four turns for each request of the phase. In each it hears the other gatekeepers, and in
 //! the first ones, four for each program of the phase, it sends an empty message to each shard (`turn_gate`). A shard's
-//! worker takes as many turns. In each all that was sent to the shard is to arrive there, and to be processed as far as
-//! it can be (`turn_shard`).
+//! worker takes as many turns. In each all that was sent to the shard is to arrive there, and, if there is any that the
+//! worker had not found before, to be processed as far as it can be (`turn_shard`).
 //!
 //! The contract gives the whole list of what a client's worker did to the logs and to its client, one thing after
 //! another, each as the hand's call says it (`GoesOn`), and how it ended (`EndsAs`). The other workers only carry

@@ -36,9 +36,9 @@ impl Worker {
     ///
     /// A client goes through its session's requests up to the end of the phase. A gatekeeper takes four turns for each
     /// request of the phase, in which it hears the others, and in the first four for each program sends empty messages
-    /// too. A shard takes as many turns, in which it takes in and processes what was sent. `pace` is called before and
-    /// after each turn that isn't out of memory. It may wait. The one error is out of memory; then the entries that it
-    /// made stay, and nothing is promised of the worker.
+    /// too. A shard takes as many turns, in which it takes in what was sent, and processes it if there is any that is new.
+    /// `pace` is called before and after each turn that isn't out of memory. It may wait. The one error is out of memory;
+    /// then the entries that it made stay, and nothing is promised of the worker.
     pub fn go<R: Wait, P: Pace>(
         &mut self,
         rt: &R,
