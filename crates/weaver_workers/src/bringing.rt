@@ -44,8 +44,8 @@ fn place_of(gate: u32, shard: u32) -> usize {
 }
 
 /// A turn of a shard: it is to take in all that each gatekeeper has sent to it and that was not brought before, and to
-/// process it as far as it can. If there is nothing new it processes nothing: who brings a message processes what can be
-/// processed then. The contract says where the hand makes entries and of which kinds. It may wait. The one
+/// process it as far as it can. If it finds none that this worker had not found sent before, it processes nothing. The
+/// contract says where the hand makes entries and of which kinds. It may wait. The one
 /// error is out of memory.
 pub fn turn_shard<R: Wait>(
     rt: &R,
