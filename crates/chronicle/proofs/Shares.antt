@@ -9,6 +9,7 @@ use Rattle.std.proofs.Crossing.{frees, send, sync, crosses}
 use Rattle.std.proofs.option.Option.TheSendSync as maybe
 use Rattle.std.specs.contracts.option.Option as option
 use Rattle.std.specs.contracts.alloc.Global as global
+use Rattle.std.proofs.sync.atomic.AtomicU64.TheSendSync as count
 use Rattle.std.specs.contracts.impls.GlobalAllocator.TheImpl as handle
 use Rattle.atomic_table.specs.contracts.badge.Badge.{the_row}
 use Rattle.atomic_table.specs.contracts.owned.Table as table
@@ -30,7 +31,7 @@ badge_sync V = record { shared = λ d b o κ q. part_keyless (the_row V) (the_se
 pub chronicle_sync_within : (M E : RattleType) (g : Ghosts M.Denot E.Denot) → IsSend M → IsSync (chronicle.the_field M E g).row
 chronicle_sync_within M E g s = let S : Shape = shape (table.the_type (option.the_row M) (view.the_row E) u32 (law.the_row M) global.the_row (rule.ghosts M E g rule.no_dict) handle.ghosts) in
     let t : IsSync (Struct S) = struct_sync S (shared.the_sync (option.the_row M) (view.the_row E) u32 (law.the_row M) (rule.ghosts M E g rule.no_dict) (maybe.the_send M s), (search sendable, (search sendable, (lease.the_sync u64 global.the_row handle.ghosts send (search frees), (lease.the_sync (option.the_row M) global.the_row handle.ghosts send (search frees), (sync, tt)))))) in
-    struct_sync (shape (chronicle.the_type M E g)) (t, (search (crosses, sendable), (badge_sync _, tt)))
+    struct_sync (shape (chronicle.the_type M E g)) (t, (search (crosses, sendable), (badge_sync _, (search (count.the_sync, crosses, sendable) depth 12, tt))))
 
 pub chronicle_sync : (M E : RattleType) (g : Ghosts M.Denot E.Denot) → IsSend M → IsSync (chronicle.the_row M E g)
 chronicle_sync M E g s = recorded_sync (chronicle.the_field M E g).row _ _ (chronicle.the_type M E g).to_one (chronicle_sync_within M E g s)

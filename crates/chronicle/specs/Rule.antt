@@ -1,7 +1,7 @@
 -- The rule of a lock's table: what holds between any two steps.
--- The lock's word is 0 while nobody is in, 1 while somebody is, 3 while somebody is and somebody else may sleep, and 2
--- until the first seat takes the slot. The table has other words, so that the lock's is in no cache line with them.
-use Rattle.std.specs.Prelude.{◌≡◌, ◌≢◌, ◌==◌, ℕ, true, ◌<◌, ◌≤◌, if◌then◌else◌, List, length, slice_index, Option, Some, None, All}
+-- The lock's word is 0 while nobody is in, 1 while somebody is, and 2 until the first seat takes the slot. It is one of
+-- sixteen, so that the first, which is only looked at, is in another cache line.
+use Rattle.std.specs.Prelude.{◌≡◌, ◌≢◌, ℕ, true, ◌<◌, ◌≤◌, List, length, slice_index, Option, Some, None, All}
 use mathlib.Core.Option.{some}
 use mathlib.Core.List.{IsPrefix}
 use lib.ListN.{get_elem?}
@@ -29,35 +29,31 @@ module _ {E : Type 0} where
     pub own_is : entries_of a.number log ≡ a.own
 
   -- the seat with the turn is the holder. It has seen the whole log, and has an author
-  pub record HasTurn (stage : ℕ) (log : Log E) (holder seat : ℕ) (v : View E) : Type 0 where
-    pub turn_is : v.turn ≡ stage
+  pub record HasTurn (word : ℕ) (log : Log E) (holder seat : ℕ) (v : View E) : Type 0 where
+    pub turn_is : v.turn ≡ word
     pub holder_is : seat ≡ holder
     pub seen_is : v.seen ≡ log
     pub author : 0 < length v.authors
 
   -- the seat has seen a part of this one history, has the turn if its view says so, and has its authors
-  pub record FitsSeat (passes stage : ℕ) (frame : Frame) (start log : Log E)
+  pub record FitsSeat (passes word : ℕ) (frame : Frame) (start log : Log E)
       (holder : ℕ) (owner : ℕ → ℕ) (seat : ℕ) (v : View E) : Type 0 where
     pub knows : Knows frame start log v
-    pub turn : v.turn ≢ 0 → HasTurn stage log holder seat v
+    pub turn : v.turn ≢ 0 → HasTurn word log holder seat v
     pub authors : All (IsAuthor passes log owner seat) v.authors
 
   -- the seat has this view, and was not joined to another
   abbrev pub Sits : List (View E) → ℕ → View E → Type 0
   Sits views seat v = (get_elem? views seat ≡ some v) × (v.live ≡ true)
 
--- what a word of the lock says: 0 that nobody is in, 1 that somebody is, and 2 that the first seat has yet to take the slot
-abbrev pub stage_of : ℕ → ℕ
-stage_of word = if word == 3 then 1 else word
-
 -- the table's state: its words, its slot, and the views of its seats
 abbrev pub Table : Type 0 → Type 0 → Type 0
 Table M E = State (Option M) (View E)
 
 module _ {M E : Type 0} where
-  -- what the lock's word says now
-  abbrev pub stage : Table M E → ℕ
-  stage s = stage_of (slice_index s.words 8)
+  -- the lock's word
+  abbrev pub word : Table M E → ℕ
+  word s = slice_index s.words 8
 
   -- the rule
   pub record Kept (frame_of : M → Frame) (log_of : M → Log E) (passes : ℕ) (s : Table M E) : Type 0 where
@@ -70,13 +66,13 @@ module _ {M E : Type 0} where
     pub owner : ℕ → ℕ
     pub words_are : length s.words ≡ 16
     -- while nobody is in, the machine is at home
-    pub free : stage s ≡ 0 → (m : M) × (get_elem? s.homes 0 ≡ some (some (Some m))) × (frame_of m ≡ frame) × (log_of m ≡ log)
+    pub free : word s ≡ 0 → (m : M) × (get_elem? s.homes 0 ≡ some (some (Some m))) × (frame_of m ≡ frame) × (log_of m ≡ log)
     -- while somebody is in, the holder has the turn
-    pub taken : stage s ≢ 0 → (v : View E) × Sits s.views holder v × (v.turn ≡ stage s)
+    pub taken : word s ≢ 0 → (v : View E) × Sits s.views holder v × (v.turn ≡ word s)
     -- until the lock is opened the slot is empty, and there is one seat
-    pub unopened : stage s ≡ 2 → (get_elem? s.homes 0 ≡ some (some None)) × (length s.views ≡ 1)
+    pub unopened : word s ≡ 2 → (get_elem? s.homes 0 ≡ some (some None)) × (length s.views ≡ 1)
     -- somebody has seen the whole log
     pub whole : (seat : ℕ) × (v : View E) × Sits s.views seat v × (0 < length v.authors) × (v.seen ≡ log)
     pub grown : IsGrown passes start log
     pub seats : (seat : ℕ) (v : View E) → Sits s.views seat v
-        → FitsSeat passes (stage s) frame start log holder owner seat v
+        → FitsSeat passes (word s) frame start log holder owner seat v

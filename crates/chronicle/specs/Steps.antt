@@ -45,10 +45,6 @@ module _ {M E : Type 0} where
     pub seen : IsPrefix m.0.seen log
     pub own : All (λ a. entries_of a.number log ≡ a.own) m.0.authors
 
-  -- the seat stays as it was
-  abbrev pub Marked : Step (Option M) → Seated M E → ℕ → Seated M E → Type 0
-  Marked s m r n = n ≡ m
-
   -- the first seat has the empty slot in hand, and knows the frame and the log that the lock begins with
   abbrev pub Opened : Frame → Log E → Step (Option M) → Seated M E → ℕ → Seated M E → Type 0
   Opened frame log s m r n = (passes : ℕ) → m ≡ (unopened passes, []) → n ≡ (opened frame log passes, (0, None) ∷ [])

@@ -12,6 +12,7 @@
 //! The log is the machine's own. What a pass has seen of it exists in the proofs alone, and takes no memory.
 #![tactic(auto)]
 
+mod bell;
 mod chronicle;
 mod close;
 mod held;

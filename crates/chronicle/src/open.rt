@@ -5,6 +5,7 @@ ghost use Rattle.chronicle.specs.Locks.{lock_of, name_of, BeginsAs, IsFilled, Is
 ghost use Rattle.chronicle.specs.Passes.{IsReady, IsUnopened, number_of, seen};
 ghost use Rattle.chronicle.specs.Seats.{unopened, opened};
 
+use crate::bell::Bell;
 use crate::chronicle::Chronicle;
 use crate::machine::Machine;
 use crate::pass::Pass;
@@ -63,6 +64,7 @@ impl<M: Machine> Chronicle<M> {
             table,
             opened: Snapshot::of(&seat),
             filled: Badge::blank(),
+            bell: Bell::new(),
         };
         Ok((chronicle, Unopened { passes, made, seat }))
     }

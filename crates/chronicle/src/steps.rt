@@ -54,15 +54,6 @@ impl<M: Machine> Play<Option<M>, View<M::Entry>> for Enters {
     ghost then = { Entered M.frame M.log };
 }
 
-// Somebody waits: it changes nothing else.
-pub(crate) struct Marks;
-
-impl<M, E> Play<Option<M>, View<E>> for Marks {
-    ghost use Rattle.chronicle.specs.Steps.{Marked};
-
-    ghost then = { Marked };
-}
-
 pub(crate) struct Leaves;
 
 impl<M: Machine> Play<Option<M>, View<M::Entry>> for Leaves {

@@ -1,0 +1,58 @@
+//! How those sleep and are woken who wait at a lock. It is beside the lock's table: no seat makes a step for it, and no
+//! clause speaks of it. Who is woken tries again.
+use std::sync::Wait;
+use std::sync::atomic::{AtomicU64, Ordering};
+
+/// The bell of a lock. One of those who wait is called at a time, so who leaves need not call the system if nobody
+/// waits, or if somebody was called and has not tried again since.
+///
+/// Who waits reads how often the bell rang, then takes back a call, then tries, and then sleeps if the bell has not rung
+/// since. So a call that was taken back was answered by this try, and one that comes later rings after that reading.
+#[derive(Drop)]
+pub(crate) struct Bell {
+    // How many wait.
+    waiting: AtomicU64,
+    // 1 from a call until somebody who waits tries again, else 0.
+    called: AtomicU64,
+    // How often the bell rang. Those who wait sleep on it.
+    rings: AtomicU64,
+}
+
+impl Bell {
+    pub(crate) fn new() -> Bell {
+        Bell {
+            waiting: AtomicU64::new(0),
+            called: AtomicU64::new(0),
+            rings: AtomicU64::new(0),
+        }
+    }
+
+    /// A try failed. Who waits already, and knows how often the bell had rung, sleeps until it rings once more; else it
+    /// waits from now on. It is to try again: how often the bell has rung.
+    pub(crate) fn wait<R: Wait>(&self, rt: &R, rung: Option<u64>) -> u64 {
+        match rung {
+            Some(rung) => self.rings.park(rt, (rung % 4_294_967_296) as u32),
+            None => {
+                self.waiting.fetch_add(1, Ordering::SeqCst);
+            }
+        }
+        let rung = self.rings.load(Ordering::SeqCst);
+        self.called.store(0, Ordering::SeqCst);
+        rung
+    }
+
+    /// A try succeeded. Who waited does so no more.
+    pub(crate) fn end(&self, rung: Option<u64>) {
+        if rung.is_some() {
+            self.waiting.fetch_sub(1, Ordering::SeqCst);
+        }
+    }
+
+    /// Calls one of those who wait, unless one was called that has not tried again.
+    pub(crate) fn ring(&self) {
+        if self.waiting.load(Ordering::SeqCst) > 0 && self.called.swap(1, Ordering::SeqCst) == 0 {
+            self.rings.fetch_add(1, Ordering::SeqCst);
+            self.rings.wake_one();
+        }
+    }
+}
