@@ -23,10 +23,13 @@ numbered letter n = letter ++ decimal n
 unfoldable pub operation_of_form : ℕ → Name → ℕ → Words → Op × Words
 operation_of_form gets v form words =
     if nat_lt form 3 then (Create v, words)
-    else if form == 3 then draw 4 words (λ key words. draw 10 words (λ value words. (Set v (numbered (codes "k") key) (numbered (codes "x") value), words)))
-    else if form == 4 then draw 6 words (λ edge words. draw 40 words (λ target words. (Link v (numbered (codes "e") edge) (numbered (codes "v") target), words)))
+    else if form == 3 then draw 4 words (λ key words. draw 10 words (λ value words.
+    (Set v (numbered (codes "k") key) (numbered (codes "x") value), words)))
+    else if form == 4 then draw 6 words (λ edge words. draw 40 words (λ target words.
+    (Link v (numbered (codes "e") edge) (numbered (codes "v") target), words)))
     else if form == 5 then (if nat_lt gets 1000 then (Get v, words) else (Delete v, words))
-    else if form == 6 then draw 6 words (λ edge words. draw 4 words (λ key words. draw 10 words (λ value words. (Tag v (numbered (codes "e") edge) (numbered (codes "k") key) (numbered (codes "x") value), words))))
+    else if form == 6 then draw 6 words (λ edge words. draw 4 words (λ key words. draw 10 words (λ value words.
+    (Tag v (numbered (codes "e") edge) (numbered (codes "k") key) (numbered (codes "x") value), words))))
     else draw 6 words (λ edge words. (Unlink v (numbered (codes "e") edge), words))
 
 -- an operation: its vertex, then its form
@@ -51,7 +54,8 @@ unfoldable pub program_of : Words → Program × Words
 program_of words =
     draw 4 words (λ form words. draw 40 words (λ v words. program_of_form (numbered (codes "v") v) form words))
 
--- what a request asks for, by its kind: a program, or a transaction of one to four operations, where this many programs and `get` operations precede it
+-- what a request asks for, by its kind: a program, or a transaction of one to four operations, where this many programs
+-- and `get` operations precede it
 unfoldable pub work_of_kind : ℕ → ℕ → ℕ → Words → Work × Words
 work_of_kind programs gets kind words =
     if (kind == 0) && nat_lt programs 1000 then (let program = program_of words in (Look program.0, program.1))
@@ -75,9 +79,11 @@ step_of_form size form words =
     else if form == 2 then draw 3 words (λ gate words. (Judge gate, words))
     else if form == 3 then draw 3 words (λ gate words. (Send gate, words))
     else if form == 4 then draw 3 words (λ gate words. (Say gate, words))
-    else if form == 5 then draw 3 words (λ gate words. draw size words (λ notice words. (Hear gate (1 + notice), words)))
+    else if form == 5 then draw 3 words (λ gate words. draw size words (λ notice words.
+    (Hear gate (1 + notice), words)))
     else if form == 6 then draw 3 words (λ gate words. draw 4 words (λ shard words. (Nop gate shard, words)))
-    else if form == 7 then draw 3 words (λ gate words. draw 4 words (λ shard words. draw 20 words (λ number words. (Deliver gate shard (1 + number), words))))
+    else if form == 7 then draw 3 words (λ gate words. draw 4 words (λ shard words. draw 20 words (λ number words.
+    (Deliver gate shard (1 + number), words))))
     else if form == 8 then draw 4 words (λ shard words. draw 3 words (λ gate words. (Apply shard gate, words)))
     else draw size words (λ request words. (Reply request, words))
 

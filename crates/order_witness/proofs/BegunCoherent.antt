@@ -18,6 +18,7 @@ use Rattle.proof_base.proofs.Members.{has_none, has_read, has_head, has_tail}
 use Rattle.report_rules.specs.RightReport.{replies_clause}
 use Rattle.report_rules.specs.Lookups.{is_none_or, stamp_at, given_by}
 use Rattle.order_graph.specs.Building.{ends_of}
+use Rattle.order_graph.proofs.Stamps.{PartsAreCoherent}
 use Rattle.order_witness.specs.Paired.{begun_stamps}
 use Rattle.order_witness.proofs.BegunLaws.{given_joined}
 use Rattle.order_witness.proofs.Replying.{apart_so}
@@ -164,10 +165,7 @@ module _ (report : Report) where
           ];
     }
 
--- the laws on coherent stamps and on the ends of pairs
-abbrev pub PartsAreCoherent : Type 0
-PartsAreCoherent = (stamps others : List Stamp) → AreCoherent others → ((stamp : Stamp) → Contains stamps stamp → Contains others stamp) → AreCoherent stamps
-
+-- the law on the ends of pairs
 abbrev pub EndsRead : Type 0
 EndsRead = (pairs : List Given) (stamp : Stamp) → Contains (ends_of pairs) stamp → (pair : Given) × Contains pairs pair × ((pair.0 ≡ stamp) ⊎ (pair.1 ≡ stamp))
 

@@ -1,5 +1,5 @@
 -- Each listed request against the latest listed ones of the gatekeepers.
-use Rattle.std.proofs.Common.{◌≡◌, ℕ, ◌+◌, ◌<◌, not, ◌||◌, IsTrue, List, [], ◌∷◌, ◌++◌, length, take, get_or, Option, Some, None, ltb, ◌⊎◌, inl, inr, refl, sym, ap, ◌∙◌, subst}
+use Rattle.std.proofs.Common.{◌≡◌, ℕ, ◌+◌, ◌<◌, not, ◌||◌, IsTrue, List, [], ◌∷◌, ◌++◌, length, take, get_or, Option, Some, None, ltb, inl, inr, refl, sym, ap, ◌∙◌, subst}
 use Rattle.std.specs.List.{AllByRecursion}
 use Rattle.std.proofs.lemmas.Bool.{both_ways, cases_eq}
 use Rattle.std.proofs.lemmas.List.{get_or-set_same, get_or-set_other, take_more}
@@ -11,13 +11,14 @@ use Rattle.proof_base.specs.Facts.{AllHold}
 use Rattle.proof_base.proofs.Lists.{all-map, all-push, list_all-from}
 use Rattle.report_rules.specs.Lookups.{are_both, same_session, stamp_at, RequestPrecedes}
 use Rattle.report_rules.specs.RightReport.{IsListedInOrder, replies_clause}
+use Rattle.report_rules.proofs.Precedence.{IsDecided}
 use Rattle.order_witness.specs.Begun.{is_request_before, request_precedes}
 use Rattle.order_witness.specs.Latest.{latest_of, is_after_last, precedes_one, IsPutLatest, IsCovered}
 use Rattle.order_witness.proofs.BegunLaws.{AreClosed, there_both, trans}
 use Rattle.order_witness.proofs.InTurn.{session_so}
 use Rattle.order_witness.proofs.Leading.{before_prec}
 use Rattle.order_witness.proofs.Placing.{IsStrict, before_trans, one_stamp, some_passes}
-use Rattle.order_witness.proofs.Testing.{IsDecided, tested}
+use Rattle.order_witness.proofs.Testing.{tested}
 
 module _ (strict : IsStrict) (report : Report) (r : ℕ) (latest next : List (Option ℕ)) (put : IsPutLatest report r latest next) where
   new_last : latest_of next put.stamp.home ≡ Some r

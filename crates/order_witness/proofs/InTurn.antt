@@ -16,7 +16,7 @@ use Rattle.proof_base.proofs.Lists.{append-step, list_all-from}
 use Rattle.report_rules.specs.Lookups.{is_none_or, are_both, AreBoth, stamp_at, same_session, request_at, given_pairs, RequestPrecedes}
 use Rattle.report_rules.specs.RightReport.{IsListedInOrder, order_clause, replies_clause, are_apart_where_begun, are_begun_in_turn}
 use Rattle.order_witness.specs.Begun.{joins, pairs_lead}
-use Rattle.order_witness.specs.Places.{place_in, IsAtOrBefore, is_pair_in_turn, IsInTurn}
+use Rattle.order_witness.specs.Places.{place_in, IsAtOrBefore, is_pair_in_turn, IsOrderInTurn}
 use Rattle.order_witness.proofs.BegunLaws.{given_joined}
 use Rattle.order_witness.proofs.Replying.{differ, is_numbered, stands_so, reply_of}
 use Rattle.order_witness.proofs.Placing.{IsStrict, before_at, at_before, at_at}
@@ -79,7 +79,7 @@ module _ (script : Script) (report : Report) (holds : AllHold (replies_clause sc
                 absurd (unled (subst (λ o. IsTrue (are_begun_in_turn (Some s) o)) second.2 (subst (λ o. IsTrue (are_begun_in_turn o second.0.stamp)) first.2 in_turn)))
           ]
 
-module _ (strict : IsStrict) (script : Script) (report : Report) (holds : AllHold (replies_clause script report)) (turn : IsInTurn report) where
+module _ (strict : IsStrict) (script : Script) (report : Report) (holds : AllHold (replies_clause script report)) (turn : IsOrderInTurn report) where
   abbrev place : ℕ → ℕ
   place r = place_in turn.places r
 

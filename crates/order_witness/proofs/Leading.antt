@@ -16,6 +16,7 @@ use Rattle.proof_base.specs.Facts.{AllHold}
 use Rattle.report_rules.specs.RightReport.{replies_clause}
 use Rattle.report_rules.specs.PrintedOrder.{without_request}
 use Rattle.report_rules.specs.Lookups.{is_in, stamp_at, given_pairs}
+use Rattle.report_rules.proofs.Precedence.{IsDecided}
 use Rattle.order_witness.specs.declared.heads.Run.{Run}
 use Rattle.order_witness.specs.Begun.{is_request_before, request_precedes, pairs_lead}
 use Rattle.order_witness.specs.ByNumber.{list_at}
@@ -25,10 +26,11 @@ use Rattle.order_witness.proofs.BegunLaws.{AreClosed, both_there, there_both, jo
 use Rattle.order_witness.proofs.Placing.{IsStrict, before_trans}
 use Rattle.order_witness.proofs.Printing.{IsBegun, all_at, all_from, any_in, kept_in, all_begun}
 use Rattle.order_witness.proofs.Replying.{differ, is_numbered, reply_of}
-use Rattle.order_witness.proofs.Testing.{IsDecided, way}
+use Rattle.order_witness.proofs.Testing.{way}
 
 -- Lists of numbers
 
+-- a number in a list has a place there
 pub in_read : (r : ℕ) (xs : List ℕ) → IsTrue (is_in r xs) → (k : ℕ) × (k < length xs) × (item xs k ≡ r)
 in_read r [] h = cc
 in_read r (x ∷ xs) h =
@@ -37,11 +39,13 @@ in_read r (x ∷ xs) h =
       | inr later ↦ let rest = in_read r xs later in (suc rest.0, omega (arith, rest.1), rest.2)
     ]
 
+-- the number at a place of a list is in it
 pub item_in : (xs : List ℕ) (k : ℕ) → k < length xs → IsTrue (is_in (item xs k) xs)
 item_in [] k h = absurd (omega (arith, h))
 item_in (x ∷ xs) zero h = or_left _ _ (eq-eqb x x refl)
 item_in (x ∷ xs) (suc k) h = or_right (nat_eq (item xs k) x) _ (item_in xs k (omega (arith, h)))
 
+-- a number in a filtered list is in the list and passes the test
 pub in_filter : (test : ℕ → Bool) (xs : List ℕ) (r : ℕ) → IsTrue (is_in r (filter test xs)) → IsTrue (is_in r xs) × IsTrue (test r)
 in_filter test [] r h = cc
 in_filter test (x ∷ xs) r h = of_test (test x) refl (in_filter test xs r) h

@@ -14,12 +14,13 @@ use Rattle.proof_base.specs.Facts.{AllHold}
 use Rattle.report_rules.specs.RightReport.{replies_clause}
 use Rattle.report_rules.specs.PrintedOrder.{IsFree, IsOfLesserHome, IsNext, without_request, TakesAll}
 use Rattle.report_rules.specs.Lookups.{is_in, AreBoth, stamp_at, given_pairs, RequestPrecedes}
+use Rattle.report_rules.proofs.Precedence.{IsDecided}
 use Rattle.order_witness.specs.Closure.{Test, IsTransitive}
 use Rattle.order_witness.specs.Begun.{request_precedes}
 use Rattle.order_witness.specs.Choices.{IsBest, begun_in, is_free, home_in, home_at}
 use Rattle.order_witness.proofs.BegunLaws.{AreClosed, trans}
 use Rattle.order_witness.proofs.BegunCoherent.{one_home}
-use Rattle.order_witness.proofs.Testing.{IsDecided, way, tested}
+use Rattle.order_witness.proofs.Testing.{way, tested}
 use Rattle.order_witness.proofs.Replying.{is_numbered}
 
 -- Lists of numbers
@@ -33,6 +34,7 @@ module _ (P : ℕ → Type 0) where
   all_from [] f = tt
   all_from (x ∷ xs) f = (f x (or_left _ _ (eq-eqb x x refl)), all_from xs (λ r there. f r (or_right (nat_eq r x) _ there)))
 
+-- a number in a list that passes the test makes the test of any true
 pub any_in : (test : ℕ → Bool) (xs : List ℕ) (r : ℕ) → IsTrue (is_in r xs) → IsTrue (test r) → IsTrue (list_any test xs)
 any_in test [] r there is = cc
 any_in test (x ∷ xs) r there is = elim (or_cases (nat_eq r x) _ there) [ inl here ↦ or_left _ _ (ap test (sym (eqb-true r x here)) ∙ is) | inr later ↦ or_right (test x) _ (any_in test xs r later is) ]

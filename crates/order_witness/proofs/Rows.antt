@@ -10,7 +10,7 @@ use Rattle.order_witness.proofs.BitLemmas.{past}
 pub past_rows : (rows : List (List ℕ)) (a b : ℕ) → length rows ≤ a → leads rows a b ≡ false
 past_rows rows a b beyond = ap (λ (row : List ℕ). has_bit row b) (get_or_past rows a [] beyond) ∙ past [] b refl
 
--- what leads on has a row
+-- a number that leads somewhere has a row
 pub has_row : (rows : List (List ℕ)) (a b : ℕ) → IsTrue (leads rows a b) → a < length rows
 has_row rows a b h = elim (cases_lt a (length rows)) [ inl within ↦ within | inr beyond ↦ absurd (both_ways _ (past_rows rows a b beyond) h) ]
 

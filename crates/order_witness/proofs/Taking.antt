@@ -15,6 +15,7 @@ use Rattle.proof_base.proofs.Members.{has_none, has_read}
 use Rattle.report_rules.specs.RightReport.{replies_clause}
 use Rattle.report_rules.specs.PrintedOrder.{IsNext, IsPrintedOrder, TakesAll, begun_requests, without_request}
 use Rattle.report_rules.specs.Lookups.{is_in, is_some_and, is_committed_or_finished, may_be_listed, stamp_at, given_pairs, RequestPrecedes}
+use Rattle.report_rules.proofs.Precedence.{IsDecided}
 use Rattle.order_witness.specs.declared.heads.Run.{Run}
 use Rattle.order_witness.specs.Begun.{request_precedes, stamp_in, NonePrecedesItself}
 use Rattle.order_witness.specs.ByNumber.{list_at}
@@ -24,15 +25,17 @@ use Rattle.order_witness.proofs.BegunLaws.{AreClosed, both_there}
 use Rattle.order_witness.proofs.Leading.{begun_there, left_there, left_begun, left_without}
 use Rattle.order_witness.proofs.Printing.{AreTaken, IsBegun, all_at, all_from, any_in, all_begun, all_taken, is_next, none_left, taken_itself}
 use Rattle.order_witness.proofs.Replying.{is_numbered, reply_of}
-use Rattle.order_witness.proofs.Testing.{IsDecided, tested}
+use Rattle.order_witness.proofs.Testing.{tested}
 
 -- Tests of all
 
+-- if all are done, each is
 pub all_done : (done : List Bool) → IsTrue (list_all (λ is. is) done) → (r : ℕ) → is_done done r ≡ true
 all_done [] h r = get_or_past [] r true (omega arith)
 all_done (x ∷ xs) h zero = (and_parts x (list_all (λ is. is) xs) h).0
 all_done (x ∷ xs) h (suc r) = all_done xs (and_parts x (list_all (λ is. is) xs) h).1 r
 
+-- if each is done, all are
 pub done_all : (done : List Bool) → ((r : ℕ) → is_done done r ≡ true) → IsTrue (list_all (λ is. is) done)
 done_all [] f = refl
 done_all (x ∷ xs) f = and_from x (list_all (λ is. is) xs) (f 0) (done_all xs (λ r. f (suc r)))
@@ -56,6 +59,7 @@ none_passes test none (x ∷ xs) = ap (λ b. cond b (x ∷ filter test xs) (filt
 
 -- At first
 
+-- the reply is of a request that was never begun
 abbrev pub never : Reply → Bool
 never reply = not (is_some reply.stamp)
 

@@ -1,6 +1,6 @@
 -- What the code tests, and what the clauses say.
 use Rattle.std.proofs.Common.{◌≡◌, ℕ, zero, suc, ◌<◌, Bool, true, false, get_or, length, ap, arith, not, ◌||◌, ◌&&◌, IsTrue, List, [], ◌∷◌, Option, Some, None, refl, sym, ◌∙◌, subst}
-use Rattle.std.specs.Prelude.{slice_get, nat_lt, ◌↔◌}
+use Rattle.std.specs.Prelude.{slice_get, nat_lt}
 use Rattle.std.specs.List.{list_all, AllByRecursion}
 use Rattle.std.proofs.lemmas.Bool.{and_parts, and_from, both_ways, not-true, not_from_false, false_from_ne_true}
 use Rattle.vector_stamp.specs.declared.clock.Stamp.{Stamp}
@@ -20,6 +20,7 @@ use Rattle.program_defs.specs.Visits.{IsVisited}
 use Rattle.report_rules.specs.Replay.{graph_at_place}
 use Rattle.report_rules.specs.Lookups.{are_both, AreBoth, request_at, reply_at, stamp_at, same_session, names_vertex, given_pairs, RequestPrecedes}
 use Rattle.report_rules.specs.RightReport.{IsListedInOrder, IsConflictInPlace, conflicts_clause, IsPairInPlace, MayBeLaterAt, is_committed_and_names}
+use Rattle.report_rules.proofs.Precedence.{IsDecided}
 use Rattle.proof_base.specs.Facts.{AllHold, facts_of_each}
 use Rattle.order_witness.specs.Closure.{Test}
 use Rattle.order_witness.specs.Begun.{request_precedes, is_request_before, is_listed_in_order, is_conflict_in_place}
@@ -28,10 +29,6 @@ use Rattle.order_witness.specs.Refusals.{Marks}
 use Rattle.order_witness.specs.Visited.{IsMarkedPair, MarksVisit, is_pair_in_place, may_be_later}
 
 -- Precedence
-
--- precedence is decided by its test
-abbrev pub IsDecided : Type 0
-IsDecided = (pairs : List Given) (a b : Stamp) → Precedes pairs a b ↔ IsTrue (precedes pairs a b)
 
 way_of : IsDecided → (pairs : List Given) (a b : Option Stamp) → IsTrue (are_both (precedes pairs) a b) → AreBoth (Precedes pairs) a b
 way_of decided pairs None b h = cc

@@ -30,7 +30,7 @@ use Rattle.report_rules.specs.RightReport.{all_are_listed, listing_clause, repli
 use Rattle.order_witness.specs.ByNumber.{list_at}
 use Rattle.order_witness.specs.Refusals.{Marks}
 use Rattle.order_witness.specs.Replayed.{TellsOf}
-use Rattle.order_witness.specs.Visited.{AreMarkedAt, AreMarkedBy, AreVisitsMarked, IsMarkedPair, MarksVisit}
+use Rattle.order_witness.specs.Visited.{AreMarkedAt, AreMarkedBy, AreOtherMarksKept, AreVisitsMarked, IsMarkedPair, MarksVisit}
 use Rattle.order_witness.proofs.Cutting.{in_last}
 use Rattle.order_witness.proofs.Replays.{graph_here, graph_through}
 use Rattle.order_witness.proofs.Replying.{fact_of, hold_front, is_numbered}
@@ -47,23 +47,25 @@ module _ (script : Script) (report : Report) where
   by_request graph o p request reply places marks is_o is_p h =
       subst (λ (q : Option Reply). AreMarkedAt report.pairs graph (Some request) q places marks) is_p (subst (λ (r : Option Request). AreMarkedAt report.pairs graph r p places marks) is_o h)
 
-  -- one more request of the order
-  pub marked_step : (before after : List ℕ) (r : ℕ) (graph : PlainGraph) (places : List ℕ) (old new : List Bool) → report.order ≡ before ++ r ∷ after → is_in r before ≡ false → graph ≡ graph_through script report empty_graph before
-      → ((place : ℕ) (pair : Pair) → slice_get report.pairs place ≡ Some pair → (pair.later ≡ r) ↔ Contains places place)
-      → ((k : ℕ) → ¬ Contains places k → slice_index_or new k false ≡ slice_index_or old k false) → length new ≡ length report.pairs
-      → AreMarkedAt report.pairs graph (request_at script r) (reply_at report r) places new → AreMarkedTo script report before old → AreMarkedTo script report (before ++ r ∷ []) new
-  marked_step before after r graph places old new order_is fresh graph_is exact others size marked so_far place pair at there =
-      elim (in_last pair.later r before there) [
-        | inl earlier ↦
-            let other : ¬ Contains places place = λ h. both_ways _ fresh (subst (λ n. IsTrue (is_in n before)) ((exact place pair at).1 h) earlier) in
-            subst (IsMarkedPair script report pair) (sym (others place other)) (so_far place pair at earlier)
-        | inr same ↦ λ request reply at_r at_p.
-            let here : graph_at_place script report pair.later ≡ graph =
-            ap (λ n. graph_at_place script report n) same ∙ ap (λ (xs : List ℕ). graph_before r empty_graph script xs) order_is ∙ graph_here script report r empty_graph before after fresh ∙ sym graph_is in
-            let by = by_request graph (request_at script r) (reply_at report r) request reply places new (ap (request_at script) (sym same) ∙ at_r) (ap (reply_at report) (sym same) ∙ at_p) marked in
-            subst (λ (g : PlainGraph). MarksVisit g pair.vertex request.work reply.state (slice_index_or new place false)) (sym here)
-            (by place pair ((exact place pair at).0 same) at (omega (arith, slice_get_within report.pairs place pair at, size)))
-      ]
+  -- the new marks at these places are of this graph, and the others are the old ones
+  module _ (graph : PlainGraph) (places : List ℕ) (old new : List Bool) (others : AreOtherMarksKept places old new) (size : length new ≡ length report.pairs) where
+    -- one more request of the order
+    pub marked_step : (before after : List ℕ) (r : ℕ) → report.order ≡ before ++ r ∷ after → is_in r before ≡ false → graph ≡ graph_through script report empty_graph before
+        → ((place : ℕ) (pair : Pair) → slice_get report.pairs place ≡ Some pair → (pair.later ≡ r) ↔ Contains places place)
+        → AreMarkedAt report.pairs graph (request_at script r) (reply_at report r) places new → AreMarkedTo script report before old
+        → AreMarkedTo script report (before ++ r ∷ []) new
+    marked_step before after r order_is fresh graph_is exact marked so_far place pair at there =
+        elim (in_last pair.later r before there) [
+          | inl earlier ↦
+              let other : ¬ Contains places place = λ h. both_ways _ fresh (subst (λ n. IsTrue (is_in n before)) ((exact place pair at).1 h) earlier) in
+              subst (IsMarkedPair script report pair) (sym (others place other)) (so_far place pair at earlier)
+          | inr same ↦ λ request reply at_r at_p.
+              let here : graph_at_place script report pair.later ≡ graph =
+              ap (λ n. graph_at_place script report n) same ∙ ap (λ (xs : List ℕ). graph_before r empty_graph script xs) order_is ∙ graph_here script report r empty_graph before after fresh ∙ sym graph_is in
+              let by = by_request graph (request_at script r) (reply_at report r) request reply places new (ap (request_at script) (sym same) ∙ at_r) (ap (reply_at report) (sym same) ∙ at_p) marked in
+              subst (λ (g : PlainGraph). MarksVisit g pair.vertex request.work reply.state (slice_index_or new place false)) (sym here)
+              (by place pair ((exact place pair at).0 same) at (omega (arith, slice_get_within report.pairs place pair at, size)))
+        ]
 
   -- a listed request isn't listed before, and has a reply
   listed_once : AllHold (listing_clause report) → (i r : ℕ) → slice_get report.order i ≡ Some r → (is_in r (take i report.order) ≡ false) × (r < length report.replies)
@@ -81,16 +83,18 @@ module _ (script : Script) (report : Report) where
   split_at xs i lt = sym (take-append-drop i xs) ∙ ap (λ (ys : List ℕ). take i xs ++ ys) (drop-cons xs i 0 lt)
 
   -- the same by places in the order
-  pub marked_next : AllHold (listing_clause report) → (order : List ℕ) (i : ℕ) (graph : PlainGraph) (places : List ℕ) (old new : List Bool) → order ≡ report.order → i < length order → graph ≡ graph_through script report empty_graph (take i order)
-      → (get_or order i 0 < length report.replies → (place : ℕ) (pair : Pair) → slice_get report.pairs place ≡ Some pair → (pair.later ≡ get_or order i 0) ↔ Contains places place)
-      → ((k : ℕ) → ¬ Contains places k → slice_index_or new k false ≡ slice_index_or old k false) → length new ≡ length report.pairs
-      → AreMarkedAt report.pairs graph (request_at script (get_or order i 0)) (reply_at report (get_or order i 0)) places new → AreMarkedTo script report (take i order) old → AreMarkedTo script report (take (i + 1) order) new
-  marked_next listing order i graph places old new is lt graph_is exact others size marked so_far =
-      let r : ℕ = get_or order i 0 in
-      let once = listed_once listing i r (subst (λ (xs : List ℕ). slice_get xs i ≡ Some r) is (got_at order i r lt (get_or_default order i 0 r lt))) in
-      let fresh : is_in r (take i order) ≡ false = subst (λ (xs : List ℕ). is_in r (take i xs) ≡ false) (sym is) once.0 in
-      subst (λ (taken : List ℕ). AreMarkedTo script report taken new) (sym (take_more order i 0 lt))
-      (marked_step (take i order) (drop (suc i) order) r graph places old new (sym is ∙ split_at order i lt) fresh graph_is (exact once.1) others size marked so_far)
+  module _ (graph : PlainGraph) (places : List ℕ) (old new : List Bool) (others : AreOtherMarksKept places old new) (size : length new ≡ length report.pairs)
+      (listing : AllHold (listing_clause report)) (order : List ℕ) (i : ℕ) (is : order ≡ report.order) (lt : i < length order) where
+    pub marked_next : graph ≡ graph_through script report empty_graph (take i order)
+        → (get_or order i 0 < length report.replies → (place : ℕ) (pair : Pair) → slice_get report.pairs place ≡ Some pair → (pair.later ≡ get_or order i 0) ↔ Contains places place)
+        → AreMarkedAt report.pairs graph (request_at script (get_or order i 0)) (reply_at report (get_or order i 0)) places new
+        → AreMarkedTo script report (take i order) old → AreMarkedTo script report (take (i + 1) order) new
+    marked_next graph_is exact marked so_far =
+        let r : ℕ = get_or order i 0 in
+        let once = listed_once listing i r (subst (λ (xs : List ℕ). slice_get xs i ≡ Some r) is (got_at order i r lt (get_or_default order i 0 r lt))) in
+        let fresh : is_in r (take i order) ≡ false = subst (λ (xs : List ℕ). is_in r (take i xs) ≡ false) (sym is) once.0 in
+        subst (λ (taken : List ℕ). AreMarkedTo script report taken new) (sym (take_more order i 0 lt))
+        (marked_step graph places old new others size (take i order) (drop (suc i) order) r (sym is ∙ split_at order i lt) fresh graph_is (exact once.1) marked so_far)
 
   -- before the first request of the order
   pub marked_none : (marks : List Bool) → AreMarkedTo script report [] marks
@@ -145,6 +149,7 @@ place_put : (b : Bool) (place : ℕ) → IsTrue b → Contains (cond b (place �
 place_put true place is = has_head place []
 place_put false place is = cc
 
+-- empty lists have none of the pairs
 pub pairs_start : (bound : ℕ) (pairs : List Pair) (lists : List (List ℕ)) → length lists ≡ bound → ((n : ℕ) → list_at lists n ≡ []) → HavePairsTo 0 bound pairs lists
 pairs_start bound pairs lists size empty = record {
   size = size;
@@ -152,6 +157,7 @@ pairs_start bound pairs lists size empty = record {
   within = λ r place below has. absurd (has_none place (subst (λ (ps : List ℕ). Contains ps place) (empty r) has));
 }
 
+-- with one more pair in the list of its later request, the lists have one pair more
 pub pairs_more : (count bound : ℕ) (pairs : List Pair) (item : Pair) (lists next : List (List ℕ)) → ((pair : Pair) → slice_get pairs count ≡ Some pair → pair ≡ item) → length next ≡ length lists
     → ((n : ℕ) → n < length lists → list_at next n ≡ list_at lists n ++ cond (eqb item.later n) (count ∷ []) []) → HavePairsTo count bound pairs lists → HavePairsTo (count + 1) bound pairs next
 pairs_more count bound pairs item lists next is_item same put h = record {

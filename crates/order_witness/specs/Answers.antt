@@ -20,7 +20,8 @@ same_edge a b = same_name a.target b.target && same_names a.tags b.tags
 
 -- the same record
 abbrev pub same_record : Record → Record → Bool
-same_record a b = same_names a.props b.props && pointwise (λ p q. same_name p.0 q.0 && same_edge p.1 q.1) a.edges b.edges
+same_record a b =
+    same_names a.props b.props && pointwise (λ p q. same_name p.0 q.0 && same_edge p.1 q.1) a.edges b.edges
 
 -- the same answer
 abbrev pub same_got : Got → Got → Bool

@@ -40,11 +40,15 @@ is_before_in replies stamp r = is_some_and (is_before_reply stamp) (slice_get re
 
 -- the one reply of a list has a stamp before that of one of another list
 abbrev pub stamps_lead : List Reply → List Reply → ℕ → ℕ → Bool
-stamps_lead replies others a b = is_some_and (λ (reply : Reply). is_some_and (λ stamp. is_before_in others stamp b) reply.stamp) (slice_get replies a)
+stamps_lead replies others a b =
+    is_some_and (λ (reply : Reply). is_some_and (λ stamp. is_before_in others stamp b) reply.stamp)
+    (slice_get replies a)
 
 -- the pair joins these two, and both its ends are begun
 abbrev pub joins : List Reply → ℕ → ℕ → Pair → Bool
-joins replies a b pair = (a == pair.earlier && b == pair.later) && (is_some (stamp_in replies pair.earlier) && is_some (stamp_in replies pair.later))
+joins replies a b pair =
+    (a == pair.earlier && b == pair.later)
+    && (is_some (stamp_in replies pair.earlier) && is_some (stamp_in replies pair.later))
 
 -- a pair of the list joins these two
 abbrev pub pairs_lead : List Reply → List Pair → ℕ → ℕ → Bool
@@ -58,14 +62,17 @@ numbers_in replies = filter_map (λ (reply : Reply). number_of reply.state) repl
 abbrev pub is_request_before : Report → ℕ → ℕ → Bool
 is_request_before report a b = are_both stamp_before (stamp_at report a) (stamp_at report b)
 
--- by this precedence, a listed request precedes neither itself nor one listed before it, and the listed requests of its session before it are earlier ones
+-- by this precedence, a listed request precedes neither itself nor one listed before it, and the listed requests of its
+-- session before it are earlier ones
 abbrev pub is_listed_in_order : Script → (ℕ → ℕ → Bool) → List ℕ → ℕ → Bool
 is_listed_in_order script precedence before r =
     not (precedence r r) && list_all (λ earlier. not (precedence r earlier)) before
     && list_all (λ earlier. not (same_session script earlier r) || nat_lt earlier r) before
 
--- by this precedence, the newer request of a conflict is a committed transaction of another session, both name the vertex, and the aborted one precedes it
+-- by this precedence, the newer request of a conflict is a committed transaction of another session, both name the
+-- vertex, and the aborted one precedes it
 abbrev pub is_conflict_in_place : Script → Report → (ℕ → ℕ → Bool) → ℕ → ReplyState → Bool
 is_conflict_in_place script report precedence r (Conflict v newer) =
-    is_committed_and_names script report v newer && not (same_session script r newer) && names_vertex script r v && precedence r newer
+    is_committed_and_names script report v newer && not (same_session script r newer) && names_vertex script r v
+    && precedence r newer
 is_conflict_in_place script report precedence r _ = true

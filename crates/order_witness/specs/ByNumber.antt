@@ -12,7 +12,8 @@ list_at lists n = slice_index_or lists n []
 -- the list has the place of each reply that is refused after this number of commits
 abbrev pub HasRefused : ℕ → List Reply → List ℕ → Type 0
 HasRefused after replies places =
-    (place : ℕ) (reply : Reply) → slice_get replies place ≡ Some reply → refused_after reply.state ≡ Some after → Contains places place
+    (place : ℕ) (reply : Reply) → slice_get replies place ≡ Some reply → refused_after reply.state ≡ Some after
+    → Contains places place
 
 -- the place of a reply, if it is refused after this number of commits
 abbrev pub place_if_refused : ℕ → ℕ → ReplyState → List ℕ

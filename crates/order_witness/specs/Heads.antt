@@ -1,4 +1,5 @@
--- The printed order by the heads of chains: the begun requests in runs whose stamps rise, of which only the first ones left may be next. No public contract cites it.
+-- The printed order by the heads of chains. No public contract cites it.
+-- The begun requests are in runs whose stamps rise, of which only the first ones left may be next.
 use Rattle.std.specs.Prelude.{◌≡◌, ℕ, ◌≤◌, ◌<◌, Bool, true, false, not, nat_lt, nat_le, IsTrue, List, [], ◌∷◌, length, Option, Some, None, slice_index_or, if◌then◌else◌}
 use Rattle.std.specs.List.{filter, filter_map}
 use Rattle.vector_stamp.specs.declared.clock.Stamp.{Stamp}
@@ -34,7 +35,8 @@ run_at runs i = slice_index_or runs i no_run
 -- the stamps of each run rise
 abbrev pub AreRising : Report → List ℕ → List Run → Type 0
 AreRising report line runs =
-    (i j k : ℕ) → i < length runs → (run_at runs i).next ≤ j → j < k → k < (run_at runs i).end → IsTrue (is_request_before report (item line j) (item line k))
+    (i j k : ℕ) → i < length runs → (run_at runs i).next ≤ j → j < k → k < (run_at runs i).end
+    → IsTrue (is_request_before report (item line j) (item line k))
 
 -- a run reaches over the place
 pub record IsReached (runs : List Run) (k : ℕ) : Type 0 where
@@ -47,7 +49,8 @@ pub record IsReached (runs : List Run) (k : ℕ) : Type 0 where
 pub record AreCut (report : Report) (line : List ℕ) (place start : ℕ) (runs : List Run) : Type 0 where
   pub rising : AreRising report line runs
   pub reached : (k : ℕ) → k < start → IsReached runs k
-  pub current : (j k : ℕ) → start ≤ j → j < k → k < place → IsTrue (is_request_before report (item line j) (item line k))
+  pub current : (j k : ℕ) → start ≤ j → j < k → k < place
+      → IsTrue (is_request_before report (item line j) (item line k))
   pub in_turn : start < place
 
 -- from this place of a list, up to the end, the first request that is left is at that one
@@ -82,7 +85,8 @@ is_ready befores seen r = nat_le (length (list_at befores r)) (seen_by seen r)
 
 -- the lists have for each request the earlier ends of its pairs
 abbrev pub AreEndsOf : List Reply → List Pair → List (List ℕ) → Type 0
-AreEndsOf replies pairs befores = (e r : ℕ) → r < length replies → is_in e (list_at befores r) ≡ pairs_lead replies pairs e r
+AreEndsOf replies pairs befores =
+    (e r : ℕ) → r < length replies → is_in e (list_at befores r) ≡ pairs_lead replies pairs e r
 
 -- and so for the pairs of a report
 abbrev pub AreEarlierEnds : Report → List (List ℕ) → Type 0
@@ -90,11 +94,13 @@ AreEarlierEnds report befores = AreEndsOf report.replies report.pairs befores
 
 -- the earlier end that the request sees next is left, if there is one
 abbrev pub IsAtLeft : List (List ℕ) → List Bool → List ℕ → ℕ → Type 0
-IsAtLeft befores done seen r = seen_by seen r < length (list_at befores r) → is_done done (item (list_at befores r) (seen_by seen r)) ≡ false
+IsAtLeft befores done seen r =
+    seen_by seen r < length (list_at befores r) → is_done done (item (list_at befores r) (seen_by seen r)) ≡ false
 
 -- the request looks on to the first of the earlier ends that is left
 abbrev pub IsSeenOn : List (List ℕ) → List Bool → List ℕ → List ℕ → ℕ → Type 0
-IsSeenOn befores done old new r = IsFirstLeft (list_at befores r) done (seen_by old r) (length (list_at befores r)) (seen_by new r)
+IsSeenOn befores done old new r =
+    IsFirstLeft (list_at befores r) done (seen_by old r) (length (list_at befores r)) (seen_by new r)
 
 -- what is seen done is done
 abbrev pub AreSeenDone : List (List ℕ) → List Bool → List ℕ → Type 0
@@ -105,14 +111,16 @@ abbrev pub IsBestLeft : Report → List Bool → Option ℕ → Type 0
 IsBestLeft report done best = IsBest report (request_precedes report) (left_of report done) (left_of report done) best
 
 -- while requests are taken: those left are in the runs, and precede none that is done
-pub record AreWaiting (report : Report) (line : List ℕ) (befores : List (List ℕ)) (runs : List Run) (seen : List ℕ) (done : List Bool) : Type 0 where
+pub record AreWaiting (report : Report) (line : List ℕ) (befores : List (List ℕ)) (runs : List Run) (seen : List ℕ)
+    (done : List Bool) : Type 0 where
   pub size : length seen ≡ length report.replies
   pub rising : AreRising report line runs
   pub found : (r : ℕ) → is_done done r ≡ false → (k : ℕ) × IsReached runs k × (item line k ≡ r)
   pub ends : AreEarlierEnds report befores
   pub seen_done : AreSeenDone befores done seen
   pub begun : (r : ℕ) → is_done done r ≡ false → (s : Stamp) × (stamp_at report r ≡ Some s)
-  pub closed : (r left : ℕ) (s : Stamp) → stamp_at report r ≡ Some s → is_done done r ≡ true → is_done done left ≡ false → request_precedes report left r ≡ false
+  pub closed : (r left : ℕ) (s : Stamp) → stamp_at report r ≡ Some s → is_done done r ≡ true → is_done done left ≡ false
+      → request_precedes report left r ≡ false
 
 -- the request of a reply, if the order may list it
 abbrev pub listed_in : Option Reply → List ℕ

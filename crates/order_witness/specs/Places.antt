@@ -19,12 +19,15 @@ latest_at latest gate = slice_index_or latest gate None
 abbrev pub is_before_one : Stamp → List (Option Stamp) → Bool
 is_before_one stamp latest = list_any (λ (one : Option Stamp). is_some_and (stamp_before stamp) one) latest
 
--- a request with this place so far and this stamp may come next: it is not yet listed, its stamp is after the latest one of its gatekeeper, and before none of the latest ones
+-- a request with this place so far and this stamp may come next: it is not yet listed, its stamp is after the latest
+-- one of its gatekeeper, and before none of the latest ones
 abbrev pub may_come : ℕ → Option Stamp → Stamp → List (Option Stamp) → Bool
-may_come place last stamp latest = (place == 0) && is_none_or (λ t. stamp_before t stamp) last && not (is_before_one stamp latest)
+may_come place last stamp latest =
+    (place == 0) && is_none_or (λ t. stamp_before t stamp) last && not (is_before_one stamp latest)
 
 -- it comes next
-pub record IsPutNext (report : Report) (r place : ℕ) (places next : List ℕ) (latest then_latest : List (Option Stamp)) : Type 0 where
+pub record IsPutNext (report : Report) (r place : ℕ) (places next : List ℕ)
+    (latest then_latest : List (Option Stamp)) : Type 0 where
   pub stamp : Stamp
   pub stamp_is : stamp_at report r ≡ Some stamp
   pub home : stamp.home < length latest
@@ -42,16 +45,20 @@ pub record ArePlaced (report : Report) (count : ℕ) (places : List ℕ) (latest
   pub within : (r : ℕ) → place_in places r ≤ count
   pub listed : (k d : ℕ) → k < count → place_in places (slice_index_or report.order k d) ≡ k + 1
   pub begun : (r : ℕ) → 0 < place_in places r → (s : Stamp) × (stamp_at report r ≡ Some s)
-  pub rise : (a b : ℕ) (s t : Stamp) → 0 < place_in places a → 0 < place_in places b → stamp_at report a ≡ Some s → stamp_at report b ≡ Some t → IsTrue (stamp_before s t) → place_in places a < place_in places b
-  pub at_most : (r : ℕ) (s : Stamp) → 0 < place_in places r → stamp_at report r ≡ Some s → (t : Stamp) × (latest_at latest s.home ≡ Some t) × IsAtOrBefore s t
+  pub rise : (a b : ℕ) (s t : Stamp) → 0 < place_in places a → 0 < place_in places b → stamp_at report a ≡ Some s
+      → stamp_at report b ≡ Some t → IsTrue (stamp_before s t) → place_in places a < place_in places b
+  pub at_most : (r : ℕ) (s : Stamp) → 0 < place_in places r → stamp_at report r ≡ Some s
+      → (t : Stamp) × (latest_at latest s.home ≡ Some t) × IsAtOrBefore s t
 
 -- the pair is of listed requests in their order, if both are begun
 abbrev pub is_pair_in_turn : Report → List ℕ → Pair → Bool
 is_pair_in_turn report places pair =
-    is_none_or (λ s. is_none_or (λ t. nat_lt 0 (place_in places pair.earlier) && nat_lt (place_in places pair.earlier) (place_in places pair.later)) (stamp_at report pair.later)) (stamp_at report pair.earlier)
+    is_none_or (λ s. is_none_or (λ t.
+    nat_lt 0 (place_in places pair.earlier) && nat_lt (place_in places pair.earlier) (place_in places pair.later))
+    (stamp_at report pair.later)) (stamp_at report pair.earlier)
 
 -- the order of the stamps and the pairs are kept by the places of the listed requests
-pub record IsInTurn (report : Report) : Type 0 where
+pub record IsOrderInTurn (report : Report) : Type 0 where
   pub places : List ℕ
   pub latest : List (Option Stamp)
   pub count : ℕ

@@ -26,15 +26,19 @@ IsRefusedSo script graph r _ = ⊤
 abbrev pub Marks : Bool → Type 0 → Type 0
 Marks mark Fact = MatchBool mark Fact (¬ Fact)
 
--- of a request that is refused after this number of commits the new mark says whether it is so on this graph; another one's stays
+-- of a request that is refused after this number of commits the new mark says whether it is so on this graph; another
+-- one's stays
 abbrev pub IsMarkedOn : Script → PlainGraph → ℕ → ℕ → ReplyState → Bool → Bool → Type 0
-IsMarkedOn script graph after r (Refused op reason at) old new = MatchBool (at == after) (Marks new (IsRefusedOn (Some graph) (request_at script r) op reason)) (new ≡ old)
+IsMarkedOn script graph after r (Refused op reason at) old new =
+    MatchBool (at == after) (Marks new (IsRefusedOn (Some graph) (request_at script r) op reason)) (new ≡ old)
 IsMarkedOn script graph after r _ old new = new ≡ old
 
 -- and so for each reply
 abbrev pub AreMarkedOn : Script → PlainGraph → ℕ → List Reply → List Bool → List Bool → Type 0
 AreMarkedOn script graph after replies old new =
-    (place : ℕ) (reply : Reply) → slice_get replies place ≡ Some reply → IsMarkedOn script graph after reply.request reply.state (slice_index_or old place false) (slice_index_or new place false)
+    (place : ℕ) (reply : Reply) → slice_get replies place ≡ Some reply
+    → IsMarkedOn script graph after reply.request reply.state
+    (slice_index_or old place false) (slice_index_or new place false)
 
 -- after how many commits a request is refused
 abbrev pub refused_after : ReplyState → Option ℕ
@@ -44,8 +48,10 @@ refused_after _ = None
 -- the marks of those that are refused after at most this number of commits say whether they are so
 abbrev pub AreMarkedUpTo : ℕ → Script → Report → List Bool → Type 0
 AreMarkedUpTo most script report marks =
-    (place at : ℕ) (reply : Reply) → slice_get report.replies place ≡ Some reply → refused_after reply.state ≡ Some at → at ≤ most
-    → Marks (slice_index_or marks place false) (IsRefusedSo script (graph_of_commits script report at) reply.request reply.state)
+    (place at : ℕ) (reply : Reply) → slice_get report.replies place ≡ Some reply → refused_after reply.state ≡ Some at
+    → at ≤ most
+    → Marks (slice_index_or marks place false)
+    (IsRefusedSo script (graph_of_commits script report at) reply.request reply.state)
 
 -- the marks of those that are refused after some of the commits
 abbrev pub AreMarked : Script → Report → List Bool → Type 0
@@ -58,8 +64,10 @@ is_refusal_in_place script report r _ mark = true
 
 -- the requests of a list of replies with this commit number
 abbrev pub numbered_in : ℕ → List Reply → List ℕ
-numbered_in number replies = map (λ (reply : Reply). reply.request) (filter (λ (reply : Reply). is_some_and (λ n. n == number) (number_of reply.state)) replies)
+numbered_in number replies =
+    map (λ (reply : Reply). reply.request)
+    (filter (λ (reply : Reply). is_some_and (λ n. n == number) (number_of reply.state)) replies)
 
 -- the graph that was to come is there, and is this one; or there is none
-abbrev pub IsThere : Option PlainGraph → PlainGraph → Bool → Type 0
-IsThere expected now there = MatchBool there (expected ≡ Some now) (expected ≡ None)
+abbrev pub IsExpectedGraph : Option PlainGraph → PlainGraph → Bool → Type 0
+IsExpectedGraph expected now there = MatchBool there (expected ≡ Some now) (expected ≡ None)

@@ -11,7 +11,9 @@ use Rattle.report_rules.specs.Replay.{MatchesReply}
 
 -- on this graph the outcome of a request is what its reply says
 abbrev pub MatchesItsReply : PlainGraph → Script → Report → ℕ → Type 0
-MatchesItsReply graph script report r = AreBoth (λ (request : Request) (reply : Reply). MatchesReply graph request.work reply.state) (request_at script r) (reply_at report r)
+MatchesItsReply graph script report r =
+    AreBoth (λ (request : Request) (reply : Reply). MatchesReply graph request.work reply.state)
+    (request_at script r) (reply_at report r)
 
 -- a transaction passed, and its `get`s read these states
 abbrev pub GivesAnswers : TxOutcome → List Got → Type 0

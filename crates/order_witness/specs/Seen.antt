@@ -11,7 +11,8 @@ is_number_new count seen = is_none_or (λ number. nat_lt 0 number && nat_le numb
 
 -- a reply has this commit number
 abbrev pub has_number : List Reply → ℕ → Bool
-has_number replies number = list_any (λ (earlier : Reply). is_some_and (λ n. n == number) (number_of earlier.state)) replies
+has_number replies number =
+    list_any (λ (earlier : Reply). is_some_and (λ n. n == number) (number_of earlier.state)) replies
 
 -- the numbers that were seen are the commit numbers of these replies
 abbrev pub AreNumbersSeen : List Reply → List ℕ → Type 0

@@ -27,16 +27,20 @@ fits_after number after (Refused op reason at) = nat_le number at
 fits_after number after _ = true
 
 -- the reply takes its turn in its session
-pub record IsTurnTaken (script : Script) (place : ℕ) (state : ReplyState) (numbers next afters then_afters : List ℕ) : Type 0 where
+pub record IsTurnTaken (script : Script) (place : ℕ) (state : ReplyState)
+    (numbers next afters then_afters : List ℕ) : Type 0 where
   pub request : Request
   pub request_is : request_at script place ≡ Some request
   pub in_numbers : request.session < length numbers
   pub in_afters : request.session < length afters
   pub fits : IsTrue (fits_after (slice_index numbers request.session) (slice_index afters request.session) state)
-  pub numbers_are : next ≡ slice_set numbers request.session (max (slice_index numbers request.session) (top_number state))
-  pub afters_are : then_afters ≡ slice_set afters request.session (max (slice_index afters request.session) (top_after state))
+  pub numbers_are : next
+      ≡ slice_set numbers request.session (max (slice_index numbers request.session) (top_number state))
+  pub afters_are : then_afters
+      ≡ slice_set afters request.session (max (slice_index afters request.session) (top_after state))
 
--- of two replies of a session, the earlier one's commit number is at most the number of commits after which the later one is refused, and its own such number is below the later one's commit number
+-- of two replies of a session, the earlier one's commit number is at most the number of commits after which the later
+-- one is refused, and its own such number is below the later one's commit number
 abbrev pub AreNumbersInTurn : ReplyState → ReplyState → Type 0
 AreNumbersInTurn earlier later =
     ((n at : ℕ) → number_of earlier ≡ Some n → refused_after later ≡ Some at → n ≤ at)
@@ -45,13 +49,18 @@ AreNumbersInTurn earlier later =
 -- and so for the first replies
 abbrev pub DoNumbersTakeTurns : Script → List Reply → ℕ → Type 0
 DoNumbersTakeTurns script replies count =
-    (a b : ℕ) (earlier later : Reply) (x y : Request) → a < b → b < count → slice_get replies a ≡ Some earlier → slice_get replies b ≡ Some later
-    → request_at script a ≡ Some x → request_at script b ≡ Some y → x.session ≡ y.session → AreNumbersInTurn earlier.state later.state
+    (a b : ℕ) (earlier later : Reply) (x y : Request) → a < b → b < count → slice_get replies a ≡ Some earlier
+    → slice_get replies b ≡ Some later
+    → request_at script a ≡ Some x → request_at script b ≡ Some y → x.session ≡ y.session
+    → AreNumbersInTurn earlier.state later.state
 
 -- the commit numbers of a refused request's session keep clear of it
 abbrev pub AreNumbersKept : Script → List Reply → ℕ → ℕ → Type 0
-AreNumbersKept script replies r at = IsTrue (list_all (λ (other : Reply). not (same_session script other.request r) || keeps_number at r other) replies)
+AreNumbersKept script replies r at =
+    IsTrue (list_all (λ (other : Reply). not (same_session script other.request r) || keeps_number at r other) replies)
 
 -- and so for each refused request
 abbrev pub AreAllKept : Script → List Reply → Type 0
-AreAllKept script replies = (place at : ℕ) (reply : Reply) → slice_get replies place ≡ Some reply → refused_after reply.state ≡ Some at → AreNumbersKept script replies reply.request at
+AreAllKept script replies =
+    (place at : ℕ) (reply : Reply) → slice_get replies place ≡ Some reply → refused_after reply.state ≡ Some at
+    → AreNumbersKept script replies reply.request at

@@ -1,4 +1,5 @@
--- Pairs whose later request is a program: marks that say whether it visits the pair's vertex at its place. No public contract cites it.
+-- Pairs whose later request is a program. No public contract cites it.
+-- Marks say whether the program visits the pair's vertex at its place.
 use Rattle.std.specs.Prelude.{◌≡◌, ℕ, Bool, true, false, ◌&&◌, List, [], ◌∷◌, ⊤, ◌<◌, Contains, Option, Some, length, slice_get, slice_index_or, if◌then◌else◌, ◌==◌}
 use Rattle.weave_data.specs.declared.name.Name.{Name}
 use Rattle.vector_stamp.specs.Order.{unordered}
@@ -26,16 +27,20 @@ MarksVisit graph v _ _ mark = ⊤
 -- the mark of a pair says so of its later request, at that one's place
 abbrev pub IsMarkedPair : Script → Report → Pair → Bool → Type 0
 IsMarkedPair script report pair mark =
-    (request : Request) (reply : Reply) → request_at script pair.later ≡ Some request → reply_at report pair.later ≡ Some reply
+    (request : Request) (reply : Reply) → request_at script pair.later ≡ Some request
+    → reply_at report pair.later ≡ Some reply
     → MarksVisit (graph_at_place script report pair.later) pair.vertex request.work reply.state mark
 
 -- and so for each pair
 abbrev pub AreVisitsMarked : Script → Report → List Bool → Type 0
-AreVisitsMarked script report marks = (place : ℕ) (pair : Pair) → slice_get report.pairs place ≡ Some pair → IsMarkedPair script report pair (slice_index_or marks place false)
+AreVisitsMarked script report marks =
+    (place : ℕ) (pair : Pair) → slice_get report.pairs place ≡ Some pair
+    → IsMarkedPair script report pair (slice_index_or marks place false)
 
 -- the marks at other places than these stay
 abbrev pub AreOtherMarksKept : List ℕ → List Bool → List Bool → Type 0
-AreOtherMarksKept places old new = (k : ℕ) → ¬ Contains places k → slice_index_or new k false ≡ slice_index_or old k false
+AreOtherMarksKept places old new =
+    (k : ℕ) → ¬ Contains places k → slice_index_or new k false ≡ slice_index_or old k false
 
 -- the place of a pair, if this is its later request
 abbrev pub place_if_later : ℕ → ℕ → Pair → List ℕ
@@ -52,14 +57,18 @@ abbrev pub is_pair_in_place : Script → Report → Pair → Bool → Bool
 is_pair_in_place script report pair mark =
     are_both unordered (stamp_at report pair.earlier) (stamp_at report pair.later)
     && is_committed_and_names script report pair.vertex pair.earlier
-    && are_both (λ (request : Request) (reply : Reply). may_be_later script report pair.vertex pair.later mark request.work reply.state) (request_at script pair.later) (reply_at report pair.later)
+    && are_both (λ (request : Request) (reply : Reply).
+    may_be_later script report pair.vertex pair.later mark request.work reply.state)
+    (request_at script pair.later) (reply_at report pair.later)
 
 -- the pairs at these places are marked so by work on this graph
 abbrev pub AreMarkedBy : List Pair → PlainGraph → Work → ReplyState → List ℕ → List Bool → Type 0
 AreMarkedBy pairs graph work state places marks =
-    (place : ℕ) (pair : Pair) → Contains places place → slice_get pairs place ≡ Some pair → place < length marks → MarksVisit graph pair.vertex work state (slice_index_or marks place false)
+    (place : ℕ) (pair : Pair) → Contains places place → slice_get pairs place ≡ Some pair → place < length marks
+    → MarksVisit graph pair.vertex work state (slice_index_or marks place false)
 
 -- the same by a request, if it and its reply are there
 abbrev pub AreMarkedAt : List Pair → PlainGraph → Option Request → Option Reply → List ℕ → List Bool → Type 0
-AreMarkedAt pairs graph (Some request) (Some reply) places marks = AreMarkedBy pairs graph request.work reply.state places marks
+AreMarkedAt pairs graph (Some request) (Some reply) places marks =
+    AreMarkedBy pairs graph request.work reply.state places marks
 AreMarkedAt pairs graph _ _ places marks = ⊤

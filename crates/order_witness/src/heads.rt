@@ -210,7 +210,7 @@ fn is_ready(befores: &ByNumber, seen: &[usize], request: usize) -> bool
     befores.list_of(request as u64).len() <= item(seen, request)
 }
 
-// Of those ready whose stamps none of the heads is before, the first of the least home.
+// Among the ready requests whose stamps no head is before, the one with the lowest home.
 fn best_of(report: &Report, firsts: &[usize], ready: &[usize]) -> Option<usize>
     ensures { IsBest report.now (is_request_before report.now) firsts.now ready.now result }
 {

@@ -8,7 +8,7 @@ ghost use Rattle.report_rules.specs.Lookups as told;
 ghost use Rattle.order_witness.specs.Judgement.{has_numbered_operations, is_numbered_work};
 ghost use Rattle.report_rules.specs.declared.report.Reply.{Reply};
 ghost use Rattle.order_witness.specs.ByNumber.{list_at, HasRefused, place_if_refused};
-ghost use Rattle.order_witness.specs.Refusals.{AreMarked, AreMarkedOn, IsMarkedOn, IsRefusedOn, IsThere, Marks, numbered_in};
+ghost use Rattle.order_witness.specs.Refusals.{AreMarked, AreMarkedOn, IsMarkedOn, IsRefusedOn, IsExpectedGraph, Marks, numbered_in};
 
 use crate::by_number::ByNumber;
 use crate::trial::{passes, stops};
@@ -221,7 +221,7 @@ fn commit(
     requests: &[usize],
 ) -> Result<bool, AllocError>
     requires numbered { IsTrue (has_numbered_operations script.now) }
-    ensures { IfOk result (IsThere
+    ensures { IfOk result (IsExpectedGraph
         (graph_after_commit (option_and_then (told.request_at script.now) (the_only requests.now))
         (Some (plain_of graph.old))) (plain_of graph.new)) }
 {
@@ -236,7 +236,7 @@ fn commit(
 
 fn work_passes(alloc: Global, graph: &mut Graph, work: &Work) -> Result<bool, AllocError>
     requires numbered { IsTrue (is_numbered_work work.now) }
-    ensures { IfOk result (IsThere (graph_if_work_passed work.now (plain_of graph.old)) (plain_of graph.new)) }
+    ensures { IfOk result (IsExpectedGraph (graph_if_work_passed work.now (plain_of graph.old)) (plain_of graph.new)) }
 {
     match work {
         Work::Change(ops) => passes(alloc, graph, ops.as_slice()),

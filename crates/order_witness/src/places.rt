@@ -3,7 +3,7 @@ ghost use Rattle.std.specs.Prelude.{◌≡◌, ℕ, ◌+◌, ◌<◌, ◌&&◌, 
 ghost use Rattle.std.specs.List.{list_all};
 ghost use Rattle.vector_stamp.specs.Order as stamps;
 ghost use Rattle.report_rules.specs.Lookups as told;
-ghost use Rattle.order_witness.specs.Places.{IsInTurn, IsPutNext, is_before_one, is_pair_in_turn, may_come, place_in};
+ghost use Rattle.order_witness.specs.Places.{IsOrderInTurn, IsPutNext, is_before_one, is_pair_in_turn, may_come, place_in};
 
 use crate::words::stamp_at;
 use report_rules::{Pair, Report};
@@ -14,7 +14,7 @@ use vector_stamp::laws::stamps_are_ordered;
 /// Whether the order keeps that of the stamps, gatekeeper by gatekeeper, and each pair. Then no listed request precedes
 /// one listed before it.
 pub fn is_in_turn(alloc: Global, report: &Report) -> Result<bool, AllocError>
-    ensures { IfOk result (λ holds. IsTrue holds → IsInTurn report.now) }
+    ensures { IfOk result (λ holds. IsTrue holds → IsOrderInTurn report.now) }
 {
     stamps_are_ordered();
     let order = report.order.as_slice();

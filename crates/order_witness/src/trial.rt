@@ -3,7 +3,7 @@ ghost use Rattle.std.specs.Prelude.{◌≡◌, ◌<◌, ◌^◌, ◌↔◌, IsTr
 ghost use Rattle.graph_ops.specs.Graphs.{plain_of};
 ghost use Rattle.graph_ops.specs.PlainGraph.{transaction};
 ghost use Rattle.report_rules.specs.Replay.{graph_if_passed};
-ghost use Rattle.order_witness.specs.Refusals.{IsThere, Marks};
+ghost use Rattle.order_witness.specs.Refusals.{IsExpectedGraph, Marks};
 
 use graph_ops::{Graph, Op, Reason, TxFault};
 use std::alloc::{AllocError, Global};
@@ -11,7 +11,8 @@ use std::alloc::{AllocError, Global};
 /// Runs a transaction; whether it passes.
 pub fn passes(alloc: Global, graph: &mut Graph, ops: &[Op]) -> Result<bool, AllocError>
     requires { length ops.now < 2 ^ 32 }
-    ensures { IfOk result (IsThere (graph_if_passed (transaction ops.now (plain_of graph.old))) (plain_of graph.new)) }
+    ensures { IfOk result
+        (IsExpectedGraph (graph_if_passed (transaction ops.now (plain_of graph.old))) (plain_of graph.new)) }
 {
     match graph.run_tx(alloc, ops) {
         Ok(_) => Ok(true),

@@ -16,7 +16,8 @@ use Rattle.weave_report.specs.declared.fault.ReportCause.TheVariants as cause
 use Rattle.weave_report.specs.ReadingFields.{Read, name_in, names_from, number_in, small_number_in, is_the_number, this_number_in, reason_in}
 use Rattle.weave_report.specs.ReportText.{reason_text}
 use Rattle.weave_report.specs.TextOf.{IsName}
-use Rattle.weave_report.proofs.ReadSteps.{ok_is, err_is_not, passed, chosen, bind_ok, then_ok, is_word, or_cause_read, or_cause_again}
+use Rattle.proof_base.proofs.Steps.{bind_ok, ok_is}
+use Rattle.weave_report.proofs.ReadSteps.{err_is_not, passed, chosen, then_ok, is_word, or_cause_read, or_cause_again}
 use Rattle.weave_report.specs.TextLaws.{TextLaws}
 
 module _ (laws : TextLaws) where

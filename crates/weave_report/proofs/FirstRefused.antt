@@ -11,10 +11,11 @@ use Rattle.weave_report.specs.declared.read.parts.Place.{Place}
 use Rattle.weave_report.specs.declared.read.parts.Place.TheVariants.{Start, Replies, Gots, Pairs, Answers, Ended}
 use Rattle.weave_report.specs.declared.read.parts.Reading.{Reading}
 use Rattle.report_rules.specs.declared.report.Report.{Report}
-use Rattle.weave_report.specs.ReadingFields.{Read, ◌>>=◌}
+use Rattle.proof_base.specs.Steps.{◌>>=◌}
+use Rattle.weave_report.specs.ReadingFields.{Read}
 use Rattle.weave_report.specs.Reading.{Refusal, after_any_line, after_line, after_lines, behind_line, report_in, start, whole_report}
 use Rattle.weave_report.specs.FirstRefusal.{IsFirstRefusal, IsRefusedAt, is_ended, read_over}
-use Rattle.weave_report.proofs.ReadSteps.{ok_is, bind_ok}
+use Rattle.proof_base.proofs.Steps.{bind_ok, ok_is}
 
 abbrev refused : Refusal → Result Report Refusal
 refused refusal = Err refusal
@@ -67,6 +68,7 @@ line_refused : (script : Script) (from : Reading) (line : Bytes) (why : ReportCa
 line_refused script from line why true skipped e = absurd cc
 line_refused script from line why false kept e = (kept, e)
 
+-- a refusal that is reported is the first one
 pub first_refused : (script : Script) (n : ℕ) (from : Reading) (lines : List Bytes) (refusal : Refusal) → after_lines script n from lines ≡ Err refusal → IsFirstRefusal script n from lines refusal
 first_refused script n from [] refusal e = let told = not_whole n from.place from.report refusal e in at_once script n from [] refusal told.0 (told.1, told.2)
 first_refused script n from (line ∷ lines) refusal e = go (λ next e. first_refused script (n + 1) next lines refusal e) (after_any_line script from line) refl e
@@ -111,6 +113,7 @@ told_behind script n from (line ∷ before) rest reading refusal number accepted
     ap (λ one. behind_line n one (λ next. after_lines script (n + 1) next (before ++ rest))) one.1
     ∙ told_behind script (n + 1) one.0 before rest reading refusal (omega (arith, number)) one.2 h
 
+-- the first refusal is reported
 pub first_is_told : (script : Script) (n : ℕ) (from : Reading) (lines : List Bytes) (refusal : Refusal) → IsFirstRefusal script n from lines refusal → after_lines script n from lines ≡ Err refusal
 first_is_told script n from lines refusal first =
     ap (after_lines script n from) first.parts ∙ told_behind script n from first.before first.rest first.reading refusal first.number first.accepted first.refused

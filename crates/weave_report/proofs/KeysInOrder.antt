@@ -1,5 +1,5 @@
 -- Keys that are put behind others in a rising order.
-use Rattle.std.proofs.Common.{◌≡◌, ℕ, zero, suc, Bool, true, false, ◌&&◌, List, [], ◌∷◌, ◌++◌, length, refl, ap, ◌∙◌, subst, arith}
+use Rattle.std.proofs.Common.{◌≡◌, ℕ, zero, suc, Bool, true, ◌&&◌, List, [], ◌∷◌, ◌++◌, length, refl, ap, ◌∙◌, subst, arith}
 use Rattle.std.specs.Prelude.{slice_get, Some}
 use Rattle.std.specs.declared.cmp.Ordering.{Ordering}
 use Rattle.std.specs.declared.cmp.Ordering.TheVariants.{Less, Equal, Greater}
@@ -8,6 +8,7 @@ use Rattle.std.specs.List.{AllByRecursion}
 use Rattle.std.specs.List.Sorted.{IsStrictlySortedBy}
 use Rattle.std.specs.Map.{keys_of}
 use Rattle.std.specs.Ordering.{is_lt, match_ordering, ordering_reverse}
+use Rattle.std.proofs.Math.Bool.{and-false, and-true}
 use Rattle.std.proofs.lemmas.Bool.{and_parts}
 use Rattle.std.proofs.lemmas.Map.Keys.{sorted_head, sorted_tail}
 use Rattle.weave_data.specs.Names.{name_cmp}
@@ -19,18 +20,10 @@ less_of Less e = refl
 less_of Equal e = absurd cc
 less_of Greater e = absurd cc
 
-and_true : (b : Bool) → (b && true) ≡ b
-and_true true = refl
-and_true false = refl
-
-and_false : (b : Bool) → (b && false) ≡ false
-and_false true = refl
-and_false false = refl
-
 both_less : (o last : Ordering) (rest : Bool) → rest ≡ is_lt last → (last ≡ Less → o ≡ Less) → (is_lt o && rest) ≡ is_lt last
 both_less o Less rest e h = ap (λ o. is_lt o && rest) (h refl) ∙ e
-both_less o Equal rest e h = ap (λ r. is_lt o && r) e ∙ and_false (is_lt o)
-both_less o Greater rest e h = ap (λ r. is_lt o && r) e ∙ and_false (is_lt o)
+both_less o Equal rest e h = ap (λ r. is_lt o && r) e ∙ and-false (is_lt o)
+both_less o Greater rest e h = ap (λ r. is_lt o && r) e ∙ and-false (is_lt o)
 
 module _ {X : Type 0} where
   at_place : (P : List ℕ → Type 0) (pairs : List (List ℕ × X)) (k : ℕ) (pair : List ℕ × X) → AllByRecursion P (keys_of pairs) → slice_get pairs k ≡ Some pair → P pair.0
@@ -42,7 +35,7 @@ module _ {X : Type 0} where
   pub last_decides : (pairs : List (List ℕ × X)) (k : ℕ) (pair : List ℕ × X) (key : List ℕ) → IsRising pairs → length pairs ≡ suc k → slice_get pairs k ≡ Some pair
       → goes_last key pairs ≡ is_lt (name_cmp pair.0 key)
   last_decides [] k pair key h n e = absurd cc
-  last_decides (p ∷ []) zero pair key h n e = let same : p ≡ pair = cc in and_true (is_lt (name_cmp p.0 key)) ∙ ap (λ (p : List ℕ × X). is_lt (name_cmp p.0 key)) same
+  last_decides (p ∷ []) zero pair key h n e = let same : p ≡ pair = cc in and-true (is_lt (name_cmp p.0 key)) ∙ ap (λ (p : List ℕ × X). is_lt (name_cmp p.0 key)) same
   last_decides (p ∷ []) (suc k) pair key h n e = absurd cc
   last_decides (p ∷ q ∷ pairs) zero pair key h n e = absurd (omega (arith, n))
   last_decides (p ∷ q ∷ pairs) (suc k) pair key h n e =

@@ -10,7 +10,8 @@ use Rattle.weave_text.specs.Numbers.{number_of}
 use Rattle.program_defs.specs.declared.script.Script.{Script}
 use Rattle.weave_report.specs.declared.fault.ReportCause.TheVariants as cause
 use Rattle.weave_report.specs.Reading.{order_in}
-use Rattle.weave_report.specs.ReadingFields.{Read, ◌>>=◌, counts_from, names_from, or_cause, stamp_of}
+use Rattle.proof_base.specs.Steps.{◌>>=◌}
+use Rattle.weave_report.specs.ReadingFields.{Read, counts_from, names_from, or_cause, stamp_of}
 use Rattle.weave_report.specs.ReadingLists.{few_counts, order_from, with_named}
 use Rattle.weave_report.specs.ReadingReplies.{named_from, request_named}
 

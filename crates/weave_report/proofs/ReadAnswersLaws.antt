@@ -7,7 +7,7 @@ use Rattle.weave_report.specs.declared.fault.ReportCause.{ReportCause}
 use Rattle.weave_report.specs.declared.fault.ReportFault.{ReportFault}
 use Rattle.weave_report.specs.declared.fault.ReportFault.TheVariants.{Refused, Memory}
 use Rattle.report_rules.specs.declared.report.Report.{Report}
-use Rattle.weave_report.specs.ReadAnswers.{Answers, IfRefused, IfRefusedAs, IsReadAs}
+use Rattle.weave_report.specs.ReadAnswers.{Answers, IfLineRefused, IfRefusedAs, IsReadAs}
 use Rattle.weave_report.specs.TextOf.{IsReportTextOf}
 
 -- what reading a text gives
@@ -32,7 +32,7 @@ module _ (script : Script) (bytes : Bytes) (given : Given) where
   read_of_text (Err Memory) law h report text = tt
 
   pub no_text_of_refused : (result : Result Report ReportFault) → ((report : Report) → IsReportTextOf script bytes report → given ≡ Ok report) → Answers result given
-      → IfRefused result ((report : Report) → ¬ IsReportTextOf script bytes report)
+      → IfLineRefused result ((report : Report) → ¬ IsReportTextOf script bytes report)
   no_text_of_refused (Ok other) law h = tt
   no_text_of_refused (Err (Refused line cause)) law h = λ report text. no_report (line, cause) report (sym h ∙ law report text)
   no_text_of_refused (Err Memory) law h = tt

@@ -3,15 +3,14 @@ use Rattle.std.proofs.Common.{◌≡◌, Bool, true, false, cond, ◌⊎◌, inl
 use Rattle.std.specs.Prelude.{Option, Some, None, Ok, Err}
 use Rattle.std.specs.Str.{bytes_eq}
 use Rattle.std.proofs.lemmas.Slice.Eq.{bytes_eq-Decides}
+use Rattle.proof_base.proofs.Steps.{ok_is}
 use Rattle.weave_text.specs.Lines.{Word}
 use Rattle.weave_report.specs.declared.fault.ReportCause.{ReportCause}
-use Rattle.weave_report.specs.ReadingFields.{Read, ◌>>=◌, or_cause}
+use Rattle.proof_base.specs.Steps.{◌>>=◌}
+use Rattle.weave_report.specs.ReadingFields.{Read, or_cause}
 
 module _ {A : Type 0} where
-  -- the same value, read twice
-  pub ok_is : (x y : A) → ◌≡◌ {A = Read A} (Ok x) (Ok y) → x ≡ y
-  ok_is x y e = cc
-
+  -- what is refused is not read
   pub err_is_not : (why : ReportCause) (y : A) → ◌≡◌ {A = Read A} (Err why) (Ok y) → ⊥
   err_is_not why y e = cc
 
@@ -25,22 +24,20 @@ module _ {A : Type 0} where
   chosen true x y z e = inl (refl, e)
   chosen false x y z e = inr (refl, e)
 
+  -- a value that was read is there
   pub or_cause_read : (why : ReportCause) (o : Option A) (y : A) → or_cause why o ≡ Ok y → o ≡ Some y
   or_cause_read why None y e = absurd (err_is_not why y e)
   or_cause_read why (Some x) y e = ap (λ (x : A). Some x) (ok_is x y e)
 
+  -- a value that is there is read
   pub or_cause_again : (why : ReportCause) (o : Option A) (y : A) → o ≡ Some y → or_cause why o ≡ Ok y
   or_cause_again why o y e = ap (or_cause why) e
 
   module _ {B : Type 0} where
-    -- the step before one that gave something gave something
-    pub bind_ok : (one : Read A) (next : A → Read B) (y : B) → (one >>= next) ≡ Ok y → (x : A) × (one ≡ Ok x) × (next x ≡ Ok y)
-    bind_ok (Ok x) next y e = (x, refl, e)
-    bind_ok (Err why) next y e = absurd (cc)
-
     -- a step that gives something leaves the next
     pub then_ok : (one : Read A) (next : A → Read B) (x : A) (y : Read B) → one ≡ Ok x → next x ≡ y → (one >>= next) ≡ y
     then_ok one next x y e k = ap (λ one. one >>= next) e ∙ k
 
+-- the word is this text
 pub is_word : (word text : Word) → bytes_eq word text ≡ true → word ≡ text
 is_word word text e = (bytes_eq-Decides word text).0 e

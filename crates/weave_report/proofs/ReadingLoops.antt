@@ -6,7 +6,8 @@ use Rattle.std.proofs.lemmas.List.{drop-map}
 use Rattle.weave_report.specs.declared.fault.LineFault.{LineFault}
 use Rattle.weave_report.specs.declared.fault.LineFault.TheVariants.{Refused, Memory}
 use Rattle.weave_report.specs.ReadAnswers.{Gives, Changes}
-use Rattle.weave_report.specs.ReadingFields.{Read, ◌>>=◌}
+use Rattle.proof_base.specs.Steps.{◌>>=◌}
+use Rattle.weave_report.specs.ReadingFields.{Read}
 
 -- the words that are left begin with the one at this place
 pub word_at : (words : List (Bor (List ℕ))) (i : ℕ) (d : Bor (List ℕ)) → i < length words

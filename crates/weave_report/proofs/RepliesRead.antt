@@ -21,14 +21,16 @@ use Rattle.weave_report.specs.declared.read.parts.ReplyLine.TheVariants.{Whole, 
 use Rattle.report_rules.specs.declared.report.Reply.{Reply}
 use Rattle.report_rules.specs.declared.report.ReplyState.{ReplyState}
 use Rattle.report_rules.specs.declared.report.ReplyState.TheVariants as told
-use Rattle.weave_report.specs.ReadingFields.{◌>>=◌, name_in, number_in, small_number_in, this_number_in, reason_in, stamp_in}
+use Rattle.proof_base.specs.Steps.{◌>>=◌}
+use Rattle.weave_report.specs.ReadingFields.{name_in, number_in, small_number_in, this_number_in, reason_in, stamp_in}
 use Rattle.weave_report.specs.ReadingStates.{is_state_form, state_in, is_answer_form, answer_in}
 use Rattle.weave_report.specs.ReadingReplies.{any_named, kind_named, program_named, gets_of, unbegun_in, begun_in, committed_in, conflict_in, refused_in, transaction_in, finished_by, finished_in, program_in, got_in}
 use Rattle.program_defs.specs.Works.{is_look}
 use Rattle.report_rules.specs.ReportOf.{MatchesWork, IsReplyOf, is_stamp_of}
 use Rattle.weave_report.specs.ReportText.{begun_text, got_line, got_lines, is_program, kind_text, name_at, reply_line, stamp_text, state_words}
 use Rattle.weave_report.specs.TextOf.{IsTypedGot, IsTypedReplyState}
-use Rattle.weave_report.proofs.ReadSteps.{ok_is, err_is_not, passed, chosen, bind_ok, then_ok, is_word}
+use Rattle.proof_base.proofs.Steps.{bind_ok, ok_is}
+use Rattle.weave_report.proofs.ReadSteps.{err_is_not, passed, chosen, then_ok, is_word}
 use Rattle.weave_report.proofs.FieldsRead.{name_read, number_read, small_number_read, this_number_read, this_number_again, reason_read}
 use Rattle.weave_report.proofs.StampsRead.{stamp_read}
 use Rattle.weave_report.proofs.StatesRead.{state_read, state_again, no_words}
@@ -59,10 +61,12 @@ module _ (laws : TextLaws) where
     pub number : commit.number < 2 ^ 64
     pub gets : commit.gets ≡ gets_of script commit.request
 
+  -- the words are the first line of this commit's reply
   pub record IsOpened (script : Script) (words : Line) (commit : Commit) : Type 0 where
     pub text : words ≡ commit_line script commit
     pub of : IsCommit script commit
 
+  -- the words are the line of what was read
   abbrev pub IsReplyLine : Script → Line → ReplyLine → Type 0
   IsReplyLine script words (Whole reply) = IsWhole script words reply
   IsReplyLine script words (Committed commit) = IsOpened script words commit
@@ -241,6 +245,7 @@ module _ (laws : TextLaws) where
 
   -- ---- what `get`s read
 
+  -- the words are the line of what this `get` read
   pub record IsGot (op : ℕ) (words : Line) (got : Got) : Type 0 where
     pub number : got.op ≡ op
     pub text : words ≡ got_line got

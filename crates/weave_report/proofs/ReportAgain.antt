@@ -29,13 +29,14 @@ use Rattle.report_rules.specs.declared.report.ReplyState.TheVariants as told
 use Rattle.report_rules.specs.declared.report.Report.{Report}
 use Rattle.report_rules.specs.declared.report.StepAnswer.{StepAnswer}
 use Rattle.program_defs.specs.Works.{is_look, ops_of}
-use Rattle.weave_report.specs.ReadingFields.{Read, ◌>>=◌, name_in, names_in, number_in, reason_in, small_number_in, stamp_in, this_number_in}
+use Rattle.proof_base.specs.Steps.{◌>>=◌}
+use Rattle.weave_report.specs.ReadingFields.{Read, name_in, names_in, number_in, reason_in, small_number_in, stamp_in, this_number_in}
 use Rattle.weave_report.specs.ReadingStates.{answer_in, is_answer_form, is_step_form, step_answer_in}
 use Rattle.weave_report.specs.ReadingReplies.{any_named, begun_in, committed_in, conflict_in, finished_by, finished_in, gets_of, kind_named, named_from, program_named, refused_in, unbegun_in}
 use Rattle.weave_report.specs.Reading.{reading, with_reply, behind_commit, behind_reply, commit_reply, pair_in, order_in, did_in, next_get, after_got, after_line, start}
 use Rattle.report_rules.specs.ReportOf.{MatchesWork, IsReplyOf, IsPairOf, IsReportOf, is_request_of, is_stamp_of, has_form_for, numbers_of_gets}
 use Rattle.weave_report.specs.ReportText.{answer_words, begun_text, did_line, got_line, is_program, kind_text, name_at, order_line, pair_line, reason_text, reply_lines, report_lines, stamp_text, step_answer_words}
-use Rattle.weave_report.specs.TextOf.{IsName, IsTypedGot, IsTypedReplyState, IsTypedReport, IsTypedScript, IsTypedStepAnswer, HasDistinctNames}
+use Rattle.weave_report.specs.TextOf.{IsName, IsTypedGot, IsTypedReplyState, IsTypedReport, IsTypedScript, IsTypedStepAnswer, HasDistinctNames, IsTypedAnswer}
 use Rattle.report_rules.specs.Lookups.{is_none_or, request_at}
 use Rattle.weave_report.proofs.ReadSteps.{then_ok}
 use Rattle.weave_report.proofs.FieldsRead.{name_again, names_again, number_again, small_number_again, this_number_again, reason_again}
@@ -96,7 +97,7 @@ module _ (laws : TextLaws) where
       (then_ok (kind_named false script (name_at script r)) (λ r. Ok (Whole (record { request = r; stamp = Some stamp; state = told.Refused op reason at }))) r _ (kind_again false script r h.tells within kind) refl)))))
 
   finished_again : (script : Script) (r : ℕ) (request : Request) (program : Program) (stamp : Stamp) (answer : Answer) → IsReadable script → request_at script r ≡ Some request → request.work ≡ Look program → IsTrue (is_stamp_of script stamp)
-      → has_form_for program answer ≡ true → IsTypedReplyState (told.Finished answer)
+      → has_form_for program answer ≡ true → IsTypedAnswer answer
       → finished_in script (name_at script r) (stamp_text script.gates stamp) (answer_words answer) ≡ Ok (Whole (record { request = r; stamp = Some stamp; state = told.Finished answer }))
   finished_again script r request program stamp answer h there work k form typed =
       let words = answer_words answer in
@@ -142,67 +143,68 @@ module _ (laws : TextLaws) where
       ∙ ap (λ answers. Ok (reading (with_reply report (commit_reply commit answers)) Replies)) (append_assoc before (got ∷ []) answers)
 
   -- a reply's line, and those of its `get`s
-  reply_cases : (script : Script) (report : Report) (r : ℕ) (stamp : Option Stamp) (state : ReplyState) (request : Request) (work : Work) → IsReadable script → request_at script r ≡ Some request → request.work ≡ work
-      → MatchesWork script work stamp state → IsTrue (is_none_or (is_stamp_of script) stamp) → IsTypedReplyState state
-      → (after_kept laws) script (reading report Replies) (reply_lines script (record { request = r; stamp = stamp; state = state })) ≡ Ok (reading (with_reply report (record { request = r; stamp = stamp; state = state })) Replies)
-  reply_cases script report r None told.Unbegun request (Change ops) h there work can of typed =
-      let within = within_place script.requests r request there in
-      let kind : is_program script r ≡ false = ap (λ (o : Option Request). option_map_or (λ (request : Request). is_look request.work) o false) there ∙ ap is_look work in
-      ap (λ program. (after_kept laws) script (reading report Replies) ((kind_text program ∷ name_at script r ∷ codes "unbegun" ∷ []) ∷ [])) kind
-      ∙ ap (λ one. one >>= (λ line. Ok (behind_reply report line)) >>= λ next. Ok next) (unbegun_again false script r h within kind)
-  reply_cases script report r None told.Unbegun request (Look program) h there work can of typed =
-      let within = within_place script.requests r request there in
-      let kind : is_program script r ≡ true = ap (λ (o : Option Request). option_map_or (λ (request : Request). is_look request.work) o false) there ∙ ap is_look work in
-      ap (λ program. (after_kept laws) script (reading report Replies) ((kind_text program ∷ name_at script r ∷ codes "unbegun" ∷ []) ∷ [])) kind
-      ∙ ap (λ one. one >>= (λ line. Ok (behind_reply report line)) >>= λ next. Ok next) (unbegun_again true script r h within kind)
-  reply_cases script report r (Some stamp) told.Begun request (Change ops) h there work can of typed =
-      let within = within_place script.requests r request there in
-      let kind : is_program script r ≡ false = ap (λ (o : Option Request). option_map_or (λ (request : Request). is_look request.work) o false) there ∙ ap is_look work in
-      ap (λ program. (after_kept laws) script (reading report Replies) ((kind_text program ∷ name_at script r ∷ stamp_text script.gates stamp ∷ begun_text program ∷ []) ∷ [])) kind
-      ∙ ap (λ one. one >>= (λ line. Ok (behind_reply report line)) >>= λ next. Ok next) (begun_again false script r stamp h within kind of)
-  reply_cases script report r (Some stamp) told.Begun request (Look program) h there work can of typed =
-      let within = within_place script.requests r request there in
-      let kind : is_program script r ≡ true = ap (λ (o : Option Request). option_map_or (λ (request : Request). is_look request.work) o false) there ∙ ap is_look work in
-      ap (λ program. (after_kept laws) script (reading report Replies) ((kind_text program ∷ name_at script r ∷ stamp_text script.gates stamp ∷ begun_text program ∷ []) ∷ [])) kind
-      ∙ ap (λ one. one >>= (λ line. Ok (behind_reply report line)) >>= λ next. Ok next) (begun_again true script r stamp h within kind of)
-  reply_cases script report r (Some stamp) (told.Committed number answers) request (Change ops) h there work can of typed =
-      let within = within_place script.requests r request there in
-      let kind : is_program script r ≡ false = ap (λ (o : Option Request). option_map_or (λ (request : Request). is_look request.work) o false) there ∙ ap is_look work in
-      let commit : Commit = record { request = r; stamp = stamp; number = number; gets = gets_of script r } in
-      let ops_are : gets_of script r ≡ numbers_of_gets 1 ops = ap (λ (o : Option Request). numbers_of_gets 1 (option_map_or (λ (request : Request). ops_of request.work) o [])) there ∙ ap (λ work. numbers_of_gets 1 (ops_of work)) work in
-      ap (λ program. (after_kept laws) script (reading report Replies) ((kind_text program ∷ name_at script r ∷ stamp_text script.gates stamp ∷ codes "committed" ∷ decimal number ∷ []) ∷ map got_line answers)) kind
-      ∙ ap (λ one. one >>= (λ line. Ok (behind_reply report line)) >>= λ next. (after_kept laws) script next (map got_line answers)) (committed_again script r stamp number h within kind of typed.0)
-      ∙ gots_again script report commit [] answers (ops_are ∙ sym can) typed.1
-  reply_cases script report r (Some stamp) (told.Conflict vertex newer) request (Change ops) h there work can of typed =
-      let within = within_place script.requests r request there in
-      let kind : is_program script r ≡ false = ap (λ (o : Option Request). option_map_or (λ (request : Request). is_look request.work) o false) there ∙ ap is_look work in
-      ap (λ program. (after_kept laws) script (reading report Replies) ((kind_text program ∷ name_at script r ∷ stamp_text script.gates stamp ∷ codes "conflict" ∷ vertex ∷ name_at script newer ∷ []) ∷ [])) kind
-      ∙ ap (λ one. one >>= (λ line. Ok (behind_reply report line)) >>= λ next. Ok next) (conflict_again script r stamp vertex newer h within kind of typed (request_within script newer can))
-  reply_cases script report r (Some stamp) (told.Refused op reason at) request (Change ops) h there work can of typed =
-      let within = within_place script.requests r request there in
-      let kind : is_program script r ≡ false = ap (λ (o : Option Request). option_map_or (λ (request : Request). is_look request.work) o false) there ∙ ap is_look work in
-      ap (λ program. (after_kept laws) script (reading report Replies) ((kind_text program ∷ name_at script r ∷ stamp_text script.gates stamp ∷ codes "refused" ∷ decimal op ∷ reason_text reason ∷ codes "at" ∷ decimal at ∷ []) ∷ [])) kind
-      ∙ ap (λ one. one >>= (λ line. Ok (behind_reply report line)) >>= λ next. Ok next) (refused_again script r stamp op reason at h within kind of typed.0 typed.1)
-  reply_cases script report r (Some stamp) (told.Finished answer) request (Look program) h there work can of typed =
-      let kind : is_program script r ≡ true = ap (λ (o : Option Request). option_map_or (λ (request : Request). is_look request.work) o false) there ∙ ap is_look work in
-      ap (λ program. (after_kept laws) script (reading report Replies) ((kind_text program ∷ name_at script r ∷ stamp_text script.gates stamp ∷ codes "done" ∷ answer_words answer) ∷ [])) kind
-      ∙ ap (λ one. one >>= (λ line. Ok (behind_reply report line)) >>= λ next. Ok next) (finished_again script r request program stamp answer h there work of can typed)
-  reply_cases script report r None told.Begun request work h there w can of typed = absurd can
-  reply_cases script report r None (told.Committed number answers) request work h there w can of typed = absurd can
-  reply_cases script report r None (told.Conflict vertex newer) request work h there w can of typed = absurd can
-  reply_cases script report r None (told.Refused op reason at) request work h there w can of typed = absurd can
-  reply_cases script report r None (told.Finished answer) request work h there w can of typed = absurd can
-  reply_cases script report r (Some stamp) told.Unbegun request work h there w can of typed = absurd can
-  reply_cases script report r (Some stamp) (told.Committed number answers) request (Look program) h there w can of typed = absurd can
-  reply_cases script report r (Some stamp) (told.Conflict vertex newer) request (Look program) h there w can of typed = absurd can
-  reply_cases script report r (Some stamp) (told.Refused op reason at) request (Look program) h there w can of typed = absurd can
-  reply_cases script report r (Some stamp) (told.Finished answer) request (Change ops) h there w can of typed = absurd can
+  module _ (script : Script) (report : Report) (r : ℕ) (h : IsReadable script) where
+    reply_cases : (stamp : Option Stamp) (state : ReplyState) (request : Request) (work : Work) → request_at script r ≡ Some request → request.work ≡ work
+        → MatchesWork script work stamp state → IsTrue (is_none_or (is_stamp_of script) stamp) → IsTypedReplyState state
+        → (after_kept laws) script (reading report Replies) (reply_lines script (record { request = r; stamp = stamp; state = state })) ≡ Ok (reading (with_reply report (record { request = r; stamp = stamp; state = state })) Replies)
+    reply_cases None told.Unbegun request (Change ops) there work can of typed =
+        let within = within_place script.requests r request there in
+        let kind : is_program script r ≡ false = ap (λ (o : Option Request). option_map_or (λ (request : Request). is_look request.work) o false) there ∙ ap is_look work in
+        ap (λ program. (after_kept laws) script (reading report Replies) ((kind_text program ∷ name_at script r ∷ codes "unbegun" ∷ []) ∷ [])) kind
+        ∙ ap (λ one. one >>= (λ line. Ok (behind_reply report line)) >>= λ next. Ok next) (unbegun_again false script r h within kind)
+    reply_cases None told.Unbegun request (Look program) there work can of typed =
+        let within = within_place script.requests r request there in
+        let kind : is_program script r ≡ true = ap (λ (o : Option Request). option_map_or (λ (request : Request). is_look request.work) o false) there ∙ ap is_look work in
+        ap (λ program. (after_kept laws) script (reading report Replies) ((kind_text program ∷ name_at script r ∷ codes "unbegun" ∷ []) ∷ [])) kind
+        ∙ ap (λ one. one >>= (λ line. Ok (behind_reply report line)) >>= λ next. Ok next) (unbegun_again true script r h within kind)
+    reply_cases (Some stamp) told.Begun request (Change ops) there work can of typed =
+        let within = within_place script.requests r request there in
+        let kind : is_program script r ≡ false = ap (λ (o : Option Request). option_map_or (λ (request : Request). is_look request.work) o false) there ∙ ap is_look work in
+        ap (λ program. (after_kept laws) script (reading report Replies) ((kind_text program ∷ name_at script r ∷ stamp_text script.gates stamp ∷ begun_text program ∷ []) ∷ [])) kind
+        ∙ ap (λ one. one >>= (λ line. Ok (behind_reply report line)) >>= λ next. Ok next) (begun_again false script r stamp h within kind of)
+    reply_cases (Some stamp) told.Begun request (Look program) there work can of typed =
+        let within = within_place script.requests r request there in
+        let kind : is_program script r ≡ true = ap (λ (o : Option Request). option_map_or (λ (request : Request). is_look request.work) o false) there ∙ ap is_look work in
+        ap (λ program. (after_kept laws) script (reading report Replies) ((kind_text program ∷ name_at script r ∷ stamp_text script.gates stamp ∷ begun_text program ∷ []) ∷ [])) kind
+        ∙ ap (λ one. one >>= (λ line. Ok (behind_reply report line)) >>= λ next. Ok next) (begun_again true script r stamp h within kind of)
+    reply_cases (Some stamp) (told.Committed number answers) request (Change ops) there work can of typed =
+        let within = within_place script.requests r request there in
+        let kind : is_program script r ≡ false = ap (λ (o : Option Request). option_map_or (λ (request : Request). is_look request.work) o false) there ∙ ap is_look work in
+        let commit : Commit = record { request = r; stamp = stamp; number = number; gets = gets_of script r } in
+        let ops_are : gets_of script r ≡ numbers_of_gets 1 ops = ap (λ (o : Option Request). numbers_of_gets 1 (option_map_or (λ (request : Request). ops_of request.work) o [])) there ∙ ap (λ work. numbers_of_gets 1 (ops_of work)) work in
+        ap (λ program. (after_kept laws) script (reading report Replies) ((kind_text program ∷ name_at script r ∷ stamp_text script.gates stamp ∷ codes "committed" ∷ decimal number ∷ []) ∷ map got_line answers)) kind
+        ∙ ap (λ one. one >>= (λ line. Ok (behind_reply report line)) >>= λ next. (after_kept laws) script next (map got_line answers)) (committed_again script r stamp number h within kind of typed.0)
+        ∙ gots_again script report commit [] answers (ops_are ∙ sym can) typed.1
+    reply_cases (Some stamp) (told.Conflict vertex newer) request (Change ops) there work can of typed =
+        let within = within_place script.requests r request there in
+        let kind : is_program script r ≡ false = ap (λ (o : Option Request). option_map_or (λ (request : Request). is_look request.work) o false) there ∙ ap is_look work in
+        ap (λ program. (after_kept laws) script (reading report Replies) ((kind_text program ∷ name_at script r ∷ stamp_text script.gates stamp ∷ codes "conflict" ∷ vertex ∷ name_at script newer ∷ []) ∷ [])) kind
+        ∙ ap (λ one. one >>= (λ line. Ok (behind_reply report line)) >>= λ next. Ok next) (conflict_again script r stamp vertex newer h within kind of typed (request_within script newer can))
+    reply_cases (Some stamp) (told.Refused op reason at) request (Change ops) there work can of typed =
+        let within = within_place script.requests r request there in
+        let kind : is_program script r ≡ false = ap (λ (o : Option Request). option_map_or (λ (request : Request). is_look request.work) o false) there ∙ ap is_look work in
+        ap (λ program. (after_kept laws) script (reading report Replies) ((kind_text program ∷ name_at script r ∷ stamp_text script.gates stamp ∷ codes "refused" ∷ decimal op ∷ reason_text reason ∷ codes "at" ∷ decimal at ∷ []) ∷ [])) kind
+        ∙ ap (λ one. one >>= (λ line. Ok (behind_reply report line)) >>= λ next. Ok next) (refused_again script r stamp op reason at h within kind of typed.0 typed.1)
+    reply_cases (Some stamp) (told.Finished answer) request (Look program) there work can of typed =
+        let kind : is_program script r ≡ true = ap (λ (o : Option Request). option_map_or (λ (request : Request). is_look request.work) o false) there ∙ ap is_look work in
+        ap (λ program. (after_kept laws) script (reading report Replies) ((kind_text program ∷ name_at script r ∷ stamp_text script.gates stamp ∷ codes "done" ∷ answer_words answer) ∷ [])) kind
+        ∙ ap (λ one. one >>= (λ line. Ok (behind_reply report line)) >>= λ next. Ok next) (finished_again script r request program stamp answer h there work of can typed)
+    reply_cases None told.Begun request work there w can of typed = absurd can
+    reply_cases None (told.Committed number answers) request work there w can of typed = absurd can
+    reply_cases None (told.Conflict vertex newer) request work there w can of typed = absurd can
+    reply_cases None (told.Refused op reason at) request work there w can of typed = absurd can
+    reply_cases None (told.Finished answer) request work there w can of typed = absurd can
+    reply_cases (Some stamp) told.Unbegun request work there w can of typed = absurd can
+    reply_cases (Some stamp) (told.Committed number answers) request (Look program) there w can of typed = absurd can
+    reply_cases (Some stamp) (told.Conflict vertex newer) request (Look program) there w can of typed = absurd can
+    reply_cases (Some stamp) (told.Refused op reason at) request (Look program) there w can of typed = absurd can
+    reply_cases (Some stamp) (told.Finished answer) request (Change ops) there w can of typed = absurd can
 
   reply_again : (script : Script) (report : Report) (reply : Reply) → IsReadable script → IsReplyOf script reply → IsTypedReplyState reply.state
       → (after_kept laws) script (reading report Replies) (reply_lines script reply) ≡ Ok (reading (with_reply report reply) Replies)
   reply_again script report reply h of typed =
       let at = work_is script reply.request reply.stamp reply.state of.1 in
-      reply_cases script report reply.request reply.stamp reply.state at.0 at.0.work h at.1 refl at.2 of.0 typed
+      reply_cases script report reply.request h reply.stamp reply.state at.0 at.0.work at.1 refl at.2 of.0 typed
 
   -- ---- a report, piece by piece
 

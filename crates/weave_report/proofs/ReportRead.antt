@@ -26,14 +26,16 @@ use Rattle.report_rules.specs.declared.report.Reply.{Reply}
 use Rattle.report_rules.specs.declared.report.ReplyState.TheVariants as told
 use Rattle.report_rules.specs.declared.report.Report.{Report}
 use Rattle.report_rules.specs.declared.report.StepAnswer.{StepAnswer}
-use Rattle.weave_report.specs.ReadingFields.{Read, ◌>>=◌, name_in, names_in, this_number_in}
+use Rattle.proof_base.specs.Steps.{◌>>=◌}
+use Rattle.weave_report.specs.ReadingFields.{Read, name_in, names_in, this_number_in}
 use Rattle.weave_report.specs.ReadingStates.{is_step_form, step_answer_in}
 use Rattle.weave_report.specs.ReadingReplies.{any_named, named_from, got_in, ops_at, program_in, transaction_in}
 use Rattle.weave_report.specs.Reading.{reading, with_reply, with_pair, with_order, with_answer, commit_reply, behind_commit, after_first, behind_reply, pair_in, order_in, after_pairs, after_replies, next_get, after_got, did_in, after_answers, after_line_at, after_line, after_any_line, behind_line, after_lines, whole_report, Refusal, start}
 use Rattle.report_rules.specs.ReportOf.{IsReportOf, IsReplyOf, IsPairOf, is_request_of, numbers_of_gets}
 use Rattle.weave_report.specs.ReportText.{did_line, got_line, kind_text, name_at, order_line, pair_line, reply_lines, report_lines, stamp_text}
 use Rattle.weave_report.specs.TextOf.{IsName, IsTypedGot, IsTypedReplyState, IsTypedReport, IsTypedStepAnswer, HasDistinctNames}
-use Rattle.weave_report.proofs.ReadSteps.{ok_is, err_is_not, passed, chosen, bind_ok, is_word}
+use Rattle.proof_base.proofs.Steps.{bind_ok, ok_is}
+use Rattle.weave_report.proofs.ReadSteps.{err_is_not, passed, chosen, is_word}
 use Rattle.weave_report.proofs.FieldsRead.{name_read, names_read, this_number_read}
 use Rattle.weave_report.proofs.StatesRead.{no_words}
 use Rattle.weave_report.proofs.AnswersRead.{step_answer_read}
@@ -45,6 +47,7 @@ use Rattle.weave_report.specs.TextLaws.{TextLaws}
 module _ (laws : TextLaws) where
   -- ---- lines that were read so far
 
+  -- the first line of each report
   abbrev pub first_line : Line
   first_line = codes "report" ∷ codes "1" ∷ []
 
@@ -60,6 +63,7 @@ module _ (laws : TextLaws) where
   abbrev pub answer_part : Script → Report → List Line
   answer_part script report = pair_part script report ++ order_line script report.order ∷ [] ++ map did_line (enumerate_from 1 report.answers)
 
+  -- the lines of a report up to a place
   abbrev pub lines_so_far : Script → Place → Report → List Line
   lines_so_far script Start report = []
   lines_so_far script Replies report = reply_part script report
@@ -96,6 +100,7 @@ module _ (laws : TextLaws) where
     pub fewer : length answers < length commit.gets
     pub typed : AllByRecursion IsTypedGot answers
 
+  -- the report so far is one that is read up to this place
   abbrev pub IsAtPlace : Script → Place → Report → Type 0
   IsAtPlace script Start report = (report.replies ≡ []) × HasReplies report
   IsAtPlace script Replies report = HasReplies report

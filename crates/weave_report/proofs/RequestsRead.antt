@@ -25,7 +25,8 @@ use Rattle.report_rules.specs.ReportOf.{MatchesWork, is_request_of}
 use Rattle.weave_report.specs.ReportText.{is_program, name_at}
 use Rattle.weave_report.specs.TextOf.{IsName, IsTypedScript, HasDistinctNames, names_of}
 use Rattle.report_rules.specs.Lookups.{request_at}
-use Rattle.weave_report.proofs.ReadSteps.{ok_is, bind_ok, then_ok, or_cause_read, or_cause_again}
+use Rattle.proof_base.proofs.Steps.{bind_ok, ok_is}
+use Rattle.weave_report.proofs.ReadSteps.{then_ok, or_cause_read, or_cause_again}
 
 -- the name of the request of this number
 abbrev name_in_place : List Request → ℕ → Name
@@ -54,6 +55,7 @@ pub record IsNamed (script : Script) (name : Name) (r : ℕ) : Type 0 where
   pub within : r < length script.requests
   pub named : name ≡ name_at script r
 
+-- the number that a name gives is that of a request with this name
 pub named_read : (script : Script) (name : Name) (r : ℕ) → request_named script name ≡ Some r → IsNamed script name r
 named_read script name r e =
     let found = found_read 0 name script.requests r e in
@@ -75,6 +77,7 @@ found_again n (request ∷ requests) (suc i) h k =
     cond-false (same_name request.name (name_in_place requests i)) _ _ (differs_at request.name requests i (IsDistinct-head same_name request.name (names_of requests) h) (omega arith))
     ∙ found_again (n + 1) requests i (IsDistinct-tail same_name request.name (names_of requests) h) (omega arith) ∙ ap (λ (n : ℕ). Some n) e
 
+-- a request is found by its name
 pub named_again : (script : Script) (r : ℕ) → HasDistinctNames script → r < length script.requests → request_named script (name_at script r) ≡ Some r
 named_again script r h k = let e : 0 + r ≡ r = omega arith in found_again 0 script.requests r h.distinct k ∙ ap (λ (n : ℕ). Some n) e
 
@@ -83,20 +86,25 @@ named_in_place [] i h k = absurd (omega arith)
 named_in_place (request ∷ requests) zero h k = h.0
 named_in_place (request ∷ requests) (suc i) h k = named_in_place requests i h.1 (omega arith)
 
+-- a request's name is a name
 pub name_is_name : (script : Script) (r : ℕ) → IsTypedScript script → r < length script.requests → IsName (name_at script r)
 name_is_name script r h k = named_in_place script.requests r h.names k
 
+-- a number below the number of requests is one of a request
 pub is_request : (script : Script) (r : ℕ) → r < length script.requests → IsTrue (is_request_of script r)
 is_request script r h = lt-ltb r (length script.requests) h
 
+-- the number of a request is below the number of requests
 pub request_within : (script : Script) (r : ℕ) → IsTrue (is_request_of script r) → r < length script.requests
 request_within script r h = ltb-true r (length script.requests) h
 
 -- ---- any request
 
+-- the number that was read for a name is that of a request with this name
 pub any_read : (script : Script) (name : Name) (r : ℕ) → any_named script name ≡ Ok r → IsNamed script name r
 any_read script name r e = named_read script name r (or_cause_read cause.Request (request_named script name) r e)
 
+-- a request's name is read as its number
 pub any_again : (script : Script) (r : ℕ) → HasDistinctNames script → r < length script.requests → any_named script (name_at script r) ≡ Ok r
 any_again script r h k = or_cause_again cause.Request (request_named script (name_at script r)) r (named_again script r h k)
 
@@ -107,6 +115,7 @@ pub record AreNamed (script : Script) (before : List ℕ) (names : List Name) (o
   pub named : names ≡ map (name_at script) own
   pub each : AllByRecursion (λ r. IsTrue (is_request_of script r)) own
 
+-- the numbers that were read for names are those of requests with these names
 pub all_read : (script : Script) (before : List ℕ) (names : List Name) (order : List ℕ) → named_from script before names ≡ Ok order → AreNamed script before names order
 all_read script before [] order e = record { own = []; behind = sym (ok_is before order e) ∙ sym (append-nil before); named = refl; each = tt }
 all_read script before (name ∷ names) order e =
@@ -120,12 +129,14 @@ all_read script before (name ∷ names) order e =
       each = (is_request script one.0 read.within, rest.each);
     }
 
+-- requests' names are read as their numbers
 pub all_again : (script : Script) (before order : List ℕ) → HasDistinctNames script → AllByRecursion (λ r. IsTrue (is_request_of script r)) order → named_from script before (map (name_at script) order) ≡ Ok (before ++ order)
 all_again script before [] h k = ap (λ (order : List ℕ). Ok order) (sym (append-nil before))
 all_again script before (r ∷ order) h k =
     then_ok (any_named script (name_at script r)) (λ r. named_from script (before ++ r ∷ []) (map (name_at script) order)) r _ (any_again script r h (request_within script r k.0))
     (all_again script (before ++ r ∷ []) order h k.1 ∙ ap (λ (order : List ℕ). Ok order) (append_assoc before (r ∷ []) order))
 
+-- requests' names are names
 pub names_told : (script : Script) (order : List ℕ) → IsTypedScript script → AllByRecursion (λ r. IsTrue (is_request_of script r)) order → AllByRecursion IsName (map (name_at script) order)
 names_told script [] h k = tt
 names_told script (r ∷ order) h k = (name_is_name script r h (request_within script r k.0), names_told script order h k.1)
@@ -149,6 +160,7 @@ pub record IsOfKind (program : Bool) (script : Script) (name : Name) (r : ℕ) :
   pub within : r < length script.requests
   pub named : name ≡ name_at script r
 
+-- the number that was read for a name of this kind is that of such a request
 pub kind_read : (program : Bool) (script : Script) (name : Name) (r : ℕ) → kind_named program script name ≡ Ok r → IsOfKind program script name r
 kind_read program script name r e =
     let read = kept_kind program script (request_named script name) r (or_cause_read cause.Request (option_and_then (of_kind program script) (request_named script name)) r e) in
@@ -159,6 +171,7 @@ of_kind-is : (program : Bool) (script : Script) (r : ℕ) → is_program script 
 of_kind-is true script r h = cond-true (is_program script r) _ _ h
 of_kind-is false script r h = cond-false (is_program script r) _ _ h
 
+-- a request's name is read as its number, if it is of the kind
 pub kind_again : (program : Bool) (script : Script) (r : ℕ) → HasDistinctNames script → r < length script.requests → is_program script r ≡ program → kind_named program script (name_at script r) ≡ Ok r
 kind_again program script r h k kind =
     or_cause_again cause.Request (option_and_then (of_kind program script) (request_named script (name_at script r))) r
@@ -166,6 +179,7 @@ kind_again program script r h k kind =
 
 -- ---- what can be told of a request
 
+-- a place below the length has an element
 pub in_place : {X : Type 0} (xs : List X) (i : ℕ) → i < length xs → (x : X) × (slice_get xs i ≡ Some x)
 in_place [] i h = absurd (omega arith)
 in_place (x ∷ xs) zero h = (x, refl)
@@ -183,6 +197,7 @@ look_told script (Look program) stamp state h told = told program refl
 abbrev pub MatchesWorkAt : Script → ℕ → Option Stamp → ReplyState → Type 0
 MatchesWorkAt script r stamp state = IsSomeAnd (request_at script r) (λ (request : Request). MatchesWork script request.work stamp state)
 
+-- a state that fits a transaction's operations fits the request
 pub transaction_told : (script : Script) (r : ℕ) (stamp : Option Stamp) (state : ReplyState) → r < length script.requests → is_program script r ≡ false
     → ((ops : List Op) → ops_at script r ≡ ops → MatchesWork script (Change ops) stamp state) → MatchesWorkAt script r stamp state
 transaction_told script r stamp state h kind told =
@@ -200,6 +215,7 @@ work_is script r stamp state h = given (request_at script r) refl h
     given None e k = absurd k
     given (Some request) e k = (request, e, k)
 
+-- a place with an element is below the length
 pub within_place : {X : Type 0} (xs : List X) (i : ℕ) (x : X) → slice_get xs i ≡ Some x → i < length xs
 within_place [] i x e = absurd cc
 within_place (y ∷ xs) zero x e = omega arith
@@ -251,9 +267,11 @@ program_from : (script : Script) (name : Name) (o : Option ℕ) (r : ℕ) (progr
 program_from script name None r program e k = absurd cc
 program_from script name (Some q) r program e k = at_request script name q (request_at script q) r program e refl k
 
+-- the program that a name gives is that of a request with this name
 pub program_read : (script : Script) (name : Name) (r : ℕ) (program : Program) → program_named script name ≡ Some (r, program) → IsProgramAt script name r program
 program_read script name r program e = program_from script name (request_named script name) r program refl e
 
+-- a program is found by its name
 pub program_again : (script : Script) (r : ℕ) (request : Request) (program : Program) → HasDistinctNames script → request_at script r ≡ Some request → request.work ≡ Look program → program_named script (name_at script r) ≡ Some (r, program)
 program_again script r request program h e w =
     ap (option_and_then (program_at script)) (named_again script r h (within_place script.requests r request e))

@@ -10,10 +10,12 @@ use Rattle.weave_text.specs.Numbers.{number_of}
 use Rattle.vector_stamp.specs.declared.clock.Stamp.{Stamp}
 use Rattle.program_defs.specs.declared.script.Script.{Script}
 use Rattle.weave_report.specs.declared.fault.ReportCause.TheVariants as cause
-use Rattle.weave_report.specs.ReadingFields.{◌>>=◌, count_in, counts_from, eight_counts, stamp_of, stamp_parts, stamp_in}
+use Rattle.proof_base.specs.Steps.{◌>>=◌}
+use Rattle.weave_report.specs.ReadingFields.{count_in, counts_from, eight_counts, stamp_of, stamp_parts, stamp_in}
 use Rattle.report_rules.specs.ReportOf.{has_64_bits, is_stamp_of}
 use Rattle.weave_report.specs.ReportText.{stamp_text}
-use Rattle.weave_report.proofs.ReadSteps.{ok_is, err_is_not, passed, bind_ok, then_ok, or_cause_read, or_cause_again}
+use Rattle.proof_base.proofs.Steps.{bind_ok, ok_is}
+use Rattle.weave_report.proofs.ReadSteps.{err_is_not, passed, then_ok, or_cause_read, or_cause_again}
 use Rattle.weave_report.specs.TextLaws.{TextLaws}
 
 module _ (laws : TextLaws) where

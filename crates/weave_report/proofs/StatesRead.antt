@@ -15,11 +15,13 @@ use Rattle.graph_ops.specs.declared.record.Record.{Record}
 use Rattle.weave_report.specs.declared.fault.ReportCause.TheVariants as cause
 use Rattle.weave_report.specs.declared.read.parts.Item.{Item}
 use Rattle.weave_report.specs.declared.read.parts.Item.TheVariants.{Property, Link}
-use Rattle.weave_report.specs.ReadingFields.{◌>>=◌, name_in}
+use Rattle.proof_base.specs.Steps.{◌>>=◌}
+use Rattle.weave_report.specs.ReadingFields.{name_in}
 use Rattle.weave_report.specs.ReadingStates.{Cut, cut_behind, cut_first, is_equals, is_item_mark, pair_in, goes_last, with_last, tag_of, tag_in, tags_in, edge_of, item_of, item_in, with_property, with_item, items_in, empty_record, is_state_form, state_in}
 use Rattle.weave_report.specs.ReportText.{property_text, edge_text, content_words, state_words}
 use Rattle.weave_report.specs.TextOf.{IsName, IsTypedMap, IsTypedEdge, IsTypedRecord, IsTypedState}
-use Rattle.weave_report.proofs.ReadSteps.{ok_is, err_is_not, passed, chosen, bind_ok, then_ok, is_word}
+use Rattle.proof_base.proofs.Steps.{bind_ok, ok_is}
+use Rattle.weave_report.proofs.ReadSteps.{err_is_not, passed, chosen, then_ok, is_word}
 use Rattle.weave_report.proofs.FieldsRead.{name_read, name_again}
 use Rattle.weave_report.proofs.KeysInOrder.{rising-push, rising-last}
 use Rattle.weave_report.specs.TextLaws.{TextLaws}

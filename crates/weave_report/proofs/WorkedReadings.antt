@@ -7,23 +7,15 @@ use Rattle.weave_text.specs.Numbers.{number_of}
 use Rattle.graph_ops.specs.declared.op.Op.TheVariants.{Create, Get}
 use Rattle.program_defs.specs.declared.program.Program.TheVariants.{Show, Reach, Around, Path}
 use Rattle.program_defs.specs.declared.program.Answer.TheVariants.{Found, Walk}
-use Rattle.program_defs.specs.declared.script.Request.{Request}
 use Rattle.program_defs.specs.declared.script.Script.{Script}
-use Rattle.program_defs.specs.declared.script.Work.{Work}
 use Rattle.program_defs.specs.declared.script.Work.TheVariants.{Change, Look}
 use Rattle.weave_report.specs.declared.fault.ReportCause.{ReportCause}
 use Rattle.weave_report.specs.declared.fault.ReportCause.TheVariants as cause
-use Rattle.report_rules.specs.declared.report.Reply.{Reply}
-use Rattle.report_rules.specs.declared.report.ReplyState.{ReplyState}
 use Rattle.report_rules.specs.declared.report.ReplyState.TheVariants.{Unbegun, Begun, Committed, Conflict, Finished}
 use Rattle.report_rules.specs.declared.report.StepAnswer.TheVariants as step
 use Rattle.weave_report.specs.Reading.{report_in}
-
-abbrev v : Bytes
-v = codes "v"
-
-abbrev request : Bytes → Work → Request
-request name work = record { name = name; session = 0; gate = 0; work = work }
+use Rattle.report_rules.proofs.Examples.{reply}
+use Rattle.weave_report.proofs.WorkedTexts.{request, v}
 
 -- two gatekeepers, a transaction with a `get`, one without, and a program of each form
 abbrev script : Script
@@ -43,9 +35,6 @@ script = record {
 
 abbrev stamp : ℕ → ℕ → ℕ → ℕ → Stamp
 stamp epoch home a b = record { home = home; clock = record { epoch = epoch; counts = a ∷ b ∷ 0 ∷ 0 ∷ 0 ∷ 0 ∷ 0 ∷ 0 ∷ [] } }
-
-abbrev reply : ℕ → Stamp → ReplyState → Reply
-reply r stamp state = record { request = r; stamp = Some stamp; state = state }
 
 all_forms : report_in script 1 (codes "#c\nreport 1\ntx t 0:0:1,0 committed 18446744073709551615\ngot 2 record color=red f1>bob,since=y2016\ntx u 7:1:0,1 conflict v t\nprog p unbegun\n\nprog q 0:1:0,2 running\nprog r 0:1:0,3 done found v w\nprog s 0:1:0,4 done none\nsettled v t q\norder t r\ndid 1 ok\ndid 2 again 0 1\nend\n#")
     ≡ Ok (record {
@@ -131,6 +120,7 @@ did_counts_up : report_in script 1 (codes "report 1\norder\ndid 2 ok\n") ≡ Err
 unfolding report_in number_of
 did_counts_up = refl
 
+-- a word that is no name is refused before a name of no request
 pub names_before_requests : report_in script 1 (codes "report 1\norder t9 T\n") ≡ Err (2, cause.Name)
 unfolding report_in number_of
 names_before_requests = refl

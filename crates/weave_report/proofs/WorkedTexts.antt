@@ -18,7 +18,8 @@ use Rattle.report_rules.specs.declared.report.StepAnswer.TheVariants as step
 use Rattle.weave_text.specs.Lines.{Bytes}
 use Rattle.weave_report.specs.ReportText.{report_text}
 
-abbrev request : Bytes → Work → Request
+-- a request of the session 0 at the gatekeeper 0
+abbrev pub request : Bytes → Work → Request
 request name work = record { name = name; session = 0; gate = 0; work = work }
 
 abbrev script : ℕ → List Request → Script
@@ -32,7 +33,8 @@ reply r home a b c state = record {
   state = state;
 }
 
-abbrev v : Bytes
+-- the vertex of most examples
+abbrev pub v : Bytes
 v = codes "v"
 
 -- nothing to tell

@@ -8,7 +8,8 @@ use Rattle.weave_report.specs.declared.fault.ReportCause.TheVariants as cause
 use Rattle.weave_report.specs.declared.read.parts.Place.{Place}
 use Rattle.weave_report.specs.declared.read.parts.Place.TheVariants.{Ended}
 use Rattle.weave_report.specs.declared.read.parts.Reading.{Reading}
-use Rattle.weave_report.specs.ReadingFields.{Read, ◌>>=◌}
+use Rattle.proof_base.specs.Steps.{◌>>=◌}
+use Rattle.weave_report.specs.ReadingFields.{Read}
 use Rattle.weave_report.specs.Reading.{Refusal, after_any_line, after_line}
 
 -- the reading behind these lines, one after another
@@ -24,10 +25,12 @@ is_ended _ = false
 -- behind this reading the first of the lines is refused for the cause; or there is none, and the report isn't whole
 abbrev pub IsRefusedAt : Script → Reading → List Bytes → ReportCause → Type 0
 IsRefusedAt script reading [] why = (is_ended reading.place ≡ false) × (why ≡ cause.End)
-IsRefusedAt script reading (line ∷ lines) why = (is_skipped line ≡ false) × (after_line script reading (words_of line) ≡ Err why)
+IsRefusedAt script reading (line ∷ lines) why =
+    (is_skipped line ≡ false) × (after_line script reading (words_of line) ≡ Err why)
 
 -- the refusal is the first one behind this reading, where the lines are numbered from n: those before it are accepted
-pub record IsFirstRefusal (script : Script) (n : ℕ) (from : Reading) (lines : List Bytes) (refusal : Refusal) : Type 0 where
+pub record IsFirstRefusal (script : Script) (n : ℕ) (from : Reading) (lines : List Bytes)
+    (refusal : Refusal) : Type 0 where
   pub before : List Bytes
   pub rest : List Bytes
   pub parts : lines ≡ before ++ rest

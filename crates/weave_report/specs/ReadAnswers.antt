@@ -38,9 +38,9 @@ IsReadAs report (Err (Refused line cause)) = ⊥
 IsReadAs report (Err Memory) = ⊤
 
 -- if a line was refused, this is true
-abbrev pub IfRefused : Result Report ReportFault → Type 0 → Type 0
-IfRefused (Err (Refused line cause)) P = P
-IfRefused _ P = ⊤
+abbrev pub IfLineRefused : Result Report ReportFault → Type 0 → Type 0
+IfLineRefused (Err (Refused line cause)) P = P
+IfLineRefused _ P = ⊤
 
 -- if a line was refused, this is true of its number with the cause
 abbrev pub IfRefusedAs : Result Report ReportFault → (ℕ × ReportCause → Type 0) → Type 0

@@ -18,7 +18,8 @@ use Rattle.report_rules.specs.declared.report.Reply.{Reply}
 use Rattle.report_rules.specs.declared.report.ReplyState.TheVariants as told
 use Rattle.report_rules.specs.declared.report.Report.{Report}
 use Rattle.report_rules.specs.declared.report.StepAnswer.{StepAnswer}
-use Rattle.weave_report.specs.ReadingFields.{Read, ◌>>=◌, name_in, names_in, this_number_in}
+use Rattle.proof_base.specs.Steps.{◌>>=◌}
+use Rattle.weave_report.specs.ReadingFields.{Read, name_in, names_in, this_number_in}
 use Rattle.weave_report.specs.ReadingStates.{is_step_form, step_answer_in}
 use Rattle.weave_report.specs.ReadingReplies.{any_named, named_from, got_in, program_in, transaction_in}
 
@@ -30,33 +31,36 @@ reading report place = record { report = report; place = place }
 
 -- a report with one more reply
 abbrev pub with_reply : Report → Reply → Report
-with_reply report reply = record { replies = report.replies ++ reply ∷ []; pairs = report.pairs; order = report.order; answers = report.answers }
+with_reply report reply = record report { replies = report.replies ++ reply ∷ [] }
 
 -- with one more pair
 abbrev pub with_pair : Report → Pair → Report
-with_pair report pair = record { replies = report.replies; pairs = report.pairs ++ pair ∷ []; order = report.order; answers = report.answers }
+with_pair report pair = record report { pairs = report.pairs ++ pair ∷ [] }
 
 -- with its order
 abbrev pub with_order : Report → List ℕ → Report
-with_order report order = record { replies = report.replies; pairs = report.pairs; order = order; answers = report.answers }
+with_order report order = record report { order = order }
 
 -- with one more answer of a step
 abbrev pub with_answer : Report → StepAnswer → Report
-with_answer report answer = record { replies = report.replies; pairs = report.pairs; order = report.order; answers = report.answers ++ answer ∷ [] }
+with_answer report answer = record report { answers = report.answers ++ answer ∷ [] }
 
 -- the reply of a commit whose `get`s read this
 abbrev pub commit_reply : Commit → List Got → Reply
-commit_reply commit answers = record { request = commit.request; stamp = Some commit.stamp; state = told.Committed commit.number answers }
+commit_reply commit answers =
+    record { request = commit.request; stamp = Some commit.stamp; state = told.Committed commit.number answers }
 
 -- behind a commit and so many answers: the next `get`'s is still to come, or it has them all
 abbrev pub behind_commit : Report → Commit → List Got → Reading
 behind_commit report commit answers =
-    if nat_lt (length answers) (length commit.gets) then reading report (Gots commit answers) else reading (with_reply report (commit_reply commit answers)) Replies
+    if nat_lt (length answers) (length commit.gets) then reading report (Gots commit answers)
+    else reading (with_reply report (commit_reply commit answers)) Replies
 
 -- the first line
 abbrev pub after_first : Report → Line → Read Reading
 after_first report (word ∷ version ∷ []) =
-    if bytes_eq word (codes "report") && bytes_eq version (codes "1") then Ok (reading report Replies) else Err cause.Line
+    if bytes_eq word (codes "report") && bytes_eq version (codes "1") then Ok (reading report Replies)
+    else Err cause.Line
 after_first report _ = Err cause.Line
 
 -- behind a reply's line
@@ -80,8 +84,10 @@ order_in script words = names_in words >>= λ names. named_from script [] names
 abbrev pub after_pairs : Script → Report → Line → Read Reading
 after_pairs script report [] = Err cause.Line
 after_pairs script report (word ∷ words) =
-    if bytes_eq word (codes "settled") then (pair_in script words >>= λ pair. Ok (reading (with_pair report pair) Pairs))
-    else (if bytes_eq word (codes "order") then (order_in script words >>= λ order. Ok (reading (with_order report order) Answers))
+    if bytes_eq word (codes "settled")
+    then (pair_in script words >>= λ pair. Ok (reading (with_pair report pair) Pairs))
+    else (if bytes_eq word (codes "order")
+    then (order_in script words >>= λ order. Ok (reading (with_order report order) Answers))
     else Err cause.Line)
 
 -- a line where replies stand, or what is behind them
@@ -99,18 +105,21 @@ next_get commit answers = slice_get commit.gets (length answers)
 -- a line where the answer of a `get` stands
 abbrev pub after_got : Option ℕ → Report → Commit → List Got → Line → Read Reading
 after_got None report commit answers line = Err cause.Line
-after_got (Some op) report commit answers line = got_in op line >>= λ got. Ok (behind_commit report commit (answers ++ got ∷ []))
+after_got (Some op) report commit answers line =
+    got_in op line >>= λ got. Ok (behind_commit report commit (answers ++ got ∷ []))
 
 -- a step's answer, by the words behind `did`, where the step has this number
 abbrev pub did_in : ℕ → List Word → Read StepAnswer
 did_in number [] = Err cause.Line
-did_in number (word ∷ answer) = if is_step_form answer then (this_number_in number word >>= λ number. step_answer_in answer) else Err cause.Line
+did_in number (word ∷ answer) =
+    if is_step_form answer then (this_number_in number word >>= λ number. step_answer_in answer) else Err cause.Line
 
 -- a line where answers of steps stand, or the end
 abbrev pub after_answers : Report → Line → Read Reading
 after_answers report [] = Err cause.Line
 after_answers report (word ∷ words) =
-    if bytes_eq word (codes "did") then (did_in (length report.answers + 1) words >>= λ answer. Ok (reading (with_answer report answer) Answers))
+    if bytes_eq word (codes "did")
+    then (did_in (length report.answers + 1) words >>= λ answer. Ok (reading (with_answer report answer) Answers))
     else (if bytes_eq word (codes "end") && is_empty words then Ok (reading report Ended) else Err cause.Line)
 
 -- a line at its place
@@ -149,7 +158,8 @@ behind_line number (Err why) rest = Err (number, why)
 -- the lines that are left, of which the first has this number
 abbrev pub after_lines : Script → ℕ → Reading → List Bytes → Result Report Refusal
 after_lines script number before [] = whole_report number before.place before.report
-after_lines script number before (line ∷ lines) = behind_line number (after_any_line script before line) (λ next. after_lines script (number + 1) next lines)
+after_lines script number before (line ∷ lines) =
+    behind_line number (after_any_line script before line) (λ next. after_lines script (number + 1) next lines)
 
 -- before the first line
 abbrev pub start : Reading

@@ -2,6 +2,7 @@
 use Rattle.std.specs.Prelude.{ℕ, Bool, ◌-◌, ◌^◌, ◌&&◌, ◌==◌, nat_eq, nat_lt, min, List, [], ◌∷◌, ◌++◌, length, replicate, Option, Some, None, Result, Ok, Err, codes, if◌then◌else◌}
 use Rattle.std.specs.Option.{option_eq}
 use Rattle.std.specs.Str.{bytes_eq}
+use Rattle.proof_base.specs.Steps.{◌>>=◌}
 use Rattle.vector_stamp.specs.declared.clock.Stamp.{Stamp}
 use Rattle.weave_data.specs.Names.{is_name}
 use Rattle.weave_data.specs.declared.name.Name.{Name}
@@ -16,12 +17,6 @@ use Rattle.weave_report.specs.declared.fault.ReportCause.TheVariants as cause
 -- what is read of a line or of a part of it, or why the line is refused
 abbrev pub Read : Type 0 → Type 0
 Read A = Result A ReportCause
-
--- the one step and then the other; the first cause stands
-infixl 10 ◌>>=◌
-abbrev pub ◌>>=◌ : {A B : Type 0} → Read A → (A → Read B) → Read B
-(Ok value) >>= next = next value
-(Err why) >>= next = Err why
 
 -- the value, or this cause where there is none
 abbrev pub or_cause : {A : Type 0} → ReportCause → Option A → Read A
@@ -81,16 +76,19 @@ counts_from before (word ∷ words) = count_in word >>= λ count. counts_from (b
 abbrev pub eight_counts : List ℕ → List ℕ
 eight_counts counts = counts ++ replicate (8 - length counts) 0
 
--- the stamp of these numbers: its home is below the number of gatekeepers, and it has one count for each of these, of which there are eight at most
+-- the stamp of these numbers: its home is below the number of gatekeepers, and it has one count for each of these, of
+-- which there are eight at most
 abbrev pub stamp_of : ℕ → ℕ → ℕ → List ℕ → Read Stamp
 stamp_of gates epoch home counts =
     if nat_lt home gates && (length counts == min gates 8)
-    then Ok (record { home = home; clock = record { epoch = epoch; counts = eight_counts counts } }) else Err cause.Stamp
+    then Ok (record { home = home; clock = record { epoch = epoch; counts = eight_counts counts } })
+    else Err cause.Stamp
 
 -- the stamp of the parts between colons: an epoch, a home, and counts with commas between
 abbrev pub stamp_parts : ℕ → List Word → Read Stamp
 stamp_parts gates (epoch ∷ home ∷ counts ∷ []) =
-    count_in epoch >>= λ epoch. count_in home >>= λ home. counts_from [] (pieces_of 44 counts) >>= λ counts. stamp_of gates epoch home counts
+    count_in epoch >>= λ epoch. count_in home >>= λ home. counts_from [] (pieces_of 44 counts) >>= λ counts.
+    stamp_of gates epoch home counts
 stamp_parts gates _ = Err cause.Stamp
 
 -- a stamp, where there are so many gatekeepers

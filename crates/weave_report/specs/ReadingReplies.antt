@@ -1,4 +1,6 @@
--- The lines of replies as they are read. The number of words and the fixed ones are judged first, then the fields from the left, and last whether the request is the script's and of the line's kind.
+-- The lines of replies as they are read. The number of words and the fixed ones are judged first, then the fields from
+-- the left, and last whether the request is the script's and of the line's kind. Of a finished program the name is judged
+-- before the form of its answer.
 use Rattle.std.specs.Prelude.{ℕ, Bool, true, false, ◌+◌, ◌&&◌, List, [], ◌∷◌, ◌++◌, Option, Some, None, Ok, Err, option_and_then, codes, if◌then◌else◌}
 use Rattle.std.specs.Option.{option_map_or}
 use Rattle.std.specs.Str.{bytes_eq}
@@ -18,7 +20,8 @@ use Rattle.weave_report.specs.declared.read.parts.ReplyLine.{ReplyLine}
 use Rattle.weave_report.specs.declared.read.parts.ReplyLine.TheVariants.{Whole, Committed}
 use Rattle.report_rules.specs.declared.report.ReplyState.TheVariants as told
 use Rattle.program_defs.specs.Works.{ops_of}
-use Rattle.weave_report.specs.ReadingFields.{Read, ◌>>=◌, or_cause, name_in, number_in, small_number_in, this_number_in, reason_in, stamp_in}
+use Rattle.proof_base.specs.Steps.{◌>>=◌}
+use Rattle.weave_report.specs.ReadingFields.{Read, or_cause, name_in, number_in, small_number_in, this_number_in, reason_in, stamp_in}
 use Rattle.weave_report.specs.ReadingStates.{is_state_form, state_in, is_answer_form, answer_in}
 use Rattle.report_rules.specs.ReportOf.{numbers_of_gets}
 use Rattle.weave_report.specs.ReportText.{is_program}
@@ -29,7 +32,8 @@ use Rattle.report_rules.specs.Lookups.{request_at}
 -- the number of the first of these requests that has the name, where the first of all has this number
 abbrev pub request_from : ℕ → Name → List Request → Option ℕ
 request_from r name [] = None
-request_from r name (request ∷ requests) = if same_name request.name name then Some r else request_from (r + 1) name requests
+request_from r name (request ∷ requests) =
+    if same_name request.name name then Some r else request_from (r + 1) name requests
 
 -- the number of the request of a name
 abbrev pub request_named : Script → Name → Option ℕ
@@ -42,7 +46,8 @@ of_kind false script r = if is_program script r then None else Some r
 
 -- the program or transaction of a name
 abbrev pub kind_named : Bool → Script → Name → Read ℕ
-kind_named program script name = or_cause cause.Request (option_and_then (of_kind program script) (request_named script name))
+kind_named program script name =
+    or_cause cause.Request (option_and_then (of_kind program script) (request_named script name))
 
 -- the request of a name
 abbrev pub any_named : Script → Name → Read ℕ
@@ -75,30 +80,32 @@ begun_in program script name stamp =
 -- a committed transaction
 abbrev pub committed_in : Script → Word → Word → Word → Read ReplyLine
 committed_in script name stamp number =
-    name_in name >>= λ name. stamp_in script.gates stamp >>= λ stamp. number_in number >>= λ number. kind_named false script name >>= λ r.
+    name_in name >>= λ name. stamp_in script.gates stamp >>= λ stamp. number_in number >>= λ number.
+    kind_named false script name >>= λ r.
     Ok (Committed (record { request = r; stamp = stamp; number = number; gets = gets_of script r }))
 
 -- a transaction that is aborted by a conflict
 abbrev pub conflict_in : Script → Word → Word → Word → Word → Read ReplyLine
 conflict_in script name stamp vertex newer =
-    name_in name >>= λ name. stamp_in script.gates stamp >>= λ stamp. name_in vertex >>= λ vertex. name_in newer >>= λ newer.
-    kind_named false script name >>= λ r. any_named script newer >>= λ newer.
+    name_in name >>= λ name. stamp_in script.gates stamp >>= λ stamp. name_in vertex >>= λ vertex.
+    name_in newer >>= λ newer. kind_named false script name >>= λ r. any_named script newer >>= λ newer.
     Ok (Whole (record { request = r; stamp = Some stamp; state = told.Conflict vertex newer }))
 
 -- a refused transaction
 abbrev pub refused_in : Script → Word → Word → Word → Word → Word → Read ReplyLine
 refused_in script name stamp op reason at =
-    name_in name >>= λ name. stamp_in script.gates stamp >>= λ stamp. small_number_in op >>= λ op. reason_in reason >>= λ reason. number_in at >>= λ at.
-    kind_named false script name >>= λ r.
+    name_in name >>= λ name. stamp_in script.gates stamp >>= λ stamp. small_number_in op >>= λ op.
+    reason_in reason >>= λ reason. number_in at >>= λ at. kind_named false script name >>= λ r.
     Ok (Whole (record { request = r; stamp = Some stamp; state = told.Refused op reason at }))
 
--- a refusal, by the word that tells of it and those behind it
+-- a refusal, from its word and the words after it
 abbrev pub refusal_in : Script → Word → Word → Word → List Word → Read ReplyLine
 refusal_in script name stamp state (op ∷ reason ∷ word ∷ at ∷ []) =
-    if bytes_eq state (codes "refused") && bytes_eq word (codes "at") then refused_in script name stamp op reason at else Err cause.Line
+    if bytes_eq state (codes "refused") && bytes_eq word (codes "at") then refused_in script name stamp op reason at
+    else Err cause.Line
 refusal_in script name stamp state _ = Err cause.Line
 
--- a begun transaction's reply, by the word that tells how it stands and those behind it
+-- a begun transaction's reply, from the word that names its state and the words after it
 abbrev pub verdict_in : Script → Word → Word → Word → List Word → Read ReplyLine
 verdict_in script name stamp state [] =
     if bytes_eq state (codes "begun") then begun_in false script name stamp else Err cause.Line
@@ -108,7 +115,7 @@ verdict_in script name stamp state (vertex ∷ newer ∷ []) =
     if bytes_eq state (codes "conflict") then conflict_in script name stamp vertex newer else Err cause.Line
 verdict_in script name stamp state more = refusal_in script name stamp state more
 
--- a transaction's reply, by the words behind `tx`
+-- a transaction's reply, from the words after `tx`
 abbrev pub transaction_in : Script → List Word → Read ReplyLine
 transaction_in script (name ∷ state ∷ []) =
     if bytes_eq state (codes "unbegun") then unbegun_in false script name else Err cause.Line
@@ -125,7 +132,9 @@ abbrev pub program_named : Script → Name → Option (ℕ × Program)
 program_named script name =
     option_and_then (λ (r : ℕ).
     option_and_then (λ (request : Request).
-    option_and_then (λ (program : Program). Some (r, program)) (program_of request.work)) (request_at script r)) (request_named script name)
+    option_and_then (λ (program : Program). Some (r, program)) (program_of request.work))
+    (request_at script r))
+    (request_named script name)
 
 -- a finished program; where the name is that of no program of the script, its answer isn't looked at
 abbrev pub finished_by : Option (ℕ × Program) → Script → Word → List Word → Read ReplyLine
@@ -137,20 +146,23 @@ finished_by (Some (r, program)) script stamp answer =
     else Err cause.Line
 
 abbrev pub finished_in : Script → Word → Word → List Word → Read ReplyLine
-finished_in script name stamp answer = name_in name >>= λ name. finished_by (program_named script name) script stamp answer
+finished_in script name stamp answer =
+    name_in name >>= λ name. finished_by (program_named script name) script stamp answer
 
--- a program's reply, by the words behind `prog`
+-- a program's reply, from the words after `prog`
 abbrev pub program_in : Script → List Word → Read ReplyLine
 program_in script (name ∷ state ∷ []) =
     if bytes_eq state (codes "unbegun") then unbegun_in true script name else Err cause.Line
 program_in script (name ∷ stamp ∷ state ∷ answer) =
     if bytes_eq state (codes "done") then finished_in script name stamp answer
-    else (if bytes_eq state (codes "running") && is_empty answer then begun_in true script name stamp else Err cause.Line)
+    else (if bytes_eq state (codes "running") && is_empty answer then begun_in true script name stamp
+    else Err cause.Line)
 program_in script _ = Err cause.Line
 
 -- what a `get` read, by its line, where it is to be this operation
 abbrev pub got_in : ℕ → List Word → Read Got
 got_in op (word ∷ number ∷ state) =
     if bytes_eq word (codes "got") && is_state_form state
-    then (this_number_in op number >>= λ op. state_in state >>= λ state. Ok (record { op = op; state = state })) else Err cause.Line
+    then (this_number_in op number >>= λ op. state_in state >>= λ state. Ok (record { op = op; state = state }))
+    else Err cause.Line
 got_in op _ = Err cause.Line

@@ -19,7 +19,8 @@ use Rattle.weave_report.specs.declared.read.parts.Item.{Item}
 use Rattle.weave_report.specs.declared.read.parts.Item.TheVariants.{Property, Link}
 use Rattle.report_rules.specs.declared.report.StepAnswer.{StepAnswer}
 use Rattle.report_rules.specs.declared.report.StepAnswer.TheVariants as step
-use Rattle.weave_report.specs.ReadingFields.{Read, ◌>>=◌, name_in, names_in, small_number_in, or_cause}
+use Rattle.proof_base.specs.Steps.{◌>>=◌}
+use Rattle.weave_report.specs.ReadingFields.{Read, name_in, names_in, small_number_in, or_cause}
 
 -- Records
 
@@ -35,7 +36,8 @@ cut_behind byte (Some (before, mark, behind)) = Some (byte ∷ before, mark, beh
 -- the text cut at its first byte of a kind, where it has one
 abbrev pub cut_first : (ℕ → Bool) → Bytes → Option Cut
 cut_first is_mark [] = None
-cut_first is_mark (byte ∷ text) = if is_mark byte then Some ([], byte, text) else cut_behind byte (cut_first is_mark text)
+cut_first is_mark (byte ∷ text) =
+    if is_mark byte then Some ([], byte, text) else cut_behind byte (cut_first is_mark text)
 
 -- the byte stands between a key and its value
 abbrev pub is_equals : ℕ → Bool
@@ -75,7 +77,8 @@ tags_in before (word ∷ words) = tag_in word >>= λ tag. with_last before tag.0
 -- an edge: its target, and its tags with a comma before each
 abbrev pub edge_of : List Word → Read Edge
 edge_of [] = Err cause.Name
-edge_of (target ∷ tags) = name_in target >>= λ target. tags_in [] tags >>= λ tags. Ok (record { target = target; tags = tags })
+edge_of (target ∷ tags) =
+    name_in target >>= λ target. tags_in [] tags >>= λ tags. Ok (record { target = target; tags = tags })
 
 -- an item, cut at its mark: `KEY=VALUE`, or `EDGE>TARGET` with tags
 abbrev pub item_of : Option Cut → Read Item
@@ -90,13 +93,15 @@ item_in word = item_of (cut_first is_item_mark word)
 
 -- a property of a record that has these edges
 abbrev pub with_property : Record → Name → Name → List (Name × Edge) → Read Record
-with_property held key value [] = with_last held.props key value >>= λ props. Ok (record { props = props; edges = held.edges })
+with_property held key value [] =
+    with_last held.props key value >>= λ props. Ok (record { props = props; edges = held.edges })
 with_property held key value (edge ∷ edges) = Err cause.Line
 
 -- a record with one more item: no property behind an edge, and each in the order of keys
 abbrev pub with_item : Record → Item → Read Record
 with_item held (Property key value) = with_property held key value held.edges
-with_item held (Link name edge) = with_last held.edges name edge >>= λ edges. Ok (record { props = held.props; edges = edges })
+with_item held (Link name edge) =
+    with_last held.edges name edge >>= λ edges. Ok (record { props = held.props; edges = edges })
 
 -- more items in a record
 abbrev pub items_in : Record → List Word → Read Record
@@ -117,7 +122,8 @@ is_state_form (word ∷ items) = bytes_eq word (codes "record") || (bytes_eq wor
 -- a state, of words of its form
 abbrev pub state_in : List Word → Read State
 state_in [] = Err cause.Line
-state_in (word ∷ items) = if bytes_eq word (codes "record") then (items_in empty_record items >>= λ held. Ok (Some held)) else Ok None
+state_in (word ∷ items) =
+    if bytes_eq word (codes "record") then (items_in empty_record items >>= λ held. Ok (Some held)) else Ok None
 
 -- Answers of programs
 
@@ -158,7 +164,8 @@ found_in (word ∷ names) = names_in names >>= λ names. Ok (Found names)
 -- what `path` answers
 abbrev pub walk_in : List Word → Read Answer
 walk_in [] = Err cause.Line
-walk_in (word ∷ names) = if bytes_eq word (codes "path") then (names_in names >>= λ names. Ok (Walk (Some names))) else Ok (Walk None)
+walk_in (word ∷ names) =
+    if bytes_eq word (codes "path") then (names_in names >>= λ names. Ok (Walk (Some names))) else Ok (Walk None)
 
 -- the program's answer, of words of its form
 abbrev pub answer_in : Program → List Word → Read Answer
@@ -194,5 +201,6 @@ is_step_form _ = false
 abbrev pub step_answer_in : List Word → Read StepAnswer
 step_answer_in (word ∷ []) = or_cause cause.Line (bare_answer word)
 step_answer_in (word ∷ vertex ∷ []) = name_in vertex >>= λ vertex. Ok (step.Waits vertex)
-step_answer_in (word ∷ shard ∷ gate ∷ []) = small_number_in shard >>= λ shard. small_number_in gate >>= λ gate. Ok (step.Again shard gate)
+step_answer_in (word ∷ shard ∷ gate ∷ []) =
+    small_number_in shard >>= λ shard. small_number_in gate >>= λ gate. Ok (step.Again shard gate)
 step_answer_in _ = Err cause.Line

@@ -25,7 +25,8 @@ use Rattle.program_defs.specs.Works.{ops_of}
 use Rattle.report_rules.specs.ReportOf.{IsReportOf}
 use Rattle.weave_report.specs.ReportText.{report_lines}
 
--- What the types of the program say of its values, beside what their definitions know: names are names, keys rise, and numbers are within their ranges
+-- What the types of the program say of its values, beside what their definitions know: names are names, keys rise, and
+-- numbers are within their ranges
 
 -- the bytes are a name
 abbrev pub IsName : Name → Type 0
@@ -78,13 +79,13 @@ IsTypedReplyState (Conflict vertex newer) = IsName vertex
 IsTypedReplyState (Refused op reason at) = (op < 2 ^ 32) × (at < 2 ^ 64)
 IsTypedReplyState (Finished answer) = IsTypedAnswer answer
 
--- what stands in a step's answer is
+-- every field of a step's answer is valid
 abbrev pub IsTypedStepAnswer : StepAnswer → Type 0
 IsTypedStepAnswer (step.Waits vertex) = IsName vertex
 IsTypedStepAnswer (step.Again shard gate) = (shard < 2 ^ 32) × (gate < 2 ^ 32)
 IsTypedStepAnswer _ = ⊤
 
--- all that stands in a report is
+-- every field of a report is valid
 pub record IsTypedReport (report : Report) : Type 0 where
   pub replies : AllByRecursion (λ (reply : Reply). IsTypedReplyState reply.state) report.replies
   pub pairs : AllByRecursion (λ (pair : Pair). IsName pair.vertex) report.pairs
@@ -95,7 +96,8 @@ pub record IsTypedReport (report : Report) : Type 0 where
 abbrev pub names_of : List Request → List Name
 names_of requests = map (λ (request : Request). request.name) requests
 
--- a script whose requests are told by their names: no two have one name, and there are fewer than 2^32 of them and of the operations of each
+-- a script whose requests are told by their names: no two have one name, and there are fewer than 2^32 of them and of
+-- the operations of each
 pub record HasDistinctNames (script : Script) : Type 0 where
   pub distinct : IsDistinct same_name (names_of script.requests)
   pub few_requests : length script.requests < 2 ^ 32

@@ -26,7 +26,7 @@ pub enum ReportCause {
 pub enum ReportFault {
     /// The first line that can't be accepted, and why.
     Refused { line: u32, cause: ReportCause },
-    /// Memory was wanting.
+    /// Out of memory.
     Memory,
 }
 

@@ -18,7 +18,7 @@ use report_rules::{Reply, Report};
 use std::alloc::{AllocError, Global};
 use weave_text::Text;
 
-/// The text of a report of this script. The one error is want of memory.
+/// The text of a report of this script. It fails only if memory runs out.
 pub fn print_report(alloc: Global, script: &Script, report: &Report) -> Result<Vec<u8>, AllocError>
     ensures text { IfOk result (λ text. text.items ≡ report_text script.now report.now) }
 

@@ -3,7 +3,7 @@ ghost use Rattle.std.specs.Prelude.{◌≡◌, ◌≤◌, ◌<◌, ◌+◌, ◌^
 ghost use Rattle.program_defs.specs.declared.script.Script.{Script};
 ghost use Rattle.report_rules.specs.declared.report.Report.{Report};
 ghost use Rattle.weave_report.specs.FirstRefusal.{IsFirstRefusal};
-ghost use Rattle.weave_report.specs.ReadAnswers.{Answers, GivesAt, IfRefused, IfRefusedAs, IsReadAs};
+ghost use Rattle.weave_report.specs.ReadAnswers.{Answers, GivesAt, IfLineRefused, IfRefusedAs, IsReadAs};
 ghost use Rattle.weave_report.specs.Reading.{after_line, after_lines, report_in, start, whole_report};
 ghost use Rattle.report_rules.specs.ReportOf.{IsReportOf};
 ghost use Rattle.weave_report.specs.ReportText.{report_text};
@@ -44,14 +44,14 @@ pub fn read_report(
     requires from_one { 1 ≤ first_line }
     requires room { first_line + length bytes.now < 2 ^ 32 }
 
-    // The report, or the first line that can't be accepted, unless memory is wanting.
+    // The report, or the first line that can't be accepted, unless memory runs out.
     ensures exact { Answers result (report_in script.now first_line bytes.now) }
 
     // What is read is a text of that report, every text of a report is read as it, and what is refused is a text of
     // none.
     ensures read { IfOk result (λ report. IsReportTextOf script.now bytes.now report) }
     ensures complete { (report : Report) → IsReportTextOf script.now bytes.now report → IsReadAs report result }
-    ensures refused { IfRefused result ((report : Report) → ¬ IsReportTextOf script.now bytes.now report) }
+    ensures refused { IfLineRefused result ((report : Report) → ¬ IsReportTextOf script.now bytes.now report) }
 
     // The lines before the one that is told are accepted, and what was printed of a report is read as that report.
     ensures first { IfRefusedAs result (IsFirstRefusal script.now first_line start (lines_of bytes.now)) }

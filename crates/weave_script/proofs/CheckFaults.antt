@@ -1,6 +1,7 @@
 -- The fault that is told of a text of a script and a report is its first one.
 use Rattle.std.proofs.Common.{◌≡◌, ℕ, suc, ◌+◌, ◌<◌, ◌≤◌, Bool, true, false, ◌&&◌, cond, List, [], ◌∷◌, ◌++◌, length, Ok, Err, refl, sym, ap, subst, ◌∙◌, append-nil}
 use Rattle.std.specs.Prelude.{Result, nat_lt}
+use Rattle.std.proofs.Math.Bool.{and-false}
 use Rattle.std.proofs.lemmas.Bool.{and_parts, cond-true, cond-false, le-ltb, lt-ltb}
 use Rattle.program_defs.specs.declared.script.Script.{Script}
 use Rattle.weave_report.specs.FirstRefusal.{IsFirstRefusal}
@@ -11,8 +12,9 @@ use Rattle.weave_text.specs.Lines.{Bytes}
 use Rattle.weave_script.specs.CheckFaults.{begins_report, IsFirstCheckFault, InScript, NoReport, InReport}
 use Rattle.weave_script.specs.CheckText.{IsHead}
 use Rattle.weave_script.specs.CheckReading.{behind, cause_of, check_text}
-use Rattle.weave_script.specs.Faults.{IsFirstFault}
-use Rattle.weave_script.specs.Fields.{Read, ◌>>=◌}
+use Rattle.weave_script.specs.Faults.{IsFirstScriptFault}
+use Rattle.proof_base.specs.Steps.{◌>>=◌}
+use Rattle.weave_script.specs.Fields.{ReadOrCause}
 use Rattle.weave_script.specs.ReadText.{Fault, Part, at_line, is_open, is_report, read_on, script_at, head_before}
 use Rattle.weave_script.specs.Reading.{start, after_line}
 use Rattle.weave_script.specs.ScriptLines.{IsTextOf}
@@ -30,7 +32,7 @@ use Rattle.weave_script.proofs.HeadTexts.{Stops, LeadsTo, read_on-leads, part_re
 
 -- the fault is the first one, and its line begins no report
 record FailsAt (n : ℕ) (from : Reading) (lines : List Bytes) (fault : Fault) : Type 0 where
-  first : IsFirstFault n from lines fault
+  first : IsFirstScriptFault n from lines fault
   plain : (is_open first.reading.place && begins_report first.rest) ≡ false
 
 line_fails : (n : ℕ) (from : Reading) (lines : List Bytes) (fault : Fault) → read_on true n from lines ≡ Err fault → FailsAt n from lines fault
@@ -39,7 +41,7 @@ line_fails n from [] fault e = absurd cc
 line_fails n from (line ∷ lines) fault e = go (λ next e. line_fails (suc n) next lines fault e) (is_skipped line) refl (is_open from.place && is_report (words_of line)) refl e
   where
     taken : ((next : Reading) → read_on true (suc n) next lines ≡ Err fault → FailsAt (suc n) next lines fault)
-        → is_skipped line ≡ false → (is_open from.place && is_report (words_of line)) ≡ false → (read : Read Reading) → after_line from (words_of line) ≡ read
+        → is_skipped line ≡ false → (is_open from.place && is_report (words_of line)) ≡ false → (read : ReadOrCause Reading) → after_line from (words_of line) ≡ read
         → (at_line n read >>= λ next. read_on true (suc n) next lines) ≡ Err fault → FailsAt n from (line ∷ lines) fault
     taken rest kept plain (Ok next) read e =
         let at = rest next e in
@@ -70,10 +72,6 @@ none_left : (reading : Reading) (left : List Bytes) (cause : Cause) → Stops re
 none_left reading [] cause stops e = refl
 none_left reading (line ∷ lines) cause stops e = absurd (open_ends reading.place reading cause (and_parts (is_open reading.place) (is_report (words_of line)) stops).0 e)
 
-and_false : (b : Bool) → (b && false) ≡ false
-and_false true = refl
-and_false false = refl
-
 -- the script can't end where the text does
 end_fails : (n : ℕ) (from : Reading) (lines : List Bytes) (part : Part) (fault : Fault) → LeadsTo n from lines part → script_at part.reading.place part.reading ≡ Err fault.cause → fault.line ≡ part.line
     → FailsAt n from lines fault
@@ -87,7 +85,7 @@ end_fails n from lines part fault to ends number = record {
     accepted = to.accepted ∙ ap (λ k. Ok (record { reading = part.reading; line = k; left = [] })) to.number;
     refused = ends;
   };
-  plain = and_false (is_open part.reading.place);
+  plain = and-false (is_open part.reading.place);
 }
 
 -- ---- the first fault of all
@@ -125,7 +123,7 @@ module _ (laws : NumberLaws) (refuses : RefusesFirst) (bytes : Bytes) (fault : F
       } in
       by_report script part.line (line ∷ lines) here begins.1 number (report.after_lines script part.line report.start (line ∷ lines)) refl e
 
-  by_end : (part : Part) → LeadsTo 1 start (lines_of bytes) part → (ends : Read Script) → script_at part.reading.place part.reading ≡ ends
+  by_end : (part : Part) → LeadsTo 1 start (lines_of bytes) part → (ends : ReadOrCause Script) → script_at part.reading.place part.reading ≡ ends
       → ((at_line part.line ends >>= λ script. head_before part.line script part.left) >>= told_behind) ≡ Err fault → IsFirstCheckFault bytes fault
   unfolding part_reached
   by_end part to (Ok script) ends e = by_left part script to (part_reached laws bytes part script to ends) to.number part.left refl e

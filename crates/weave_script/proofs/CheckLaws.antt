@@ -14,14 +14,14 @@ use Rattle.weave_text.specs.Cutting.{lines_of, kept_lines, is_clean_line}
 use Rattle.weave_text.specs.Lines.{Bytes, Line, joined_words, lines_text}
 use Rattle.weave_script.specs.CheckText.{IsHead, IsCheckTextOf}
 use Rattle.weave_script.specs.CheckReading.{behind, check_text}
-use Rattle.weave_script.specs.Fields.{◌>>=◌}
+use Rattle.proof_base.specs.Steps.{◌>>=◌}
 use Rattle.weave_script.specs.ReadText.{Fault, Head, Part, at_line, is_open, read_on, script_at, head_before, head_of}
 use Rattle.weave_script.specs.Reading.{start}
 use Rattle.weave_script.specs.ScriptLines.{script_lines, script_text}
 use Rattle.weave_script.specs.Scripts.{IsRequest, IsScript, names_of}
 use Rattle.weave_script.specs.declared.fault.Cause.{Cause}
 use Rattle.weave_script.specs.declared.fault.Cause.TheVariants as causes
-use Rattle.weave_script.proofs.Binds.{bind_ok, ok_is}
+use Rattle.proof_base.proofs.Steps.{bind_ok, ok_is}
 use Rattle.weave_script.proofs.CheckReading.{reads_past, stops_at_report, text_behind}
 use Rattle.weave_script.proofs.CheckTexts.{told_by_name, both_texts}
 use Rattle.weave_script.proofs.FieldLaws.{NumberLaws}
@@ -33,6 +33,7 @@ use Rattle.weave_script.proofs.TextLaws.{long}
 
 -- ---- what a report's reader wants of the script
 
+-- a script's requests are known by their names
 pub script_told : (script : Script) → IsScript script → HasDistinctNames script
 script_told script is = told_by_name script is (few_requests script is) (small_transactions script is)
 
@@ -40,6 +41,7 @@ each_named : (gates : ℕ) (requests : List Request) → AllByRecursion (IsReque
 each_named gates [] each = tt
 each_named gates (request ∷ requests) each = (each.0.name, each_named gates requests each.1)
 
+-- a script is as types say
 pub script_typed : (script : Script) → IsScript script → IsTypedScript script
 script_typed script is = record { gates = omega (arith, is.gates.1); names = each_named script.gates script.requests is.requests }
 
@@ -47,6 +49,7 @@ script_typed script is = record { gates = omega (arith, is.gates.1); names = eac
 abbrev pub ReadsTexts : Type 0
 ReadsTexts = (script : Script) (first_line : ℕ) (bytes : Bytes) (told : Report) → HasDistinctNames script → IsTypedScript script → report.report_in script first_line bytes ≡ Ok told → IsReportTextOf script bytes told
 
+-- each text of a report is read as it: a law of reports' texts
 abbrev pub EveryText : Type 0
 EveryText = (script : Script) (first_line : ℕ) (bytes : Bytes) (told : Report) → HasDistinctNames script → IsTypedScript script → IsReportTextOf script bytes told → report.report_in script first_line bytes ≡ Ok told
 
@@ -60,6 +63,7 @@ OneReport = (script : Script) (bytes : Bytes) (a b : Report) → HasDistinctName
 abbrev pub finish : Part → Result Head Fault
 finish part = at_line part.line (script_at part.reading.place part.reading) >>= λ script. head_before part.line script part.left
 
+-- the script and the report that is read after it
 abbrev pub told_behind : Head → Result (Script × Report) Fault
 told_behind head = behind head.script (report.after_lines head.script head.line report.start head.left)
 
@@ -149,6 +153,7 @@ module _ (laws : NumberLaws) where
       let text = reads head.script head.line left.0 told (script_told head.script reached.of_script) (script_typed head.script reached.of_script) read in
       subst (λ script. IsCheckTextOf bytes script told) pair.0 (both_texts bytes left.0 head.script told here text)
 
+-- a text that is read has at most 4,194,304 bytes
 pub check_is_short : (bytes : Bytes) (script : Script) (told : Report) → check_text bytes ≡ Ok (script, told) → length bytes ≤ 4194304
 check_is_short bytes script told e =
     let step = bind_ok (head_of bytes) told_behind (script, told) e in
@@ -161,6 +166,7 @@ pub record CleanLaws : Type 0 where
   pub lines : (lines : List Line) (text : Bytes) → IsTrue (list_all is_clean_line lines) → lines_of (lines_text lines ++ text) ≡ map joined_words lines ++ lines_of text
   pub kept : (lines : List Line) → IsTrue (list_all is_clean_line lines) → kept_lines (lines_of (lines_text lines)) ≡ lines
 
+-- a script's printed text and then its report's is a text of both
 pub printed_check : CleanLaws → (script : Script) (told : Report) → IsTrue (list_all is_clean_line (script_lines script)) → IsScript script → IsReportTextOf script (report_text script told) told
     → IsCheckTextOf (script_text script ++ report_text script told) script told
 printed_check laws script told clean is text =

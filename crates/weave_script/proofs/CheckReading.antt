@@ -1,6 +1,6 @@
 -- A script that a report follows is read up to the report.
 use Rattle.std.proofs.Common.{◌≡◌, ℕ, suc, ◌+◌, Bool, true, false, ◌&&◌, cond, List, [], ◌∷◌, ◌++◌, length, Ok, Err, refl, sym, ap, ◌∙◌, arith}
-use Rattle.std.specs.Prelude.{Option, codes, ◌==◌}
+use Rattle.std.specs.Prelude.{Option, Result, codes, ◌==◌}
 use Rattle.std.specs.List.{onto_first}
 use Rattle.std.specs.Str.{bytes_eq}
 use Rattle.std.proofs.lemmas.Bool.{and_parts, cond-true, cond-false}
@@ -12,11 +12,12 @@ use Rattle.weave_script.specs.declared.fault.Cause.TheVariants as causes
 use Rattle.weave_script.specs.declared.reading.Place.{Place}
 use Rattle.weave_script.specs.declared.reading.Place.TheVariants.{Start, Between, Inside, Behind}
 use Rattle.weave_script.specs.declared.reading.Reading.{Reading}
-use Rattle.weave_script.specs.Fields.{◌>>=◌}
-use Rattle.weave_script.specs.ReadText.{at_line, is_open, is_report, read_on}
+use Rattle.proof_base.specs.Steps.{◌>>=◌}
+use Rattle.weave_script.specs.ReadText.{Fault, Part, at_line, is_open, is_report, read_on}
 use Rattle.weave_script.specs.Reading.{after_line_at, within_limits, after_line}
 use Rattle.weave_script.specs.StepLines.{place_of, step_of}
-use Rattle.weave_script.proofs.Binds.{bind_ok, ok_is, is_word}
+use Rattle.proof_base.proofs.Steps.{bind_ok, ok_is}
+use Rattle.weave_report.proofs.ReadSteps.{is_word}
 use Rattle.weave_script.proofs.Reached.{after_lines}
 
 -- ---- a report's first line is none of a script
@@ -51,6 +52,12 @@ accepted-no_report reading next line e = go (is_open reading.place && is_report 
 
 -- ---- reading on past the script's lines
 
+-- the lines from a kept one on, by whether that one begins a report
+abbrev from_kept : Bool → ℕ → Reading → Bytes → List Bytes → Result Part Fault
+from_kept begins n reading line lines =
+    cond begins (Ok (record { reading = reading; line = n; left = line ∷ lines }))
+    (at_line n (after_line reading (words_of line)) >>= λ next. read_on true (suc n) next lines)
+
 -- lines that lead on are read past
 pub reads_past : (n : ℕ) (reading : Reading) (front back : List Bytes) (last : Reading) → after_lines reading (kept_lines front) ≡ Ok last → read_on true n reading (front ++ back) ≡ read_on true (n + length front) last back
 reads_past n reading [] back last e =
@@ -65,12 +72,12 @@ reads_past n reading (line ∷ front) back last e = go (λ next e. reads_past (s
     go : ((next : Reading) → after_lines next (kept_lines front) ≡ Ok last → read_on true (suc n) next (front ++ back) ≡ read_on true (suc n + length front) last back)
         → (b c : Bool) → (is_open reading.place && is_report (words_of line)) ≡ c
         → after_lines reading (cond b (kept_lines front) (words_of line ∷ kept_lines front)) ≡ Ok last
-        → cond b (read_on true (suc n) reading (front ++ back)) (cond c (Ok (record { reading = reading; line = n; left = line ∷ front ++ back })) (at_line n (after_line reading (words_of line)) >>= λ next. read_on true (suc n) next (front ++ back)))
+        → cond b (read_on true (suc n) reading (front ++ back)) (from_kept c n reading line (front ++ back))
         ≡ read_on true (n + length (line ∷ front)) last back
     go rest true c h e = rest reading e ∙ ap (λ k. read_on true k last back) count
     go rest false c h e =
         let step = bind_ok (after_line reading (words_of line)) (λ next. after_lines next (kept_lines front)) last e in
-        ap (λ c. cond c (Ok (record { reading = reading; line = n; left = line ∷ front ++ back })) (at_line n (after_line reading (words_of line)) >>= λ next. read_on true (suc n) next (front ++ back)))
+        ap (λ c. from_kept c n reading line (front ++ back))
         (sym h ∙ accepted-no_report reading step.0 (words_of line) step.1)
         ∙ ap (λ read. at_line n read >>= λ next. read_on true (suc n) next (front ++ back)) step.1
         ∙ rest step.0 step.2

@@ -16,7 +16,7 @@ use Rattle.weave_text.specs.Cutting.{lines_of}
 use Rattle.weave_text.specs.Lines.{Bytes}
 use Rattle.weave_script.specs.CheckText.{IsHead, IsCheckTextOf}
 use Rattle.weave_script.specs.CheckReading.{behind, check_text}
-use Rattle.weave_script.specs.Fields.{◌>>=◌}
+use Rattle.proof_base.specs.Steps.{◌>>=◌}
 use Rattle.weave_script.specs.ReadText.{Fault, Head, head_of}
 use Rattle.weave_script.specs.ScriptLines.{IsTextOf}
 use Rattle.weave_script.specs.Scripts.{IsScript}
@@ -25,7 +25,7 @@ few_each : (requests : List Request) → AllByRecursion (λ (request : Request).
 few_each [] each = tt
 few_each (request ∷ requests) each = (let few = each.0 in omega (arith, few), few_each requests each.1)
 
--- a script that has a text is told by the names of its requests
+-- a valid script has requests of distinct names
 pub told_by_name : (script : Script) → IsScript script → length script.requests ≤ 10000 → AllByRecursion (λ (request : Request). length (ops_of request.work) ≤ 64) script.requests → HasDistinctNames script
 told_by_name script is few each = record { distinct = is.distinct; few_requests = omega (arith, few); few_ops = few_each script.requests each }
 

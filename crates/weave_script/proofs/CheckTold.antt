@@ -12,8 +12,8 @@ use Rattle.weave_text.specs.Lines.{Bytes, Line}
 use Rattle.weave_script.specs.CheckFaults.{begins_report, IsFirstCheckFault, InScript, NoReport, InReport}
 use Rattle.weave_script.specs.CheckText.{IsHead}
 use Rattle.weave_script.specs.CheckReading.{behind, check_text}
-use Rattle.weave_script.specs.Faults.{IsRefusedAt, IsFirstFault}
-use Rattle.weave_script.specs.Fields.{◌>>=◌}
+use Rattle.weave_script.specs.Faults.{IsScriptRefusedAt, IsFirstScriptFault}
+use Rattle.proof_base.specs.Steps.{◌>>=◌}
 use Rattle.weave_script.specs.ReadText.{Fault, Part, at_line, is_open, is_report, read_on, head_before}
 use Rattle.weave_script.specs.Reading.{start}
 use Rattle.weave_script.specs.ScriptLines.{IsTextOf}
@@ -50,7 +50,7 @@ abbrev told : Result Part Fault → Result (Script × Report) Fault
 told read = (read >>= finish) >>= told_behind
 
 -- the first of the lines is refused, or the script can't end there
-fails_there : (n : ℕ) (reading : Reading) (rest : List Bytes) (fault : Fault) → fault.line ≡ n → (is_open reading.place && begins_report rest) ≡ false → IsRefusedAt reading rest fault.cause
+fails_there : (n : ℕ) (reading : Reading) (rest : List Bytes) (fault : Fault) → fault.line ≡ n → (is_open reading.place && begins_report rest) ≡ false → IsScriptRefusedAt reading rest fault.cause
     → told (read_on true n reading rest) ≡ Err fault
 fails_there n reading [] fault number plain refused =
     ap (λ read. (at_line n read >>= λ script. head_before n script []) >>= told_behind) refused ∙ ap (λ k. Err (record { line = k; cause = fault.cause })) (sym number)
@@ -74,7 +74,7 @@ stops_there n reading line lines opens begins =
 abbrev pub TellsFirst : Type 0
 TellsFirst = (script : Script) (n : ℕ) (lines : List Bytes) (refusal : report.Refusal) → IsFirstRefusal script n report.start lines refusal → report.after_lines script n report.start lines ≡ Err refusal
 
-script_fault : (bytes : Bytes) (fault : Fault) (first : IsFirstFault 1 start (lines_of bytes) fault) → (is_open first.reading.place && begins_report first.rest) ≡ false → told (read_on true 1 start (lines_of bytes)) ≡ Err fault
+script_fault : (bytes : Bytes) (fault : Fault) (first : IsFirstScriptFault 1 start (lines_of bytes) fault) → (is_open first.reading.place && begins_report first.rest) ≡ false → told (read_on true 1 start (lines_of bytes)) ≡ Err fault
 script_fault bytes fault first plain =
     let led = read_on-kept 1 start first.before (record { reading = first.reading; line = 1 + length first.before; left = [] }) first.accepted in
     ap (λ lines. told (read_on true 1 start lines)) first.parts

@@ -10,8 +10,8 @@ use Rattle.weave_script.specs.declared.reader.Reader.{Reader}
 use Rattle.weave_script.specs.declared.reading.Place.{Place}
 use Rattle.weave_script.specs.declared.reading.Place.TheVariants.{Start, Between, Inside, Behind}
 use Rattle.weave_script.specs.declared.reading.Reading.{Reading}
-use Rattle.weave_script.specs.Fields.{◌>>=◌}
-use Rattle.weave_script.specs.Parts.{Takes, ends_before}
+use Rattle.proof_base.specs.Steps.{◌>>=◌}
+use Rattle.weave_script.specs.Parts.{TakesLine, ends_before}
 use Rattle.weave_script.specs.ReadText.{is_open, is_report}
 use Rattle.weave_script.specs.Reading.{after_line, after_line_at, within_limits}
 
@@ -49,8 +49,8 @@ same_end : (report : Bool) (reading : Reading) (line : Line) → ends_before rep
 same_end report reading line = ap (λ begins. report && is_open reading.place && begins) (same_report line)
 
 -- a line is taken as its first twelve words are
-pub Takes-few : (report : Bool) (reading : Reading) (line : Line) (reader : Reader) (result : Result Taken LineFault) → Takes report reading (take 12 line) reader result → Takes report reading line reader result
-Takes-few report reading line reader (Ok taken.Line) (ready, ends, read) = (ready, sym (same_end report reading line) ∙ ends, sym (same_line reading line) ∙ read)
-Takes-few report reading line reader (Ok taken.Nothing) (ready, same, ends) = (ready, same, sym (same_end report reading line) ∙ ends)
-Takes-few report reading line reader (Err (line_fault.Refused cause)) (ends, read) = (sym (same_end report reading line) ∙ ends, sym (same_line reading line) ∙ read)
-Takes-few report reading line reader (Err line_fault.Memory) taken = tt
+pub TakesLine-few : (report : Bool) (reading : Reading) (line : Line) (reader : Reader) (result : Result Taken LineFault) → TakesLine report reading (take 12 line) reader result → TakesLine report reading line reader result
+TakesLine-few report reading line reader (Ok taken.Line) (ready, ends, read) = (ready, sym (same_end report reading line) ∙ ends, sym (same_line reading line) ∙ read)
+TakesLine-few report reading line reader (Ok taken.Nothing) (ready, same, ends) = (ready, same, sym (same_end report reading line) ∙ ends)
+TakesLine-few report reading line reader (Err (line_fault.Refused cause)) (ends, read) = (sym (same_end report reading line) ∙ ends, sym (same_line reading line) ∙ read)
+TakesLine-few report reading line reader (Err line_fault.Memory) taken = tt

@@ -11,14 +11,17 @@ use Rattle.weave_text.specs.declared.numbers.Numeral.{Numeral}
 use Rattle.weave_text.specs.declared.numbers.Numeral.TheVariants.{NoNumber, TooLarge, Number}
 use Rattle.weave_script.specs.declared.fault.Cause.{Cause}
 use Rattle.weave_script.specs.declared.fault.Cause.TheVariants as causes
-use Rattle.weave_script.specs.Fields.{◌>>=◌, name_of, found_number, at_least, number_in}
+use Rattle.proof_base.specs.Steps.{◌>>=◌}
+use Rattle.weave_script.specs.Fields.{name_of, found_number, at_least, number_in}
 use Rattle.weave_script.specs.Scripts.{IsName}
-use Rattle.weave_script.proofs.Binds.{bind_ok, pick, ok_is}
+use Rattle.proof_base.proofs.Steps.{bind_ok, ok_is}
+use Rattle.weave_script.proofs.Binds.{pick}
 
 -- a name that is read is the word
 pub name_of-ok : (word : Word) (name : Name) → name_of word ≡ Ok name → IsName word × (word ≡ name)
 name_of-ok word name e = pick (is_name word) (Ok word) (Err causes.Name) (Ok name) e (λ is same. (is, ok_is {E = Cause} word name same)) (λ is same. absurd cc)
 
+-- a name is read as itself
 pub name_of-name : (name : Name) → IsName name → name_of name ≡ Ok name
 name_of-name name h = cond-true (is_name name) (Ok name) (Err causes.Name) h
 
@@ -47,6 +50,7 @@ module _ (laws : NumberLaws) where
       let found = laws.word most word step.0 small (found_ok cause (number_up_to most word) step.0 step.1) in
       (low.0, subst (λ k. k ≤ most) low.1 found.1, found.0 ∙ ap decimal low.1)
 
+  -- the word of a number in the range is read as that number
   pub number_in-number : (least most : ℕ) (cause : Cause) (n : ℕ) → most < 2 ^ 64 → least ≤ n → n ≤ most → number_in least most cause (decimal n) ≡ Ok n
   number_in-number least most cause n small low high =
       ap (λ numeral. found_number cause numeral >>= λ m. at_least least cause m) (laws.back most n small high)

@@ -8,15 +8,18 @@ use Rattle.weave_text.specs.Lines.{Bytes}
 use Rattle.weave_script.specs.declared.fault.Cause.{Cause}
 use Rattle.weave_script.specs.declared.fault.Cause.TheVariants as causes
 use Rattle.weave_script.specs.declared.reading.Reading.{Reading}
-use Rattle.weave_script.specs.Fields.{Read, ◌>>=◌}
-use Rattle.weave_script.specs.Faults.{IsRefusedAt, IsFirstFault}
+use Rattle.proof_base.specs.Steps.{◌>>=◌}
+use Rattle.weave_script.specs.Fields.{ReadOrCause}
+use Rattle.weave_script.specs.Faults.{IsScriptRefusedAt, IsFirstScriptFault}
 use Rattle.weave_script.specs.ReadText.{Fault, Part, at_line, read_on, read_text, script_at}
 use Rattle.weave_script.specs.Reading.{start, after_line}
-use Rattle.weave_script.proofs.Binds.{ok_is}
+use Rattle.proof_base.proofs.Steps.{ok_is}
 
+-- the fault, as a result
 abbrev pub err : {A E : Type 0} → E → Result A E
 err e = Err e
 
+-- two results that are one have one fault
 pub same_fault : {A : Type 0} (a b : Fault) → err {A = A} a ≡ err b → a ≡ b
 same_fault a b e = cc
 
@@ -24,18 +27,19 @@ same_fault a b e = cc
 abbrev finish : Part → Result Script Fault
 finish part = at_line part.line (script_at part.reading.place part.reading)
 
+-- a fault at a line has that line and its cause
 pub told_at : {A : Type 0} (n : ℕ) (cause : Cause) (fault : Fault) → err {A = A} (record { line = n; cause = cause }) ≡ Err fault → (cause ≡ fault.cause) × (fault.line ≡ n)
 told_at {A} n cause fault e =
     let same : record { line = n; cause = cause } ≡ fault = same_fault {A = A} (record { line = n; cause = cause }) fault e in
     (ap (λ (f : Fault). f.cause) same, sym (ap (λ (f : Fault). f.line) same))
 
-fault_at : (n : ℕ) (read : Read Script) (fault : Fault) → at_line n read ≡ Err fault → (read ≡ Err fault.cause) × (fault.line ≡ n)
+fault_at : (n : ℕ) (read : ReadOrCause Script) (fault : Fault) → at_line n read ≡ Err fault → (read ≡ Err fault.cause) × (fault.line ≡ n)
 fault_at n (Ok value) fault e = absurd cc
 fault_at n (Err cause) fault e = let h = told_at n cause fault e in (ap (λ c. Err c) h.0, h.1)
 
 -- one line that was accepted stands before
 unfoldable pub further : (n : ℕ) (from next : Reading) (line : Bytes) (lines : List Bytes) (fault : Fault) → ((more : List Bytes) → read_on false n from (line ∷ more) ≡ read_on false (suc n) next more)
-    → IsFirstFault (suc n) next lines fault → IsFirstFault n from (line ∷ lines) fault
+    → IsFirstScriptFault (suc n) next lines fault → IsFirstScriptFault n from (line ∷ lines) fault
 further n from next line lines fault step first =
     let count : suc n + length first.before ≡ n + length (line ∷ first.before) = omega arith in
     record {
@@ -49,7 +53,7 @@ further n from next line lines fault step first =
     }
 
 -- nothing stands before it
-unfoldable pub at_once : (n : ℕ) (from : Reading) (lines : List Bytes) (fault : Fault) → fault.line ≡ n → IsRefusedAt from lines fault.cause → IsFirstFault n from lines fault
+unfoldable pub at_once : (n : ℕ) (from : Reading) (lines : List Bytes) (fault : Fault) → fault.line ≡ n → IsScriptRefusedAt from lines fault.cause → IsFirstScriptFault n from lines fault
 at_once n from lines fault number refused =
     let none : n ≡ n + 0 = omega arith in
     record {
@@ -62,15 +66,15 @@ at_once n from lines fault number refused =
       refused = refused;
     }
 
-first_fault : (n : ℕ) (from : Reading) (lines : List Bytes) (fault : Fault) → (read_on false n from lines >>= finish) ≡ Err fault → IsFirstFault n from lines fault
+first_fault : (n : ℕ) (from : Reading) (lines : List Bytes) (fault : Fault) → (read_on false n from lines >>= finish) ≡ Err fault → IsFirstScriptFault n from lines fault
 first_fault n from [] fault e =
     let h = fault_at n (script_at from.place from) fault e in
     at_once n from [] fault h.1 h.0
 first_fault n from (line ∷ lines) fault e = go (λ next e. first_fault (suc n) next lines fault e) (is_skipped line) refl e
   where
-    taken : ((next : Reading) → (read_on false (suc n) next lines >>= finish) ≡ Err fault → IsFirstFault (suc n) next lines fault)
-        → is_skipped line ≡ false → (read : Read Reading) → after_line from (words_of line) ≡ read
-        → ((at_line n read >>= λ next. read_on false (suc n) next lines) >>= finish) ≡ Err fault → IsFirstFault n from (line ∷ lines) fault
+    taken : ((next : Reading) → (read_on false (suc n) next lines >>= finish) ≡ Err fault → IsFirstScriptFault (suc n) next lines fault)
+        → is_skipped line ≡ false → (read : ReadOrCause Reading) → after_line from (words_of line) ≡ read
+        → ((at_line n read >>= λ next. read_on false (suc n) next lines) >>= finish) ≡ Err fault → IsFirstScriptFault n from (line ∷ lines) fault
     taken rest kept (Ok next) read e =
         further n from next line lines fault
         (λ more. cond-false (is_skipped line) _ _ kept ∙ ap (λ read. at_line n read >>= λ next. read_on false (suc n) next more) read)
@@ -79,15 +83,15 @@ first_fault n from (line ∷ lines) fault e = go (λ next e. first_fault (suc n)
         let h = told_at n cause fault e in
         at_once n from (line ∷ lines) fault h.1 (kept, read ∙ ap (λ c. Err c) h.0)
 
-    go : ((next : Reading) → (read_on false (suc n) next lines >>= finish) ≡ Err fault → IsFirstFault (suc n) next lines fault)
+    go : ((next : Reading) → (read_on false (suc n) next lines >>= finish) ≡ Err fault → IsFirstScriptFault (suc n) next lines fault)
         → (b : Bool) → is_skipped line ≡ b
         → (cond b (read_on false (suc n) from lines) (at_line n (after_line from (words_of line)) >>= λ next. read_on false (suc n) next lines) >>= finish) ≡ Err fault
-        → IsFirstFault n from (line ∷ lines) fault
+        → IsFirstScriptFault n from (line ∷ lines) fault
     go rest true skipped e = further n from from line lines fault (λ more. cond-true (is_skipped line) _ _ skipped) (rest from e)
     go rest false kept e = taken rest kept (after_line from (words_of line)) refl e
 
 -- of a text that isn't too long
-pub first_fault_of_text : (bytes : Bytes) (fault : Fault) → length bytes ≤ 4194304 → read_text bytes ≡ Err fault → IsFirstFault 1 start (lines_of bytes) fault
+pub first_fault_of_text : (bytes : Bytes) (fault : Fault) → length bytes ≤ 4194304 → read_text bytes ≡ Err fault → IsFirstScriptFault 1 start (lines_of bytes) fault
 first_fault_of_text bytes fault short e =
     first_fault 1 start (lines_of bytes) fault
     (sym (ap (λ part. part >>= finish) (cond-false (nat_lt 4194304 (length bytes)) (Err (record { line = 0; cause = causes.TooLong })) (read_on false 1 start (lines_of bytes)) (le-ltb 4194304 (length bytes) short))) ∙ e)
@@ -100,7 +104,7 @@ past n reading [] back part e = ap (λ (p : Part). read_on false p.line p.readin
 past n reading (line ∷ front) back part e = go (λ next e. past (suc n) next front back part e) (is_skipped line) (after_line reading (words_of line)) e
   where
     go : ((next : Reading) → read_on false (suc n) next front ≡ Ok part → read_on false (suc n) next (front ++ back) ≡ read_on false part.line part.reading back)
-        → (b : Bool) (read : Read Reading)
+        → (b : Bool) (read : ReadOrCause Reading)
         → cond b (read_on false (suc n) reading front) (at_line n read >>= λ next. read_on false (suc n) next front) ≡ Ok part
         → cond b (read_on false (suc n) reading (front ++ back)) (at_line n read >>= λ next. read_on false (suc n) next (front ++ back)) ≡ read_on false part.line part.reading back
     go rest true read e = rest reading e
@@ -108,7 +112,7 @@ past n reading (line ∷ front) back part e = go (λ next e. past (suc n) next f
     go rest false (Err cause) e = absurd cc
 
 -- the first of the lines is refused, or the script can't end there
-refused_there : (n : ℕ) (reading : Reading) (rest : List Bytes) (fault : Fault) → fault.line ≡ n → IsRefusedAt reading rest fault.cause → (read_on false n reading rest >>= finish) ≡ Err fault
+refused_there : (n : ℕ) (reading : Reading) (rest : List Bytes) (fault : Fault) → fault.line ≡ n → IsScriptRefusedAt reading rest fault.cause → (read_on false n reading rest >>= finish) ≡ Err fault
 refused_there n reading [] fault number refused =
     ap (λ read. at_line n read) refused ∙ ap (λ k. Err (record { line = k; cause = fault.cause })) (sym number)
 refused_there n reading (line ∷ lines) fault number refused =
@@ -116,7 +120,7 @@ refused_there n reading (line ∷ lines) fault number refused =
     ∙ ap (λ k. Err (record { line = k; cause = fault.cause })) (sym number)
 
 -- of a text that isn't too long
-pub first_fault_told : (bytes : Bytes) (fault : Fault) → length bytes ≤ 4194304 → IsFirstFault 1 start (lines_of bytes) fault → read_text bytes ≡ Err fault
+pub first_fault_told : (bytes : Bytes) (fault : Fault) → length bytes ≤ 4194304 → IsFirstScriptFault 1 start (lines_of bytes) fault → read_text bytes ≡ Err fault
 first_fault_told bytes fault short first =
     ap (λ part. part >>= finish)
     (cond-false (nat_lt 4194304 (length bytes)) (Err (record { line = 0; cause = causes.TooLong })) (read_on false 1 start (lines_of bytes)) (le-ltb 4194304 (length bytes) short)

@@ -8,10 +8,10 @@ use Rattle.weave_text.specs.Lines.{Bytes}
 use Rattle.weave_script.specs.declared.fault.Cause.TheVariants as causes
 use Rattle.weave_script.specs.declared.reading.Reading.{Reading}
 use Rattle.weave_script.specs.CheckText.{IsHead}
-use Rattle.weave_script.specs.Fields.{◌>>=◌}
+use Rattle.proof_base.specs.Steps.{◌>>=◌}
 use Rattle.weave_script.specs.ReadText.{Fault, Part, Head, at_line, is_open, is_report, read_on, read_part, script_at, head_before, head_of}
 use Rattle.weave_script.specs.Reading.{start, after_line}
-use Rattle.weave_script.proofs.Binds.{bind_ok, bind_at, ok_is}
+use Rattle.proof_base.proofs.Steps.{bind_ok, bind_at, ok_is}
 use Rattle.weave_script.proofs.FieldLaws.{NumberLaws}
 use Rattle.weave_script.proofs.Reached.{after_lines, lines_lead, script_reached}
 use Rattle.weave_script.proofs.TextLaws.{at_line_ok, not_long}
@@ -40,6 +40,7 @@ stopped : (reading : Reading) (n : ℕ) (lines : List Bytes) (part : Part) → r
 stopped reading n lines part e stops =
     subst (LeadsTo n reading lines) (ok_is {E = Fault} (record { reading = reading; line = n; left = lines }) part e) (here reading n lines stops)
 
+-- the lines that were read lead to the part
 pub read_on-leads : (n : ℕ) (reading : Reading) (lines : List Bytes) (part : Part) → read_on true n reading lines ≡ Ok part → LeadsTo n reading lines part
 read_on-leads n reading [] part e = stopped reading n [] part e tt
 read_on-leads n reading (line ∷ lines) part e =

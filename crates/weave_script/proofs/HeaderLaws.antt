@@ -8,10 +8,13 @@ use Rattle.weave_text.specs.Lines.{Word, Line}
 use Rattle.weave_text.specs.Numbers.{is_number}
 use Rattle.weave_script.specs.declared.fault.Cause.{Cause}
 use Rattle.weave_script.specs.declared.fault.Cause.TheVariants as causes
-use Rattle.weave_script.specs.Fields.{◌>>=◌, number_in}
+use Rattle.proof_base.specs.Steps.{◌>>=◌}
+use Rattle.weave_script.specs.Fields.{number_in}
 use Rattle.weave_script.specs.HeaderLine.{header_of, sizes_of}
 use Rattle.weave_script.specs.ScriptLines.{header_line}
-use Rattle.weave_script.proofs.Binds.{bind_ok, bind_at, pick, ok_is, is_word}
+use Rattle.proof_base.proofs.Steps.{bind_ok, bind_at, ok_is}
+use Rattle.weave_report.proofs.ReadSteps.{is_word}
+use Rattle.weave_script.proofs.Binds.{pick}
 use Rattle.weave_script.proofs.FieldLaws.{NumberLaws, number_in-ok, number_in-number}
 use Rattle.weave_script.proofs.Numbers.{is_told, is_told-number_up_to}
 
@@ -31,6 +34,7 @@ module _ (laws : NumberLaws) where
       subst (λ (both : ℕ × ℕ). AreSizes both.0 both.1 × (gates ≡ decimal both.0) × (shards ≡ decimal both.1)) same
       (record { gates = (a.0, a.1); shards = (b.0, b.1) }, a.2, b.2)
 
+  -- a line that is read as a header is the header of those sizes
   pub header_of-ok : (line : Line) (n m : ℕ) → header_of line ≡ Ok (n, m) → AreSizes n m × (line ≡ header_line n m)
   header_of-ok [] n m e = absurd cc
   header_of-ok (a ∷ []) n m e = absurd cc
@@ -49,6 +53,7 @@ module _ (laws : NumberLaws) where
   number_again : (most n : ℕ) → most < 2 ^ 64 → n ≤ most → is_number (decimal n) ≡ true
   number_again most n small high = sym (is_told-number_up_to most (decimal n)) ∙ ap is_told (laws.back most n small high)
 
+  -- the header of sizes in their ranges is read as them
   pub header_of-line : (n m : ℕ) → AreSizes n m → header_of (header_line n m) ≡ Ok (n, m)
   header_of-line n m sizes =
       ap (λ (b : Bool). cond (b && is_number (decimal m)) (sizes_of (decimal n) (decimal m)) (Err causes.Header)) (number_again 8 n (lit< tt) sizes.gates.1)

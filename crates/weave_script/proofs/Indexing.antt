@@ -15,7 +15,7 @@ use Rattle.graph_ops.specs.declared.op.Op.TheVariants.{Create, Delete, Set, Unse
 use Rattle.program_defs.specs.declared.script.Request.{Request}
 use Rattle.program_defs.specs.declared.script.Work.TheVariants.{Change}
 use Rattle.program_defs.specs.Works.{is_look}
-use Rattle.weave_script.specs.Indexed.{IsSetOf, IsPlaces, IsNew}
+use Rattle.weave_script.specs.Indexed.{IsSetOf, IsPlaces, IsNewRequest}
 use Rattle.weave_script.specs.Limits.{with_names, vertices_of, vertices_of_work, vertices_of_op, programs_of, gets_of, gets_of_work, is_get}
 use Rattle.weave_script.specs.RequestLines.{request_of}
 use Rattle.weave_script.specs.StepLines.{place_of}
@@ -67,7 +67,7 @@ module _ {X : Type 0} where
 
 -- a new name was put with the place behind all
 pub places_put : (pairs after : List (List ℕ × ℕ)) (requests : List Request) (name : Name) (place : ℕ) (request : Request)
-    → Writes name place pairs after → IsPlaces pairs requests → IsNew name place requests → request.name ≡ name → IsPlaces after (requests ++ request ∷ [])
+    → Writes name place pairs after → IsPlaces pairs requests → IsNewRequest name place requests → request.name ≡ name → IsPlaces after (requests ++ request ∷ [])
 places_put pairs after requests name place request writes places new named other = writes other ∙ ap (λ b. cond b (Some place) (at_key other pairs)) (same_both_ways name other) ∙ go (same_name other name) refl
   where
     go : (b : Bool) → same_name other name ≡ b → cond b (Some place) (at_key other pairs) ≡ place_of other (requests ++ request ∷ [])
@@ -82,24 +82,29 @@ places_put pairs after requests name place request writes places new named other
 
 -- ---- counts of one more request
 
+-- the vertices with one more request
 pub vertices_of-push : (requests : List Request) (request : Request) → vertices_of (requests ++ request ∷ []) ≡ with_names (vertices_of requests) (vertices_of_work request.work)
 vertices_of-push requests request =
     ap (λ names. with_names [] names) (flat_map-append (λ (r : Request). vertices_of_work r.work) requests (request ∷ []) ∙ ap (λ more. flat_map (λ (r : Request). vertices_of_work r.work) requests ++ more) (append-nil (vertices_of_work request.work)))
     ∙ fold-append (λ so_far name. with_name name so_far) [] (flat_map (λ (r : Request). vertices_of_work r.work) requests) (vertices_of_work request.work)
 
+-- the number of `get`s with one more request
 pub gets_of-push : (requests : List Request) (request : Request) → gets_of (requests ++ request ∷ []) ≡ gets_of requests + gets_of_work request.work
 gets_of-push requests request = sum_by-append (λ (r : Request). gets_of_work r.work) requests (request ∷ []) ∙ omega arith
 
+-- the number of programs with one more request
 pub programs_of-push : (requests : List Request) (request : Request) → programs_of (requests ++ request ∷ []) ≡ programs_of requests + cond (is_look request.work) 1 0
 programs_of-push requests request = sum_by-append (λ (r : Request). cond (is_look r.work) 1 0) requests (request ∷ []) ∙ omega arith
 
 -- ---- a transaction, and its operations
 
+-- a transaction's operations leave the places of requests as they are
 pub op_places : (pairs : List (List ℕ × ℕ)) (requests : List Request) (opening : Opening) (ops more : List Op)
     → IsPlaces pairs (requests ++ request_of opening (Change ops) ∷ []) → IsPlaces pairs (requests ++ request_of opening (Change more) ∷ [])
 op_places pairs requests opening ops more places name =
     places name ∙ position_from-last (λ (r : Request). same_name r.name name) 0 requests (request_of opening (Change ops)) (request_of opening (Change more)) refl
 
+-- one more operation adds its vertices
 pub op_vertices : (requests : List Request) (opening : Opening) (ops : List Op) (op : Op)
     → vertices_of (requests ++ request_of opening (Change (ops ++ op ∷ [])) ∷ []) ≡ with_names (vertices_of (requests ++ request_of opening (Change ops) ∷ [])) (vertices_of_op op)
 op_vertices requests opening ops op =
@@ -108,16 +113,19 @@ op_vertices requests opening ops op =
     ∙ fold-append (λ so_far name. with_name name so_far) (vertices_of requests) (flat_map vertices_of_op ops) (vertices_of_op op)
     ∙ ap (λ names. with_names names (vertices_of_op op)) (sym (vertices_of-push requests (request_of opening (Change ops))))
 
+-- one more operation adds 1 to the number of `get`s if it is one
 pub op_gets : (requests : List Request) (opening : Opening) (ops : List Op) (op : Op)
     → gets_of (requests ++ request_of opening (Change (ops ++ op ∷ [])) ∷ []) ≡ gets_of (requests ++ request_of opening (Change ops) ∷ []) + cond (is_get op) 1 0
 op_gets requests opening ops op =
     let more : count_by is_get (ops ++ op ∷ []) ≡ count_by is_get ops + cond (is_get op) 1 0 = sum_by-append (λ o. cond (is_get o) 1 0) ops (op ∷ []) ∙ omega arith in
     omega (arith, gets_of-push requests (request_of opening (Change (ops ++ op ∷ []))), gets_of-push requests (request_of opening (Change ops)), more)
 
+-- a transaction's operations leave the number of programs as it is
 pub op_programs : (requests : List Request) (opening : Opening) (ops more : List Op)
     → programs_of (requests ++ request_of opening (Change more) ∷ []) ≡ programs_of (requests ++ request_of opening (Change ops) ∷ [])
 op_programs requests opening ops more = programs_of-push requests (request_of opening (Change more)) ∙ sym (programs_of-push requests (request_of opening (Change ops)))
 
+-- an operation that is no `get` fails the test
 pub not_get : (op : Op) → ((v : Name) → op ≡ Get v → ⊥) → is_get op ≡ false
 not_get (Create v) other = refl
 not_get (Delete v) other = refl
@@ -129,9 +137,11 @@ not_get (Tag v edge key value) other = refl
 not_get (Untag v edge key) other = refl
 not_get (Get v) other = absurd (other v refl)
 
+-- a transaction without operations adds no vertex
 pub transaction_vertices : (requests : List Request) (opening : Opening) → vertices_of (requests ++ request_of opening (Change []) ∷ []) ≡ vertices_of requests
 transaction_vertices requests opening = vertices_of-push requests (request_of opening (Change []))
 
+-- a transaction without operations adds no program and no `get`
 pub transaction_counts : (requests : List Request) (opening : Opening)
     → (programs_of (requests ++ request_of opening (Change []) ∷ []) ≡ programs_of requests) × (gets_of (requests ++ request_of opening (Change []) ∷ []) ≡ gets_of requests)
 transaction_counts requests opening = (omega (arith, programs_of-push requests (request_of opening (Change []))), omega (arith, gets_of-push requests (request_of opening (Change []))))
@@ -141,6 +151,7 @@ pub get_more : (requests : List Request) (opening : Opening) (ops : List Op) (op
     → gets_of (requests ++ request_of opening (Change ops) ∷ []) + 1 ≡ gets_of (requests ++ request_of opening (Change (ops ++ op ∷ [])) ∷ [])
 get_more requests opening ops op get = sym (op_gets requests opening ops op ∙ ap (λ b. gets_of (requests ++ request_of opening (Change ops) ∷ []) + cond b 1 0) get)
 
+-- an operation that is no `get` leaves their number as it is
 pub no_get_more : (requests : List Request) (opening : Opening) (ops : List Op) (op : Op) → is_get op ≡ false
     → gets_of (requests ++ request_of opening (Change ops) ∷ []) ≡ gets_of (requests ++ request_of opening (Change (ops ++ op ∷ [])) ∷ [])
 no_get_more requests opening ops op none =

@@ -10,7 +10,7 @@ use Rattle.program_defs.specs.declared.script.Work.TheVariants.{Look}
 use Rattle.weave_text.specs.Lines.{Line}
 use Rattle.weave_script.specs.declared.reading.Opening.{Opening}
 use Rattle.weave_script.specs.declared.reading.Reading.{Reading}
-use Rattle.weave_script.specs.Fields.{◌>>=◌}
+use Rattle.proof_base.specs.Steps.{◌>>=◌}
 use Rattle.weave_script.specs.Indexed.{IsPlaces}
 use Rattle.weave_script.specs.Reading.{after_prog, unless_taken}
 use Rattle.weave_script.specs.RequestLines.{request_of, prog_of}

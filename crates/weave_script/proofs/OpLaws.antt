@@ -11,7 +11,9 @@ use Rattle.weave_script.specs.Fields.{name_of}
 use Rattle.weave_script.specs.OpLines.{of_name, of_two_names, of_three_names, of_four_names, op_of, op_of_one, op_of_two, op_of_three, op_of_four, is_end}
 use Rattle.weave_script.specs.ScriptLines.{op_line, end_line}
 use Rattle.weave_script.specs.Scripts.{IsName, IsOperation}
-use Rattle.weave_script.proofs.Binds.{bind_ok, bind_at, pick, ok_is, is_word}
+use Rattle.proof_base.proofs.Steps.{bind_ok, bind_at, ok_is}
+use Rattle.weave_report.proofs.ReadSteps.{is_word}
+use Rattle.weave_script.proofs.Binds.{pick}
 use Rattle.weave_script.proofs.FieldLaws.{name_of-ok, name_of-name}
 
 -- ---- what is made of names
@@ -104,6 +106,7 @@ op_of-ok (word ∷ a ∷ b ∷ c ∷ []) op e = three-ok word a b c op e
 op_of-ok (word ∷ a ∷ b ∷ c ∷ d ∷ []) op e = four-ok word a b c d op e
 op_of-ok (word ∷ a ∷ b ∷ c ∷ d ∷ more ∷ words) op e = absurd cc
 
+-- a line that passes the test is the end of a transaction
 pub is_end-ok : (line : Line) → is_end line ≡ true → line ≡ end_line
 is_end-ok [] e = absurd cc
 is_end-ok (word ∷ []) e = ap (λ word. word ∷ []) (is_word word (codes "end") e)

@@ -19,7 +19,8 @@ use Rattle.weave_script.specs.declared.reading.Opening.{Opening}
 use Rattle.weave_script.specs.declared.reading.Place.{Place}
 use Rattle.weave_script.specs.declared.reading.Place.TheVariants.{Start, Between, Inside, Behind}
 use Rattle.weave_script.specs.declared.reading.Reading.{Reading}
-use Rattle.weave_script.specs.Fields.{Read, ◌>>=◌}
+use Rattle.proof_base.specs.Steps.{◌>>=◌}
+use Rattle.weave_script.specs.Fields.{ReadOrCause}
 use Rattle.weave_script.specs.HeaderLine.{header_of}
 use Rattle.weave_script.specs.Limits.{over_limit}
 use Rattle.weave_script.specs.OpLines.{op_of}
@@ -29,7 +30,9 @@ use Rattle.weave_script.specs.RequestLines.{request_of, tx_of, prog_of}
 use Rattle.weave_script.specs.ScriptLines.{header_line, op_line, opening_line, end_line, request_lines, phase_line, item_lines, step_line, steps_line, script_lines}
 use Rattle.weave_script.specs.Scripts.{IsOperation, IsRequest, IsStep, RiseTo, IsScript, names_of}
 use Rattle.weave_script.specs.StepLines.{place_of, step_of}
-use Rattle.weave_script.proofs.Binds.{bind_ok, pick, ok_is, is_word}
+use Rattle.proof_base.proofs.Steps.{bind_ok, ok_is}
+use Rattle.weave_report.proofs.ReadSteps.{is_word}
+use Rattle.weave_script.proofs.Binds.{pick}
 use Rattle.weave_script.proofs.FieldLaws.{NumberLaws}
 use Rattle.weave_script.proofs.HeaderLaws.{AreSizes, header_of-ok}
 use Rattle.weave_script.proofs.Items.{item_lines-push_request, item_lines-push_phase}
@@ -75,9 +78,11 @@ lines_so_far n m requests phases Between = front_lines n m requests phases
 lines_so_far n m requests phases (Inside opening ops) = front_lines n m requests phases ++ opening_line opening.name opening.session opening.gate ∷ map op_line ops
 lines_so_far n m requests phases (Behind steps) = front_lines n m requests phases ++ steps_line ∷ map (step_line requests) steps
 
+-- the reading is one of a valid script so far
 abbrev pub IsGoodReading : Reading → Type 0
 IsGoodReading reading = IsGood reading.gates reading.shards reading.requests reading.phases reading.place
 
+-- the lines of a reading
 abbrev pub lines_of_reading : Reading → List Line
 lines_of_reading reading = lines_so_far reading.gates reading.shards reading.requests reading.phases reading.place
 
@@ -112,7 +117,7 @@ unfolding IsDistinct
 none_good n m sizes = record { sizes = sizes; each = tt; distinct = tt; rising = tt }
 
 -- after all these lines
-abbrev pub after_lines : Reading → List Line → Read Reading
+abbrev pub after_lines : Reading → List Line → ReadOrCause Reading
 after_lines reading [] = Ok reading
 after_lines reading (line ∷ lines) = after_line reading line >>= λ next. after_lines next lines
 

@@ -17,7 +17,8 @@ use Rattle.weave_script.specs.declared.reading.Opening.{Opening}
 use Rattle.weave_script.specs.declared.reading.Place.{Place}
 use Rattle.weave_script.specs.declared.reading.Place.TheVariants.{Start, Between, Inside, Behind}
 use Rattle.weave_script.specs.declared.reading.Reading.{Reading}
-use Rattle.weave_script.specs.Fields.{Read, ◌>>=◌}
+use Rattle.proof_base.specs.Steps.{◌>>=◌}
+use Rattle.weave_script.specs.Fields.{ReadOrCause}
 use Rattle.weave_script.specs.HeaderLine.{header_of}
 use Rattle.weave_script.specs.Limits.{over_limit}
 use Rattle.weave_script.specs.OpLines.{is_end, op_of}
@@ -27,7 +28,7 @@ use Rattle.weave_script.specs.RequestLines.{request_of, tx_of}
 use Rattle.weave_script.specs.ScriptLines.{header_line, op_line, opening_line, end_line, program_words, work_lines, request_lines, phase_line, phase_lines, due_phases, later_phases, item_lines, step_line, steps_line, steps_lines, script_lines}
 use Rattle.weave_script.specs.Scripts.{IsOperation, IsWork, IsRequest, IsStep, RiseTo, IsScript, names_of, steps_of}
 use Rattle.weave_script.specs.StepLines.{place_of, step_of}
-use Rattle.weave_script.proofs.Binds.{bind_at}
+use Rattle.proof_base.proofs.Steps.{bind_at}
 use Rattle.weave_script.proofs.FieldLaws.{NumberLaws}
 use Rattle.weave_script.proofs.HeaderLaws.{AreSizes, header_of-line}
 use Rattle.weave_script.proofs.LimitLaws.{AreFew, within-few, few-within, front_few, front_ops_few}
@@ -47,7 +48,7 @@ after_lines-append : (reading : Reading) (xs ys : List Line) → after_lines rea
 after_lines-append reading [] ys = refl
 after_lines-append reading (x ∷ xs) ys = through (after_line reading x) (λ next. after_lines-append next xs ys)
   where
-    through : (step : Read Reading) → ((next : Reading) → after_lines next (xs ++ ys) ≡ (after_lines next xs >>= λ last. after_lines last ys))
+    through : (step : ReadOrCause Reading) → ((next : Reading) → after_lines next (xs ++ ys) ≡ (after_lines next xs >>= λ last. after_lines last ys))
         → (step >>= λ next. after_lines next (xs ++ ys)) ≡ ((step >>= λ next. after_lines next xs) >>= λ last. after_lines last ys)
     through (Ok next) each = each next
     through (Err cause) each = refl
@@ -193,6 +194,7 @@ module _ (laws : NumberLaws) where
   abbrev pub last_reading : Script → Reading
   last_reading script = at script.gates script.shards script.requests script.phases (last_place script.steps)
 
+  -- the script of the last reading is the whole script
   pub script_at-last : (script : Script) → script_at (last_reading script).place (last_reading script) ≡ Ok script
   script_at-last script = go script.steps refl
     where

@@ -11,11 +11,14 @@ use Rattle.weave_text.specs.Lines.{Word, Line}
 use Rattle.weave_script.specs.declared.fault.Cause.{Cause}
 use Rattle.weave_script.specs.declared.fault.Cause.TheVariants as causes
 use Rattle.weave_script.specs.declared.reading.Opening.{Opening}
-use Rattle.weave_script.specs.Fields.{Read, ◌>>=◌, or_refused, name_of, number_in}
+use Rattle.proof_base.specs.Steps.{◌>>=◌}
+use Rattle.weave_script.specs.Fields.{ReadOrCause, or_refused, name_of, number_in}
 use Rattle.weave_script.specs.RequestLines.{opening_of, tx_of, tag_of, filter_of, bound_of, show_program, reach_program, around_program, path_program, show_of, reach_of, around_of, path_of, program_of, prog_of}
 use Rattle.weave_script.specs.ScriptLines.{filter_words, program_words}
 use Rattle.weave_script.specs.Scripts.{IsName, IsFilter, IsProgram}
-use Rattle.weave_script.proofs.Binds.{bind_ok, bind_at, pick, ok_is, is_word}
+use Rattle.proof_base.proofs.Steps.{bind_ok, bind_at, ok_is}
+use Rattle.weave_report.proofs.ReadSteps.{is_word}
+use Rattle.weave_script.proofs.Binds.{pick}
 use Rattle.weave_script.proofs.FieldLaws.{NumberLaws, name_of-ok, name_of-name, number_in-ok, number_in-number}
 
 -- the name, the session and the gatekeeper, of so many, of a request
@@ -56,7 +59,7 @@ tag_of-ok key value pass e =
     subst (λ pass. IsFilter pass × (codes "where" ∷ key ∷ value ∷ [] ≡ filter_words pass)) (ok_is {E = Cause} (Some (record { key = first.0; value = second.0 })) pass second.2)
     ((subst IsName a.1 a.0, subst IsName b.1 b.0), λ i. codes "where" ∷ a.1 i ∷ b.1 i ∷ [])
 
-filter_of-ok : (words : Line) (filter : Read (Option Filter)) (pass : Option Filter) → filter_of words ≡ Some filter → filter ≡ Ok pass → IsFilter pass × (words ≡ filter_words pass)
+filter_of-ok : (words : Line) (filter : ReadOrCause (Option Filter)) (pass : Option Filter) → filter_of words ≡ Some filter → filter ≡ Ok pass → IsFilter pass × (words ≡ filter_words pass)
 filter_of-ok [] filter pass form e =
     subst (λ pass. IsFilter pass × ([] ≡ filter_words pass)) (ok_is {E = Cause} None pass (some_is (Ok None) filter form ∙ e)) (tt, refl)
 filter_of-ok (a ∷ []) filter pass form e = absurd cc
@@ -101,6 +104,7 @@ module _ (laws : NumberLaws) where
       ∙ bind_at (number_in 0 63 causes.Session (decimal opening.session)) (λ session. number_in 0 (gates - 1) causes.Gatekeeper (decimal opening.gate) >>= λ gate. Ok (record { name = opening.name; session = session; gate = gate })) opening.session (number_in-number laws 0 63 causes.Session opening.session (lit< tt) low_session h.session)
       ∙ bind_at (number_in 0 (gates - 1) causes.Gatekeeper (decimal opening.gate)) (λ gate. Ok (record { name = opening.name; session = opening.session; gate = gate })) opening.gate (number_in-number laws 0 (gates - 1) causes.Gatekeeper opening.gate small low top)
 
+  -- words that are read as an opening are those of it
   pub tx_of-ok : (gates : ℕ) → 1 ≤ gates → gates ≤ 8 → (line : Line) (opening : Opening) → tx_of gates line ≡ Ok opening → IsOpening gates opening × (line ≡ opening_words opening)
   tx_of-ok gates some few [] opening e = absurd cc
   tx_of-ok gates some few (a ∷ []) opening e = absurd cc
@@ -108,6 +112,7 @@ module _ (laws : NumberLaws) where
   tx_of-ok gates some few (a ∷ b ∷ c ∷ []) opening e = opening_of-ok gates some few a b c opening e
   tx_of-ok gates some few (a ∷ b ∷ c ∷ d ∷ words) opening e = absurd cc
 
+  -- the words of an opening are read as it
   pub tx_of-words : (gates : ℕ) → gates ≤ 8 → (opening : Opening) → IsOpening gates opening → tx_of gates (opening_words opening) ≡ Ok opening
   tx_of-words gates few opening h = opening_of-words gates few opening h
 
@@ -123,7 +128,7 @@ module _ (laws : NumberLaws) where
   abbrev IsReadAs : Line → Program → Type 0
   IsReadAs words program = IsProgram program × (words ≡ program_words program)
 
-  show_of-ok : (words : Line) (form : Read Program) (program : Program) → show_of words ≡ Some form → form ≡ Ok program → IsReadAs (codes "show" ∷ words) program
+  show_of-ok : (words : Line) (form : ReadOrCause Program) (program : Program) → show_of words ≡ Some form → form ≡ Ok program → IsReadAs (codes "show" ∷ words) program
   show_of-ok [] form program f e = absurd cc
   show_of-ok (v ∷ []) form program f e =
       let step = bind_ok (name_of v) (λ v. Ok (Show v)) program (some_is (show_program v) form f ∙ e) in
@@ -131,7 +136,7 @@ module _ (laws : NumberLaws) where
       subst (IsReadAs (codes "show" ∷ v ∷ [])) (ok_is {E = Cause} (Show step.0) program step.2) (subst IsName a.1 a.0, λ i. codes "show" ∷ a.1 i ∷ [])
   show_of-ok (v ∷ w ∷ words) form program f e = absurd cc
 
-  reach_of-ok : (words : Line) (form : Read Program) (program : Program) → reach_of words ≡ Some form → form ≡ Ok program → IsReadAs (codes "reach" ∷ words) program
+  reach_of-ok : (words : Line) (form : ReadOrCause Program) (program : Program) → reach_of words ≡ Some form → form ≡ Ok program → IsReadAs (codes "reach" ∷ words) program
   reach_of-ok [] form program f e = absurd cc
   reach_of-ok (from ∷ []) form program f e = absurd cc
   reach_of-ok (from ∷ to ∷ words) form program f e =
@@ -145,7 +150,7 @@ module _ (laws : NumberLaws) where
       subst (IsReadAs (codes "reach" ∷ from ∷ to ∷ words)) (ok_is {E = Cause} (Reach first.0 second.0 third.0) program third.2)
       ((subst IsName a.1 a.0, subst IsName b.1 b.0, c.0), λ i. codes "reach" ∷ a.1 i ∷ b.1 i ∷ c.1 i)
 
-  around_of-ok : (words : Line) (form : Read Program) (program : Program) → around_of words ≡ Some form → form ≡ Ok program → IsReadAs (codes "around" ∷ words) program
+  around_of-ok : (words : Line) (form : ReadOrCause Program) (program : Program) → around_of words ≡ Some form → form ≡ Ok program → IsReadAs (codes "around" ∷ words) program
   around_of-ok [] form program f e = absurd cc
   around_of-ok (from ∷ []) form program f e = absurd cc
   around_of-ok (from ∷ bound ∷ words) form program f e =
@@ -159,7 +164,7 @@ module _ (laws : NumberLaws) where
       subst (IsReadAs (codes "around" ∷ from ∷ bound ∷ words)) (ok_is {E = Cause} (Around first.0 second.0 third.0) program third.2)
       ((subst IsName a.1 a.0, b.0, c.0), λ i. codes "around" ∷ a.1 i ∷ b.1 i ∷ c.1 i)
 
-  path_of-ok : (words : Line) (form : Read Program) (program : Program) → path_of words ≡ Some form → form ≡ Ok program → IsReadAs (codes "path" ∷ words) program
+  path_of-ok : (words : Line) (form : ReadOrCause Program) (program : Program) → path_of words ≡ Some form → form ≡ Ok program → IsReadAs (codes "path" ∷ words) program
   path_of-ok [] form program f e = absurd cc
   path_of-ok (from ∷ []) form program f e = absurd cc
   path_of-ok (from ∷ to ∷ []) form program f e = absurd cc
@@ -176,7 +181,7 @@ module _ (laws : NumberLaws) where
       subst (IsReadAs (codes "path" ∷ from ∷ to ∷ bound ∷ words)) (ok_is {E = Cause} (Path first.0 second.0 third.0 fourth.0) program fourth.2)
       ((subst IsName a.1 a.0, subst IsName b.1 b.0, c.0, d.0), λ i. codes "path" ∷ a.1 i ∷ b.1 i ∷ c.1 i ∷ d.1 i)
 
-  program_of-ok : (words : Line) (form : Read Program) (program : Program) → program_of words ≡ Some form → form ≡ Ok program → IsReadAs words program
+  program_of-ok : (words : Line) (form : ReadOrCause Program) (program : Program) → program_of words ≡ Some form → form ≡ Ok program → IsReadAs words program
   program_of-ok [] form program f e = absurd cc
   program_of-ok (word ∷ words) form program f e =
       pick _ _ _ _ f (λ same f. by (codes "show") same (show_of-ok words form program f e)) (λ other f.
@@ -206,6 +211,7 @@ module _ (laws : NumberLaws) where
       ∙ bind_at (name_of to) (λ to. bound_of (decimal bound) >>= λ bound. Ok (Path from to bound pass)) to (name_of-name to h.1)
       ∙ bind_at (bound_of (decimal bound)) (λ bound. Ok (Path from to bound pass)) bound (bound_of-number bound h.2))
 
+  -- words that are read as a program are those of it
   pub prog_of-ok : (gates : ℕ) → 1 ≤ gates → gates ≤ 8 → (line : Line) (opening : Opening) (program : Program) → prog_of gates line ≡ Ok (opening, program)
       → IsOpening gates opening × IsProgram program × (line ≡ opening_words opening ++ program_words program)
   prog_of-ok gates some few [] opening program e = absurd cc
@@ -221,6 +227,7 @@ module _ (laws : NumberLaws) where
       subst (λ (p : Opening × Program). IsOpening gates p.0 × IsProgram p.1 × (a ∷ b ∷ c ∷ words ≡ opening_words p.0 ++ program_words p.1)) both
       (front.0, back.0, λ i. front.1 i ++ back.1 i)
 
+  -- the words of a program are read as it
   pub prog_of-words : (gates : ℕ) → gates ≤ 8 → (opening : Opening) (program : Program) → IsOpening gates opening → IsProgram program
       → prog_of gates (opening_words opening ++ program_words program) ≡ Ok (opening, program)
   prog_of-words gates few opening program h k =

@@ -12,11 +12,14 @@ use Rattle.program_defs.specs.declared.script.Step.TheVariants.{Begin, Judge, Se
 use Rattle.weave_text.specs.Lines.{Word, Line}
 use Rattle.weave_script.specs.declared.fault.Cause.{Cause}
 use Rattle.weave_script.specs.declared.fault.Cause.TheVariants as causes
-use Rattle.weave_script.specs.Fields.{◌>>=◌, or_refused, name_of, number_in}
+use Rattle.proof_base.specs.Steps.{◌>>=◌}
+use Rattle.weave_script.specs.Fields.{or_refused, name_of, number_in}
 use Rattle.weave_script.specs.ScriptLines.{step_line, name_of_request}
 use Rattle.weave_script.specs.Scripts.{IsRequest, IsStep, IsNotice, names_of}
 use Rattle.weave_script.specs.StepLines.{place_of, named_request, gate_of, shard_of, notice_of, epoch_of, of_gate, of_shard, of_request, hear_of, nop_of, apply_of, epoch_step_of, deliver_of, step_of, step_of_one, step_of_two, step_of_three}
-use Rattle.weave_script.proofs.Binds.{bind_ok, bind_at, pick, ok_is, is_word}
+use Rattle.proof_base.proofs.Steps.{bind_ok, bind_at, ok_is}
+use Rattle.weave_report.proofs.ReadSteps.{is_word}
+use Rattle.weave_script.proofs.Binds.{pick}
 use Rattle.weave_script.proofs.FieldLaws.{NumberLaws, name_of-ok, name_of-name, number_in-ok, number_in-number}
 use Rattle.weave_script.proofs.HeaderLaws.{AreSizes}
 use Rattle.weave_script.proofs.Places.{named-from_place_of, place_of-name, request_is_named}

@@ -8,17 +8,19 @@ use Rattle.weave_text.specs.Lines.{Bytes}
 use Rattle.weave_script.specs.declared.fault.Cause.{Cause}
 use Rattle.weave_script.specs.declared.fault.Cause.TheVariants as causes
 use Rattle.weave_script.specs.declared.reading.Reading.{Reading}
-use Rattle.weave_script.specs.Fields.{Read, ◌>>=◌}
+use Rattle.proof_base.specs.Steps.{◌>>=◌}
+use Rattle.weave_script.specs.Fields.{ReadOrCause}
 use Rattle.weave_script.specs.ReadText.{Fault, Part, at_line, read_on, read_part, read_text, script_at}
 use Rattle.weave_script.specs.Reading.{start, after_line}
 use Rattle.weave_script.specs.ScriptLines.{script_lines, script_text, IsTextOf}
 use Rattle.weave_script.specs.Scripts.{IsScript}
-use Rattle.weave_script.proofs.Binds.{bind_ok, bind_at, ok_is}
+use Rattle.proof_base.proofs.Steps.{bind_ok, bind_at, ok_is}
 use Rattle.weave_script.proofs.FieldLaws.{NumberLaws}
 use Rattle.weave_script.proofs.Reached.{after_lines, lines_lead, script_reached}
 use Rattle.weave_script.proofs.ReadAgain.{last_reading, script_at-last, script_again}
 
-pub at_line_ok : {A : Type 0} (n : ℕ) (read : Read A) (value : A) → at_line n read ≡ Ok value → read ≡ Ok value
+-- what is read at a line is what is read
+pub at_line_ok : {A : Type 0} (n : ℕ) (read : ReadOrCause A) (value : A) → at_line n read ≡ Ok value → read ≡ Ok value
 at_line_ok n (Ok other) value e = ap (λ v. Ok v) (ok_is {E = Fault} other value e)
 at_line_ok n (Err cause) value e = absurd cc
 
@@ -53,6 +55,7 @@ kept-read_on n reading (line ∷ lines) last e = go (λ next e. kept-read_on (su
         let more = rest step.0 step.2 in
         (more.0, ap (λ read. at_line n read >>= λ next. read_on false (suc n) next lines) step.1 ∙ more.1)
 
+-- a text that is read is not too long
 pub not_long : (long : Bool) (fault : Fault) (rest : Result Part Fault) (part : Part) → cond long (Err fault) rest ≡ Ok part → rest ≡ Ok part
 not_long true fault rest part e = absurd cc
 not_long false fault rest part e = e
@@ -97,6 +100,7 @@ pub script-from_text : (bytes : Bytes) (script : Script) → IsTextOf bytes scri
 unfolding IsTextOf
 script-from_text bytes script text = text.0
 
+-- a text from which something is read is not too long
 pub long : (b : Bool) (fault : Fault) (rest : Result Part Fault) {A : Type 0} (f : Part → Result A Fault) (value : A) → (cond b (Err fault) rest >>= f) ≡ Ok value → b ≡ false
 long true fault rest f value e = absurd cc
 long false fault rest f value e = refl

@@ -1,5 +1,6 @@
 -- Fields of lines: what a word is read as, or for which cause it is refused.
 use Rattle.std.specs.Prelude.{ℕ, Option, Some, None, Result, Ok, Err, nat_lt, if◌then◌else◌}
+use Rattle.proof_base.specs.Steps.{◌>>=◌}
 use Rattle.weave_data.specs.Names.{is_name}
 use Rattle.weave_data.specs.declared.name.Name.{Name}
 use Rattle.weave_text.specs.Lines.{Word}
@@ -10,34 +11,28 @@ use Rattle.weave_script.specs.declared.fault.Cause.{Cause}
 use Rattle.weave_script.specs.declared.fault.Cause.TheVariants as causes
 
 -- what is read, or the cause for which it is refused
-abbrev pub Read : Type 0 → Type 0
-Read A = Result A Cause
-
-infixl 10 ◌>>=◌
--- where the one was read, the other
-abbrev pub ◌>>=◌ : {A B E : Type 0} → Result A E → (A → Result B E) → Result B E
-Ok value >>= next = next value
-Err fault >>= next = Err fault
+abbrev pub ReadOrCause : Type 0 → Type 0
+ReadOrCause A = Result A Cause
 
 -- what is there, or else refused for the cause
-abbrev pub or_refused : {A : Type 0} → Cause → Option A → Read A
+abbrev pub or_refused : {A : Type 0} → Cause → Option A → ReadOrCause A
 or_refused cause None = Err cause
 or_refused cause (Some value) = Ok value
 
 -- the name that the word is
-abbrev pub name_of : Word → Read Name
+abbrev pub name_of : Word → ReadOrCause Name
 name_of word = if is_name word then Ok word else Err causes.Name
 
 -- the number that was found, where the cause is for larger ones
-abbrev pub found_number : Cause → Numeral → Read ℕ
+abbrev pub found_number : Cause → Numeral → ReadOrCause ℕ
 found_number cause NoNumber = Err causes.Number
 found_number cause TooLarge = Err cause
 found_number cause (Number n) = Ok n
 
 -- the number, where it is at least so much
-abbrev pub at_least : ℕ → Cause → ℕ → Read ℕ
+abbrev pub at_least : ℕ → Cause → ℕ → ReadOrCause ℕ
 at_least least cause n = if nat_lt n least then Err cause else Ok n
 
 -- the number that the word is; outside of least to most the cause is that of its place
-abbrev pub number_in : ℕ → ℕ → Cause → Word → Read ℕ
+abbrev pub number_in : ℕ → ℕ → Cause → Word → ReadOrCause ℕ
 number_in least most cause word = found_number cause (number_up_to most word) >>= λ n. at_least least cause n

@@ -9,7 +9,7 @@ use Rattle.weave_script.specs.declared.fault.LineFault.TheVariants.{Refused, Mem
 use Rattle.weave_script.specs.declared.index.Index.{Index}
 use Rattle.weave_script.specs.declared.reader.Reader.{Reader}
 use Rattle.weave_script.specs.declared.reading.Reading.{Reading}
-use Rattle.weave_script.specs.Fields.{Read}
+use Rattle.weave_script.specs.Fields.{ReadOrCause}
 use Rattle.weave_script.specs.Limits.{over_limit, vertices_of, programs_of, gets_of}
 use Rattle.weave_script.specs.Reading.{requests_so_far, counts_so_far}
 use Rattle.weave_script.specs.StepLines.{place_of}
@@ -24,8 +24,8 @@ abbrev pub IsPlaces : List (List ℕ × ℕ) → List Request → Type 0
 IsPlaces pairs requests = (name : Name) → at_key name pairs ≡ place_of name requests
 
 -- no request has the name, and the place is that of a request behind them
-abbrev pub IsNew : Name → ℕ → List Request → Type 0
-IsNew name place requests = (place_of name requests ≡ None) × (place ≡ length requests)
+abbrev pub IsNewRequest : Name → ℕ → List Request → Type 0
+IsNewRequest name place requests = (place_of name requests ≡ None) × (place ≡ length requests)
 
 -- the index is that of these requests
 pub record IsIndexOf (index : Index) (requests : List Request) : Type 0 where
@@ -39,12 +39,12 @@ abbrev pub IsIndexed : Reader → Type 0
 IsIndexed reader = IsIndexOf reader.index (requests_so_far reader.reading.place reader.reading.requests)
 
 -- and no limit is met
-pub record IsReady (reader : Reader) : Type 0 where
+pub record IsReaderReady (reader : Reader) : Type 0 where
   pub indexed : IsIndexed reader
   pub within : over_limit (counts_so_far reader.reading) ≡ None
 
 -- a function changes the reader to that after a line, or gives the line's cause, unless memory runs out
-abbrev pub Gives : (Reader → Type 0) → Result Unit LineFault → Reader → Read Reading → Type 0
-Gives Fits (Ok done) reader read = (read ≡ Ok reader.reading) × Fits reader
-Gives Fits (Err (Refused cause)) reader read = read ≡ Err cause
-Gives Fits (Err Memory) reader read = Unit {0}
+abbrev pub GivesReading : (Reader → Type 0) → Result Unit LineFault → Reader → ReadOrCause Reading → Type 0
+GivesReading Fits (Ok done) reader read = (read ≡ Ok reader.reading) × Fits reader
+GivesReading Fits (Err (Refused cause)) reader read = read ≡ Err cause
+GivesReading Fits (Err Memory) reader read = Unit {0}

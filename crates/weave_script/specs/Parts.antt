@@ -12,14 +12,15 @@ use Rattle.weave_script.specs.declared.part.Taken.{Taken}
 use Rattle.weave_script.specs.declared.part.Taken.TheVariants as taken
 use Rattle.weave_script.specs.declared.reader.Reader.{Reader}
 use Rattle.weave_script.specs.declared.reading.Reading.{Reading}
-use Rattle.weave_script.specs.Indexed.{IsReady}
+use Rattle.weave_script.specs.Indexed.{IsReaderReady}
 use Rattle.weave_script.specs.ReadText.{Fault, is_open, is_report}
 use Rattle.weave_script.specs.ReadText as text
 use Rattle.weave_script.specs.Reading.{after_line}
 
 -- the part that was read, or its fault, unless memory runs out
 abbrev pub GivesPart : Result Part ScriptFault → Result text.Part Fault → Type 0
-GivesPart (Ok part) read = read ≡ Ok (record { reading = part.reader.reading; line = part.line; left = lines_of part.left.now })
+GivesPart (Ok part) read =
+    read ≡ Ok (record { reading = part.reader.reading; line = part.line; left = lines_of part.left.now })
 GivesPart (Err (Refused line cause)) read = read ≡ Err (record { line = line; cause = cause })
 GivesPart (Err Memory) read = Unit {0}
 
@@ -28,11 +29,14 @@ abbrev pub ends_before : Bool → Reading → Line → Bool
 ends_before report reading line = report && is_open reading.place && is_report line
 
 -- what a line of these words is taken as, where it isn't skipped, and the reader after it, unless memory runs out
-abbrev pub Takes : Bool → Reading → Line → Reader → Result Taken LineFault → Type 0
-Takes report reading line reader (Ok taken.Line) = IsReady reader × (ends_before report reading line ≡ false) × (after_line reading line ≡ Ok reader.reading)
-Takes report reading line reader (Ok taken.Nothing) = IsReady reader × (reader.reading ≡ reading) × (ends_before report reading line ≡ true)
-Takes report reading line reader (Err (line_fault.Refused cause)) = (ends_before report reading line ≡ false) × (after_line reading line ≡ Err cause)
-Takes report reading line reader (Err line_fault.Memory) = Unit {0}
+abbrev pub TakesLine : Bool → Reading → Line → Reader → Result Taken LineFault → Type 0
+TakesLine report reading line reader (Ok taken.Line) =
+    IsReaderReady reader × (ends_before report reading line ≡ false) × (after_line reading line ≡ Ok reader.reading)
+TakesLine report reading line reader (Ok taken.Nothing) =
+    IsReaderReady reader × (reader.reading ≡ reading) × (ends_before report reading line ≡ true)
+TakesLine report reading line reader (Err (line_fault.Refused cause)) =
+    (ends_before report reading line ≡ false) × (after_line reading line ≡ Err cause)
+TakesLine report reading line reader (Err line_fault.Memory) = Unit {0}
 
 -- the script before a report, or the fault of the text, unless memory runs out
 abbrev pub GivesHead : Result Head ScriptFault → Result text.Head Fault → Type 0

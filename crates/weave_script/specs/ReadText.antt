@@ -10,7 +10,8 @@ use Rattle.weave_script.specs.declared.fault.Cause.TheVariants as causes
 use Rattle.weave_script.specs.declared.reading.Place.{Place}
 use Rattle.weave_script.specs.declared.reading.Place.TheVariants.{Start, Between, Inside, Behind}
 use Rattle.weave_script.specs.declared.reading.Reading.{Reading}
-use Rattle.weave_script.specs.Fields.{Read, ◌>>=◌}
+use Rattle.proof_base.specs.Steps.{◌>>=◌}
+use Rattle.weave_script.specs.Fields.{ReadOrCause}
 use Rattle.weave_script.specs.Reading.{start, after_line}
 
 -- a line, by its number from 1, or 0 for the whole text, and what is wrong with it
@@ -25,7 +26,7 @@ pub record Part : Type 0 where
   pub left : List Bytes
 
 -- what is told of line n
-abbrev pub at_line : {A : Type 0} → ℕ → Read A → Result A Fault
+abbrev pub at_line : {A : Type 0} → ℕ → ReadOrCause A → Result A Fault
 at_line n (Ok value) = Ok value
 at_line n (Err cause) = Err (record { line = n; cause = cause })
 
@@ -46,16 +47,22 @@ abbrev pub read_on : Bool → ℕ → Reading → List Bytes → Result Part Fau
 read_on report n reading [] = Ok (record { reading = reading; line = n; left = [] })
 read_on report n reading (line ∷ lines) =
     if is_skipped line then read_on report (suc n) reading lines
-    else if report && is_open reading.place && is_report (words_of line) then Ok (record { reading = reading; line = n; left = line ∷ lines })
+    else if report && is_open reading.place && is_report (words_of line)
+    then Ok (record { reading = reading; line = n; left = line ∷ lines })
     else (at_line n (after_line reading (words_of line)) >>= λ next. read_on report (suc n) next lines)
 
 -- the script so far, with these steps
 abbrev pub script_with : Option (List Step) → Reading → Script
-script_with steps reading =
-    record { gates = reading.gates; shards = reading.shards; requests = reading.requests; phases = reading.phases; steps = steps }
+script_with steps reading = record {
+  gates = reading.gates;
+  shards = reading.shards;
+  requests = reading.requests;
+  phases = reading.phases;
+  steps = steps;
+}
 
 -- the script that ends there: not before its header, nor inside a transaction
-abbrev pub script_at : Place → Reading → Read Script
+abbrev pub script_at : Place → Reading → ReadOrCause Script
 script_at Start reading = Err causes.Header
 script_at Between reading = Ok (script_with None reading)
 script_at (Inside opening ops) reading = Err causes.End

@@ -14,7 +14,8 @@ use Rattle.weave_script.specs.declared.reading.Opening.{Opening}
 use Rattle.weave_script.specs.declared.reading.Place.{Place}
 use Rattle.weave_script.specs.declared.reading.Place.TheVariants.{Start, Between, Inside, Behind}
 use Rattle.weave_script.specs.declared.reading.Reading.{Reading}
-use Rattle.weave_script.specs.Fields.{Read, ◌>>=◌}
+use Rattle.proof_base.specs.Steps.{◌>>=◌}
+use Rattle.weave_script.specs.Fields.{ReadOrCause}
 use Rattle.weave_script.specs.HeaderLine.{header_of}
 use Rattle.weave_script.specs.Limits.{over_limit, counts_of}
 use Rattle.weave_script.specs.OpLines.{is_end, op_of}
@@ -49,36 +50,38 @@ steps_so_far (Behind steps) = steps
 -- what has a limit so far
 abbrev pub counts_so_far : Reading → Counts
 counts_so_far reading =
-    counts_of (length (operations_so_far reading.place)) (requests_so_far reading.place reading.requests) (length (steps_so_far reading.place))
+    counts_of (length (operations_so_far reading.place)) (requests_so_far reading.place reading.requests)
+    (length (steps_so_far reading.place))
 
 -- refused where the name stands at a request
-abbrev pub unless_taken : {A : Type 0} → Name → List Request → A → Read A
+abbrev pub unless_taken : {A : Type 0} → Name → List Request → A → ReadOrCause A
 unless_taken name requests value = if is_some (place_of name requests) then Err causes.Taken else Ok value
 
 -- after a line `tx`, by the words behind it
-abbrev pub after_tx : Reading → Line → Read Reading
+abbrev pub after_tx : Reading → Line → ReadOrCause Reading
 after_tx reading words =
     tx_of reading.gates words >>= λ opening.
     unless_taken opening.name reading.requests (record reading { place = Inside opening [] })
 
 -- after a line `prog`
-abbrev pub after_prog : Reading → Line → Read Reading
+abbrev pub after_prog : Reading → Line → ReadOrCause Reading
 after_prog reading words =
     prog_of reading.gates words >>= λ prog.
-    unless_taken prog.0.name reading.requests (record reading { requests = reading.requests ++ request_of prog.0 (Look prog.1) ∷ [] })
+    unless_taken prog.0.name reading.requests
+    (record reading { requests = reading.requests ++ request_of prog.0 (Look prog.1) ∷ [] })
 
 -- after a line `phase`: as many requests as so far stand before it
-abbrev pub after_phase : Reading → Line → Read Reading
+abbrev pub after_phase : Reading → Line → ReadOrCause Reading
 after_phase reading [] = Ok (record reading { phases = reading.phases ++ length reading.requests ∷ [] })
 after_phase reading (word ∷ words) = Err causes.Line
 
 -- after the line `steps`
-abbrev pub after_steps : Reading → Line → Read Reading
+abbrev pub after_steps : Reading → Line → ReadOrCause Reading
 after_steps reading [] = Ok (record reading { place = Behind [] })
 after_steps reading (word ∷ words) = Err causes.Line
 
 -- after a line between two requests
-abbrev pub after_item : Reading → Line → Read Reading
+abbrev pub after_item : Reading → Line → ReadOrCause Reading
 after_item reading [] = Err causes.Line
 after_item reading (word ∷ words) =
     if bytes_eq word (codes "tx") then after_tx reading words
@@ -88,37 +91,42 @@ after_item reading (word ∷ words) =
     else Err causes.Line
 
 -- after the first line
-abbrev pub after_header : Reading → Line → Read Reading
+abbrev pub after_header : Reading → Line → ReadOrCause Reading
 after_header reading line =
     header_of line >>= λ counts. Ok (record reading { gates = counts.0; shards = counts.1; place = Between })
 
 -- after a line inside a transaction: its end, or an operation
-abbrev pub after_line_inside : Reading → Opening → List Op → Line → Read Reading
+abbrev pub after_line_inside : Reading → Opening → List Op → Line → ReadOrCause Reading
 after_line_inside reading opening ops line =
-    if is_end line then Ok (record reading { requests = reading.requests ++ request_of opening (Change ops) ∷ []; place = Between })
+    if is_end line
+    then Ok (record reading {
+      requests = reading.requests ++ request_of opening (Change ops) ∷ [];
+      place = Between;
+    })
     else (op_of line >>= λ op. Ok (record reading { place = Inside opening (ops ++ op ∷ []) }))
 
 -- after a line behind `steps`
-abbrev pub after_step : Reading → List Step → Line → Read Reading
+abbrev pub after_step : Reading → List Step → Line → ReadOrCause Reading
 after_step reading steps line =
-    step_of reading.gates reading.shards (λ name. place_of name reading.requests) line >>= λ step. Ok (record reading { place = Behind (steps ++ step ∷ []) })
+    step_of reading.gates reading.shards (λ name. place_of name reading.requests) line >>= λ step.
+    Ok (record reading { place = Behind (steps ++ step ∷ []) })
 
 -- after a line at its place, limits aside
-abbrev pub after_line_at : Place → Reading → Line → Read Reading
+abbrev pub after_line_at : Place → Reading → Line → ReadOrCause Reading
 after_line_at Start reading line = after_header reading line
 after_line_at Between reading line = after_item reading line
 after_line_at (Inside opening ops) reading line = after_line_inside reading opening ops line
 after_line_at (Behind steps) reading line = after_step reading steps line
 
 -- refused where there is a cause
-abbrev pub unless_met : {A : Type 0} → A → Option Cause → Read A
+abbrev pub unless_met : {A : Type 0} → A → Option Cause → ReadOrCause A
 unless_met value None = Ok value
 unless_met value (Some cause) = Err cause
 
 -- refused where a limit is met
-abbrev pub within_limits : Reading → Read Reading
+abbrev pub within_limits : Reading → ReadOrCause Reading
 within_limits reading = unless_met reading (over_limit (counts_so_far reading))
 
 -- after a line
-abbrev pub after_line : Reading → Line → Read Reading
+abbrev pub after_line : Reading → Line → ReadOrCause Reading
 after_line reading line = after_line_at reading.place reading line >>= within_limits

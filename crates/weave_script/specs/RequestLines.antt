@@ -10,10 +10,11 @@ use Rattle.program_defs.specs.declared.script.Work.{Work}
 use Rattle.weave_text.specs.Lines.{Word, Line}
 use Rattle.weave_script.specs.declared.fault.Cause.TheVariants as causes
 use Rattle.weave_script.specs.declared.reading.Opening.{Opening}
-use Rattle.weave_script.specs.Fields.{Read, ◌>>=◌, or_refused, name_of, number_in}
+use Rattle.proof_base.specs.Steps.{◌>>=◌}
+use Rattle.weave_script.specs.Fields.{ReadOrCause, or_refused, name_of, number_in}
 
 -- the name, the session and the gatekeeper, of so many, of a request
-abbrev pub opening_of : ℕ → Word → Word → Word → Read Opening
+abbrev pub opening_of : ℕ → Word → Word → Word → ReadOrCause Opening
 opening_of gates name session gate =
     name_of name >>= λ name.
     number_in 0 63 causes.Session session >>= λ session.
@@ -24,17 +25,17 @@ opening_of gates name session gate =
 abbrev pub request_of : Opening → Work → Request
 request_of opening work = record { name = opening.name; session = opening.session; gate = opening.gate; work = work }
 
--- behind `tx`
-abbrev pub tx_of : ℕ → Line → Read Opening
+-- the words after `tx`
+abbrev pub tx_of : ℕ → Line → ReadOrCause Opening
 tx_of gates (name ∷ session ∷ gate ∷ []) = opening_of gates name session gate
 tx_of gates _ = Err causes.Line
 
 -- A form is None where the words haven't it; else it is what their fields are read as.
 abbrev pub Form : Type 0 → Type 0
-Form A = Option (Read A)
+Form A = Option (ReadOrCause A)
 
 -- the filter by a key and a value
-abbrev pub tag_of : Word → Word → Read (Option Filter)
+abbrev pub tag_of : Word → Word → ReadOrCause (Option Filter)
 tag_of key value = name_of key >>= λ key. name_of value >>= λ value. Ok (Some (record { key = key; value = value }))
 
 -- no filter, or behind `where` a key and a value
@@ -45,22 +46,24 @@ filter_of (word ∷ key ∷ value ∷ []) =
 filter_of _ = None
 
 -- a bound on edges
-abbrev pub bound_of : Word → Read ℕ
+abbrev pub bound_of : Word → ReadOrCause ℕ
 bound_of = number_in 0 1000 causes.Bound
 
 -- a program by its fields, from the left; a filter is read last
-abbrev pub show_program : Word → Read Program
+abbrev pub show_program : Word → ReadOrCause Program
 show_program v = name_of v >>= λ v. Ok (Show v)
 
-abbrev pub reach_program : Word → Word → Read (Option Filter) → Read Program
+abbrev pub reach_program : Word → Word → ReadOrCause (Option Filter) → ReadOrCause Program
 reach_program from to filter = name_of from >>= λ from. name_of to >>= λ to. filter >>= λ pass. Ok (Reach from to pass)
 
-abbrev pub around_program : Word → Word → Read (Option Filter) → Read Program
-around_program from bound filter = name_of from >>= λ from. bound_of bound >>= λ bound. filter >>= λ pass. Ok (Around from bound pass)
+abbrev pub around_program : Word → Word → ReadOrCause (Option Filter) → ReadOrCause Program
+around_program from bound filter =
+    name_of from >>= λ from. bound_of bound >>= λ bound. filter >>= λ pass. Ok (Around from bound pass)
 
-abbrev pub path_program : Word → Word → Word → Read (Option Filter) → Read Program
+abbrev pub path_program : Word → Word → Word → ReadOrCause (Option Filter) → ReadOrCause Program
 path_program from to bound filter =
-    name_of from >>= λ from. name_of to >>= λ to. bound_of bound >>= λ bound. filter >>= λ pass. Ok (Path from to bound pass)
+    name_of from >>= λ from. name_of to >>= λ to. bound_of bound >>= λ bound. filter >>= λ pass.
+    Ok (Path from to bound pass)
 
 -- behind `show`
 abbrev pub show_of : Line → Form Program
@@ -92,8 +95,8 @@ program_of (word ∷ words) =
     else if bytes_eq word (codes "path") then path_of words
     else None
 
--- behind `prog`: the words' form first, then the fields from the left
-abbrev pub prog_of : ℕ → Line → Read (Opening × Program)
+-- the words after `prog`: their form first, then the fields from the left
+abbrev pub prog_of : ℕ → Line → ReadOrCause (Opening × Program)
 prog_of gates (name ∷ session ∷ gate ∷ words) =
     or_refused causes.Line (program_of words) >>= λ program.
     opening_of gates name session gate >>= λ opening.

@@ -89,7 +89,8 @@ later_phases n (phase ∷ phases) = if nat_le phase n then later_phases n phases
 -- the lines of requests before which so many stand, with the phases between and behind them
 abbrev pub item_lines : ℕ → List Request → List ℕ → List Line
 item_lines n [] phases = phase_lines phases
-item_lines n (request ∷ requests) phases = phase_lines (due_phases n phases) ++ request_lines request ++ item_lines (n + 1) requests (later_phases n phases)
+item_lines n (request ∷ requests) phases =
+    phase_lines (due_phases n phases) ++ request_lines request ++ item_lines (n + 1) requests (later_phases n phases)
 
 -- a request's name by its place; one that isn't there has an empty name
 abbrev pub name_of_request : List Request → ℕ → Word
@@ -121,7 +122,9 @@ steps_lines requests (Some steps) = steps_line ∷ map (step_line requests) step
 
 -- a script's lines
 abbrev pub script_lines : Script → List Line
-script_lines script = header_line script.gates script.shards ∷ item_lines 0 script.requests script.phases ++ steps_lines script.requests script.steps
+script_lines script =
+    header_line script.gates script.shards ∷ item_lines 0 script.requests script.phases
+    ++ steps_lines script.requests script.steps
 
 -- a script's one printed text
 abbrev pub script_text : Script → Bytes

@@ -1,8 +1,7 @@
 -- Scripts that have a text.
-use Rattle.std.specs.Prelude.{◌≡◌, ◌≤◌, ◌<◌, ℕ, IsTrue, List, [], ◌∷◌, length, map, Option, Some, None}
+use Rattle.std.specs.Prelude.{◌≡◌, ◌≤◌, ◌<◌, ℕ, List, [], ◌∷◌, length, Option, Some, None}
 use Rattle.std.specs.List.{AllByRecursion, IsDistinct}
-use Rattle.weave_data.specs.Names.{is_name, same_name}
-use Rattle.weave_data.specs.declared.name.Name.{Name}
+use Rattle.weave_data.specs.Names.{same_name}
 use Rattle.graph_ops.specs.declared.op.Op.{Op}
 use Rattle.graph_ops.specs.declared.op.Op.TheVariants.{Create, Delete, Set, Unset, Link, Unlink, Tag, Untag, Get}
 use Rattle.program_defs.specs.declared.program.Filter.{Filter}
@@ -14,11 +13,8 @@ use Rattle.program_defs.specs.declared.script.Step.{Step}
 use Rattle.program_defs.specs.declared.script.Step.TheVariants.{Begin, Judge, Send, Say, Hear, Nop, Deliver, Apply, Visit, Reply, Collect, Epoch}
 use Rattle.program_defs.specs.declared.script.Work.{Work}
 use Rattle.program_defs.specs.declared.script.Work.TheVariants.{Change, Look}
+pub use Rattle.weave_report.specs.TextOf.{IsName, names_of}
 use Rattle.weave_script.specs.Limits.{over_limit, counts_of}
-
--- the bytes are those of a name
-abbrev pub IsName : Name → Type 0
-IsName name = IsTrue (is_name name)
 
 -- every field is a name
 abbrev pub IsOperation : Op → Type 0
@@ -75,10 +71,6 @@ IsStep gates shards requests (Reply request) = request < requests
 IsStep gates shards requests (Collect shard) = shard < shards
 IsStep gates shards requests (Epoch gate epoch) = (gate < gates) × (1 ≤ epoch) × (epoch ≤ 1000000)
 
--- the requests' names
-abbrev pub names_of : List Request → List Name
-names_of requests = map (λ request. request.name) requests
-
 -- each number is at least the one before it, and so many at most
 abbrev pub RiseTo : ℕ → ℕ → List ℕ → Type 0
 RiseTo low high [] = Unit {0}
@@ -89,7 +81,8 @@ abbrev pub steps_of : Option (List Step) → List Step
 steps_of None = []
 steps_of (Some steps) = steps
 
--- Everything is in its range, no two requests have one name, phases stand before, between and behind requests in their order, and no limit is met.
+-- Everything is in its range, no two requests have one name, phases stand before, between and behind requests in their
+-- order, and no limit is met.
 pub record IsScript (script : Script) : Type 0 where
   pub gates : (1 ≤ script.gates) × (script.gates ≤ 8)
   pub shards : (1 ≤ script.shards) × (script.shards ≤ 16)

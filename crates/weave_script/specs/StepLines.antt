@@ -9,56 +9,57 @@ use Rattle.program_defs.specs.declared.script.Step.{Step}
 use Rattle.program_defs.specs.declared.script.Step.TheVariants.{Begin, Judge, Send, Say, Hear, Nop, Deliver, Apply, Visit, Reply, Collect, Epoch}
 use Rattle.weave_text.specs.Lines.{Word, Line}
 use Rattle.weave_script.specs.declared.fault.Cause.TheVariants as causes
-use Rattle.weave_script.specs.Fields.{Read, ◌>>=◌, or_refused, name_of, number_in}
+use Rattle.proof_base.specs.Steps.{◌>>=◌}
+use Rattle.weave_script.specs.Fields.{ReadOrCause, or_refused, name_of, number_in}
 
 -- the place, from 0, of the request of a name
 abbrev pub place_of : Name → List Request → Option ℕ
 place_of name requests = position_from (λ request. same_name request.name name) 0 requests
 
 -- the place of the request that a word names, where names have these places
-abbrev pub named_request : (Name → Option ℕ) → Word → Read ℕ
+abbrev pub named_request : (Name → Option ℕ) → Word → ReadOrCause ℕ
 named_request places word = name_of word >>= λ name. or_refused causes.Request (places name)
 
--- the gatekeeper, of so many, that a word is
-abbrev pub gate_of : ℕ → Word → Read ℕ
+-- reads a word as a gatekeeper number below `gates`
+abbrev pub gate_of : ℕ → Word → ReadOrCause ℕ
 gate_of gates = number_in 0 (gates - 1) causes.Gatekeeper
 
--- the shard, of so many, that a word is
-abbrev pub shard_of : ℕ → Word → Read ℕ
+-- reads a word as a shard number below `shards`
+abbrev pub shard_of : ℕ → Word → ReadOrCause ℕ
 shard_of shards = number_in 0 (shards - 1) causes.Shard
 
 -- the number of a notice or a message
-abbrev pub notice_of : Word → Read ℕ
+abbrev pub notice_of : Word → ReadOrCause ℕ
 notice_of = number_in 1 100000 causes.Number
 
 -- the number of an epoch
-abbrev pub epoch_of : Word → Read ℕ
+abbrev pub epoch_of : Word → ReadOrCause ℕ
 epoch_of = number_in 1 1000000 causes.Number
 
 module _ (gates shards : ℕ) where
   -- what is made of a gatekeeper
-  abbrev pub of_gate : (ℕ → Step) → Word → Read Step
+  abbrev pub of_gate : (ℕ → Step) → Word → ReadOrCause Step
   of_gate make field = gate_of gates field >>= λ gate. Ok (make gate)
 
   -- what is made of a shard
-  abbrev pub of_shard : (ℕ → Step) → Word → Read Step
+  abbrev pub of_shard : (ℕ → Step) → Word → ReadOrCause Step
   of_shard make field = shard_of shards field >>= λ shard. Ok (make shard)
 
   -- the steps with two fields, from the left
-  abbrev pub hear_of : Word → Word → Read Step
+  abbrev pub hear_of : Word → Word → ReadOrCause Step
   hear_of first second = gate_of gates first >>= λ gate. notice_of second >>= λ notice. Ok (Hear gate notice)
 
-  abbrev pub nop_of : Word → Word → Read Step
+  abbrev pub nop_of : Word → Word → ReadOrCause Step
   nop_of first second = gate_of gates first >>= λ gate. of_shard (λ shard. Nop gate shard) second
 
-  abbrev pub apply_of : Word → Word → Read Step
+  abbrev pub apply_of : Word → Word → ReadOrCause Step
   apply_of first second = shard_of shards first >>= λ shard. of_gate (λ gate. Apply shard gate) second
 
-  abbrev pub epoch_step_of : Word → Word → Read Step
+  abbrev pub epoch_step_of : Word → Word → ReadOrCause Step
   epoch_step_of first second = gate_of gates first >>= λ gate. epoch_of second >>= λ epoch. Ok (Epoch gate epoch)
 
   -- a step with two fields
-  abbrev pub step_of_two : Word → Word → Word → Read Step
+  abbrev pub step_of_two : Word → Word → Word → ReadOrCause Step
   step_of_two word first second =
       if bytes_eq word (codes "hear") then hear_of first second
       else if bytes_eq word (codes "nop") then nop_of first second
@@ -67,20 +68,23 @@ module _ (gates shards : ℕ) where
       else Err causes.Line
 
   -- the step with three fields, from the left
-  abbrev pub deliver_of : Word → Word → Word → Read Step
-  deliver_of first second third = gate_of gates first >>= λ gate. shard_of shards second >>= λ shard. notice_of third >>= λ number. Ok (Deliver gate shard number)
+  abbrev pub deliver_of : Word → Word → Word → ReadOrCause Step
+  deliver_of first second third =
+      gate_of gates first >>= λ gate. shard_of shards second >>= λ shard. notice_of third >>= λ number.
+      Ok (Deliver gate shard number)
 
   -- a step with three fields
-  abbrev pub step_of_three : Word → Word → Word → Word → Read Step
-  step_of_three word first second third = if bytes_eq word (codes "deliver") then deliver_of first second third else Err causes.Line
+  abbrev pub step_of_three : Word → Word → Word → Word → ReadOrCause Step
+  step_of_three word first second third =
+      if bytes_eq word (codes "deliver") then deliver_of first second third else Err causes.Line
 
   module _ (places : Name → Option ℕ) where
     -- what is made of a request
-    abbrev pub of_request : (ℕ → Step) → Word → Read Step
+    abbrev pub of_request : (ℕ → Step) → Word → ReadOrCause Step
     of_request make field = named_request places field >>= λ request. Ok (make request)
 
     -- a step with one field
-    abbrev pub step_of_one : Word → Word → Read Step
+    abbrev pub step_of_one : Word → Word → ReadOrCause Step
     step_of_one word field =
         if bytes_eq word (codes "begin") then of_request (λ request. Begin request) field
         else if bytes_eq word (codes "judge") then of_gate (λ gate. Judge gate) field
@@ -92,7 +96,7 @@ module _ (gates shards : ℕ) where
         else Err causes.Line
 
     -- the step of a line
-    abbrev pub step_of : Line → Read Step
+    abbrev pub step_of : Line → ReadOrCause Step
     step_of (word ∷ field ∷ []) = step_of_one word field
     step_of (word ∷ first ∷ second ∷ []) = step_of_two word first second
     step_of (word ∷ first ∷ second ∷ third ∷ []) = step_of_three word first second third

@@ -11,7 +11,8 @@ use program_defs::Script;
 use std::alloc::Global;
 use weave_report::{Report, ReportCause, ReportFault, read_report};
 
-/// The script and the report of which the bytes are a text, first the script's and then the report's, or the first fault of the text.
+/// The script and the report of which the bytes are a text, first the script's and then the report's, or the first
+/// fault of the text.
 /// Lines are counted from the first one of all.
 pub fn read_check(alloc: Global, bytes: &[u8]) -> Result<(Script, Report), ScriptFault>
     ensures read { IfOk result (λ told. check_text bytes.now ≡ Ok told) }

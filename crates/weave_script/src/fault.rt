@@ -2,7 +2,7 @@
 
 use std::alloc::{AllocError, AllocFailed};
 
-/// What is wrong with a line: the first of these that holds in it, but that fields are told from the left.
+/// What is wrong with a line. Causes are checked in this order; fields are checked from left to right.
 #[derive(Clone, Copy, PartialEq, Eq, Debug)]
 pub enum Cause {
     /// The input has more than 4,194,304 bytes. The line told is 0.
@@ -88,7 +88,7 @@ impl Cause {
 pub enum ScriptFault {
     /// The first line that can't be accepted, from 1, or 0 for the whole input, and why.
     Refused { line: u32, cause: Cause },
-    /// Memory was wanting.
+    /// Out of memory.
     Memory,
 }
 
@@ -119,7 +119,7 @@ impl<T: Drop> From<AllocFailed<T>> for ScriptFault {
 pub(crate) enum LineFault {
     /// What is wrong with it.
     Refused(Cause),
-    /// Memory was wanting.
+    /// Out of memory.
     Memory,
 }
 

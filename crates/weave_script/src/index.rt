@@ -6,7 +6,7 @@ ghost use Rattle.graph_ops.specs.declared.op.Op.{Op};
 ghost use Rattle.program_defs.specs.declared.script.Request.{Request};
 ghost use Rattle.program_defs.specs.declared.script.Work.TheVariants.{Change, Look};
 ghost use Rattle.weave_script.specs.declared.reading.Opening.{Opening};
-ghost use Rattle.weave_script.specs.Indexed.{IsSetOf, IsIndexOf, IsNew};
+ghost use Rattle.weave_script.specs.Indexed.{IsSetOf, IsIndexOf, IsNewRequest};
 ghost use Rattle.weave_script.specs.Limits.{with_names, vertices_of_op, vertices_of_program};
 ghost use Rattle.weave_script.specs.RequestLines.{request_of};
 
@@ -29,7 +29,7 @@ impl Index {
     /// Adds a transaction without operations.
     pub(crate) fn add_transaction(&mut self, name: Name, place: u32) -> Result<(), AllocError>
         ensures { OnOk result ((requests : List Request) (opening : Opening) → IsIndexOf self.old requests
-            → IsNew name place requests → opening.name ≡ name
+            → IsNewRequest name place requests → opening.name ≡ name
             → IsIndexOf self.new (requests ++ request_of opening (Change []) ∷ [])) }
     {
         self.places.insert(name, place)?;
@@ -45,7 +45,7 @@ impl Index {
     ) -> Result<(), AllocError>
         requires { self.old.programs < 2 ^ 32 }
         ensures { OnOk result ((requests : List Request) (opening : Opening) → IsIndexOf self.old requests
-            → IsNew name place requests → opening.name ≡ name
+            → IsNewRequest name place requests → opening.name ≡ name
             → IsIndexOf self.new (requests ++ request_of opening (Look program.now) ∷ [])) }
     {
         self.places.insert(name, place)?;

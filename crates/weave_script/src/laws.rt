@@ -7,7 +7,7 @@ ghost use Rattle.program_defs.specs.declared.script.Script.{Script};
 ghost use Rattle.weave_text.specs.Cutting.{lines_of};
 ghost use Rattle.weave_text.specs.Lines.{Bytes};
 ghost use Rattle.weave_script.specs.CheckText.{IsHead};
-ghost use Rattle.weave_script.specs.Faults.{IsFirstFault};
+ghost use Rattle.weave_script.specs.Faults.{IsFirstScriptFault};
 ghost use Rattle.weave_script.specs.ReadText.{Fault, Head, head_of, read_text};
 ghost use Rattle.weave_script.specs.Reading.{start};
 ghost use Rattle.weave_script.specs.ScriptLines.{IsTextOf, script_text};
@@ -34,9 +34,9 @@ pub fn texts_are_read()
 /// as a whole.
 pub fn faults_are_first()
     ensures first { (bytes : Bytes) (fault : Fault) → length bytes ≤ 4194304
-        → read_text bytes ≡ Err fault → IsFirstFault 1 start (lines_of bytes) fault }
+        → read_text bytes ≡ Err fault → IsFirstScriptFault 1 start (lines_of bytes) fault }
     ensures reported { (bytes : Bytes) (fault : Fault) → length bytes ≤ 4194304
-        → IsFirstFault 1 start (lines_of bytes) fault → read_text bytes ≡ Err fault }
+        → IsFirstScriptFault 1 start (lines_of bytes) fault → read_text bytes ≡ Err fault }
     ensures too_long { (bytes : Bytes) → 4194304 < length bytes
         → read_text bytes ≡ Err (record { line = 0; cause = Cause.TooLong }) }
 {}

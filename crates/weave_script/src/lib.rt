@@ -1,8 +1,13 @@
 //! Scripts as texts, in the whole grammar: read, and printed.
 //!
-//! `read_script` gives what `read_text` in `specs/ReadText.antt` says of the bytes: the script of which they are a text, or the first line that can't be accepted and the first cause that holds in it. `print_script` writes a script's one printed text. The laws in `laws.rt` tie the two: what is read is a text of that script, every text of a script that isn't too long is read as it, no text is of two scripts, a printed script comes back, and the fault that is told is the first.
+//! `read_script` gives what `read_text` in `specs/ReadText.antt` says of the bytes: the script of which they are a
+//! text, or the first line that can't be accepted and the first cause that holds in it. `print_script` writes a
+//! script's one printed text. The laws in `laws.rt` tie the two: what is read is a text of that script, every text
+//! of a script that isn't too long is read as it, no text is of two scripts, a printed script comes back, and the
+//! fault that is told is the first.
 //!
-//! `read_check` gives what `check_text` in `specs/CheckText.antt` says of the bytes: a script and the report behind it, or the first fault of both. `check_laws.rt` has the same laws of these texts.
+//! `read_check` gives what `check_text` in `specs/CheckText.antt` says of the bytes: a script and the report behind
+//! it, or the first fault of both. `check_laws.rt` has the same laws of these texts.
 #![tactic(auto)]
 
 mod check;

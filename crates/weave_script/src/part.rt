@@ -1,8 +1,8 @@
 //! The lines of a text, up to where its script ends.
 ghost use Rattle.std.specs.Prelude.{◌≡◌, ◌≤◌, ◌<◌, ◌^◌, ◌+◌, map, take, length, IfOk, OnOk};
 ghost use Rattle.weave_text.specs.Cutting.{lines_of, words_of, is_skipped};
-ghost use Rattle.weave_script.specs.Indexed.{IsReady};
-ghost use Rattle.weave_script.specs.Parts.{GivesPart, Takes};
+ghost use Rattle.weave_script.specs.Indexed.{IsReaderReady};
+ghost use Rattle.weave_script.specs.Parts.{GivesPart, TakesLine};
 ghost use Rattle.weave_script.specs.ReadText.{is_open, is_report, read_on, read_part};
 ghost use Rattle.weave_script.specs.Reading.{start};
 
@@ -13,7 +13,7 @@ use crate::reading::Place;
 use std::alloc::{AllocError, Global};
 use weave_text::{Pieces, first_line, is, is_skipped};
 
-/// No line of the grammar has as many words, so those behind them aren't looked at.
+/// No line of the grammar has this many words, so the words after them aren't looked at.
 const MOST_WORDS: usize = 12;
 
 /// How far a text has been read: the script so far, the number of the next line, and what is left.
@@ -80,8 +80,8 @@ fn take<'a>(
     words: &mut Vec<&'a [u8]>,
     line: &'a [u8],
 ) -> Result<Taken, LineFault>
-    requires { IsReady reader.old }
-    ensures { Takes report reader.old.reading (words_of line.now) reader.new result }
+    requires { IsReaderReady reader.old }
+    ensures { TakesLine report reader.old.reading (words_of line.now) reader.new result }
 {
     cut(words, line)?;
     take_words(alloc, report, reader, words)
@@ -101,8 +101,8 @@ fn take_words(
     reader: &mut Reader,
     words: &[&[u8]],
 ) -> Result<Taken, LineFault>
-    requires { IsReady reader.old }
-    ensures { Takes report reader.old.reading (map (λ word. word.now) words.now) reader.new result }
+    requires { IsReaderReady reader.old }
+    ensures { TakesLine report reader.old.reading (map (λ word. word.now) words.now) reader.new result }
 {
     if report && is_open(&reader.reading.place) && is_report(words) {
         return Ok(Taken::Nothing);

@@ -14,7 +14,7 @@ use program_defs::Script;
 use std::alloc::{AllocError, Global};
 use weave_text::Text;
 
-/// The one printed text of a script. The one error is want of memory.
+/// The printed text of a script, which is unique. It fails only if memory runs out.
 pub fn print_script(alloc: Global, script: &Script) -> Result<Vec<u8>, AllocError>
     ensures text { IfOk result (λ text. text.items ≡ script_text script.now) }
 {

@@ -1,7 +1,7 @@
 //! The lines of a script, taken one after another.
 ghost use Rattle.std.specs.Prelude.{◌≡◌, ◌<◌, ◌^◌, ◌++◌, ◌∷◌, [], map};
 ghost use Rattle.program_defs.specs.declared.script.Work.TheVariants.{Change};
-ghost use Rattle.weave_script.specs.Indexed.{Gives, IsIndexed, IsIndexOf, IsReady};
+ghost use Rattle.weave_script.specs.Indexed.{GivesReading, IsIndexed, IsIndexOf, IsReaderReady};
 ghost use Rattle.weave_script.specs.Limits.{over_limit};
 ghost use Rattle.weave_script.specs.Reading.{counts_so_far, start, after_tx, after_prog, after_phase, after_steps, after_item, after_header, after_line_inside, after_step, after_line_at, within_limits, after_line};
 ghost use Rattle.weave_script.specs.RequestLines.{request_of};
@@ -32,7 +32,7 @@ pub(crate) struct Reader {
 /// Before the first line.
 pub(crate) fn start(alloc: Global) -> Reader
     ensures reading { result.reading ≡ start }
-    ensures ready { IsReady result }
+    ensures ready { IsReaderReady result }
 {
     Reader {
         reading: Reading {
@@ -57,8 +57,9 @@ pub(crate) fn after_line(
     reader: &mut Reader,
     words: &[&[u8]],
 ) -> Result<(), LineFault>
-    requires { IsReady reader.old }
-    ensures { Gives IsReady result reader.new (after_line reader.old.reading (map (λ word. word.now) words.now)) }
+    requires { IsReaderReady reader.old }
+    ensures { GivesReading IsReaderReady result reader.new
+        (after_line reader.old.reading (map (λ word. word.now) words.now)) }
 {
     match after_line_at(alloc, reader, words) {
         Ok(()) => within_limits(reader),
@@ -68,7 +69,7 @@ pub(crate) fn after_line(
 
 fn within_limits(reader: &Reader) -> Result<(), LineFault>
     requires { IsIndexed reader.now }
-    ensures { Gives IsReady result reader.now (within_limits reader.now.reading) }
+    ensures { GivesReading IsReaderReady result reader.now (within_limits reader.now.reading) }
 {
     match over_limit(counts_so_far(reader)) {
         Some(cause) => Err(LineFault::Refused(cause)),
@@ -96,8 +97,8 @@ fn counts_so_far(reader: &Reader) -> Counts
 }
 
 fn after_line_at(alloc: Global, reader: &mut Reader, words: &[&[u8]]) -> Result<(), LineFault>
-    requires { IsReady reader.old }
-    ensures { Gives IsIndexed result reader.new (after_line_at reader.old.reading.place reader.old.reading
+    requires { IsReaderReady reader.old }
+    ensures { GivesReading IsIndexed result reader.new (after_line_at reader.old.reading.place reader.old.reading
         (map (λ word. word.now) words.now)) }
 {
     let place = replace(&mut reader.reading.place, Place::Between);
@@ -111,7 +112,8 @@ fn after_line_at(alloc: Global, reader: &mut Reader, words: &[&[u8]]) -> Result<
 
 fn after_header(reader: &mut Reader, words: &[&[u8]]) -> Result<(), LineFault>
     requires { IsIndexOf reader.old.index reader.old.reading.requests }
-    ensures { Gives IsIndexed result reader.new (after_header reader.old.reading (map (λ word. word.now) words.now)) }
+    ensures { GivesReading IsIndexed result reader.new
+        (after_header reader.old.reading (map (λ word. word.now) words.now)) }
 {
     match header_of(words) {
         Ok((gates, shards)) => {
@@ -126,8 +128,9 @@ fn after_header(reader: &mut Reader, words: &[&[u8]]) -> Result<(), LineFault>
 
 fn after_item(alloc: Global, reader: &mut Reader, words: &[&[u8]]) -> Result<(), LineFault>
     requires place { reader.old.reading.place ≡ Place.Between }
-    requires ready { IsReady reader.old }
-    ensures { Gives IsIndexed result reader.new (after_item reader.old.reading (map (λ word. word.now) words.now)) }
+    requires ready { IsReaderReady reader.old }
+    ensures { GivesReading IsIndexed result reader.new
+        (after_item reader.old.reading (map (λ word. word.now) words.now)) }
 {
     let Some((word, rest)) = words.split_first() else {
         return Err(LineFault::Refused(Cause::Line));
@@ -147,8 +150,9 @@ fn after_item(alloc: Global, reader: &mut Reader, words: &[&[u8]]) -> Result<(),
 
 fn after_tx(alloc: Global, reader: &mut Reader, words: &[&[u8]]) -> Result<(), LineFault>
     requires place { reader.old.reading.place ≡ Place.Between }
-    requires ready { IsReady reader.old }
-    ensures { Gives IsIndexed result reader.new (after_tx reader.old.reading (map (λ word. word.now) words.now)) }
+    requires ready { IsReaderReady reader.old }
+    ensures { GivesReading IsIndexed result reader.new
+        (after_tx reader.old.reading (map (λ word. word.now) words.now)) }
 {
     let opening = match tx_of(reader.reading.gates, words) {
         Ok(opening) => opening,
@@ -168,8 +172,9 @@ fn after_tx(alloc: Global, reader: &mut Reader, words: &[&[u8]]) -> Result<(), L
 
 fn after_prog(reader: &mut Reader, words: &[&[u8]]) -> Result<(), LineFault>
     requires place { reader.old.reading.place ≡ Place.Between }
-    requires ready { IsReady reader.old }
-    ensures { Gives IsIndexed result reader.new (after_prog reader.old.reading (map (λ word. word.now) words.now)) }
+    requires ready { IsReaderReady reader.old }
+    ensures { GivesReading IsIndexed result reader.new
+        (after_prog reader.old.reading (map (λ word. word.now) words.now)) }
 {
     let (opening, program) = match prog_of(reader.reading.gates, words) {
         Ok(prog) => prog,
@@ -191,8 +196,9 @@ fn after_prog(reader: &mut Reader, words: &[&[u8]]) -> Result<(), LineFault>
 
 fn after_phase(reader: &mut Reader, words: &[&[u8]]) -> Result<(), LineFault>
     requires place { reader.old.reading.place ≡ Place.Between }
-    requires ready { IsReady reader.old }
-    ensures { Gives IsIndexed result reader.new (after_phase reader.old.reading (map (λ word. word.now) words.now)) }
+    requires ready { IsReaderReady reader.old }
+    ensures { GivesReading IsIndexed result reader.new
+        (after_phase reader.old.reading (map (λ word. word.now) words.now)) }
 {
     if !words.is_empty() {
         return Err(LineFault::Refused(Cause::Line));
@@ -204,8 +210,9 @@ fn after_phase(reader: &mut Reader, words: &[&[u8]]) -> Result<(), LineFault>
 
 fn after_steps(alloc: Global, reader: &mut Reader, words: &[&[u8]]) -> Result<(), LineFault>
     requires place { reader.old.reading.place ≡ Place.Between }
-    requires ready { IsReady reader.old }
-    ensures { Gives IsIndexed result reader.new (after_steps reader.old.reading (map (λ word. word.now) words.now)) }
+    requires ready { IsReaderReady reader.old }
+    ensures { GivesReading IsIndexed result reader.new
+        (after_steps reader.old.reading (map (λ word. word.now) words.now)) }
 {
     if !words.is_empty() {
         return Err(LineFault::Refused(Cause::Line));
@@ -225,7 +232,7 @@ fn after_line_inside(
     requires indexed { IsIndexOf reader.old.index
         (reader.old.reading.requests ++ request_of opening (Change ops) ∷ []) }
     requires room { reader.old.index.gets < 2 ^ 32 }
-    ensures { Gives IsIndexed result reader.new
+    ensures { GivesReading IsIndexed result reader.new
         (after_line_inside reader.old.reading opening ops (map (λ word. word.now) words.now)) }
 {
     if is_end(words) {
@@ -250,7 +257,7 @@ fn after_line_inside(
 
 fn after_step(reader: &mut Reader, mut steps: Items<Step>, words: &[&[u8]]) -> Result<(), LineFault>
     requires { IsIndexOf reader.old.index reader.old.reading.requests }
-    ensures { Gives IsIndexed result reader.new
+    ensures { GivesReading IsIndexed result reader.new
         (after_step reader.old.reading steps (map (λ word. word.now) words.now)) }
 {
     let sizes = Sizes {

@@ -35,7 +35,7 @@ pub(crate) struct Opening {
     pub(crate) gate: u32,
 }
 
-/// How much of what has a limit stands in a script.
+/// How much of each limited quantity the script uses so far.
 #[derive(Clone, Copy)]
 pub(crate) struct Counts {
     /// The operations of the transaction that has no end yet.

@@ -8,7 +8,7 @@ use crate::reading::Opening;
 use program_defs::{Filter, Program};
 use weave_text::is;
 
-/// The beginning of a transaction, by the words behind `tx`.
+/// The beginning of a transaction, from the words after `tx`.
 pub(crate) fn tx_of(gates: u32, words: &[&[u8]]) -> Result<Opening, Cause>
     ensures { result ≡ tx_of gates (map (λ word. word.now) words.now) }
 {
@@ -18,7 +18,7 @@ pub(crate) fn tx_of(gates: u32, words: &[&[u8]]) -> Result<Opening, Cause>
     }
 }
 
-/// A program and what stands before it, by the words behind `prog`.
+/// A program and the fields before it, from the words after `prog`.
 pub(crate) fn prog_of(gates: u32, words: &[&[u8]]) -> Result<(Opening, Program), Cause>
     ensures { result ≡ prog_of gates (map (λ word. word.now) words.now) }
 {
@@ -42,7 +42,7 @@ fn opening_of(gates: u32, name: &[u8], session: &[u8], gate: &[u8]) -> Result<Op
     })
 }
 
-// None where the words are those of no program; else what their fields are read as. So it is with each form below.
+// `None` if the words don't have this form; otherwise the result of reading its fields. The same holds below.
 fn program_of(words: &[&[u8]]) -> Option<Result<Program, Cause>>
     ensures { result ≡ program_of (map (λ word. word.now) words.now) }
 {
@@ -152,7 +152,7 @@ fn bound_of(word: &[u8]) -> Result<u32, Cause>
     number_in(0, 1_000, Cause::Bound, word)
 }
 
-// No filter, or the one behind `where`.
+// No filter, or the one after `where`.
 fn filter_of(words: &[&[u8]]) -> Option<Result<Option<Filter>, Cause>>
     ensures { result ≡ filter_of (map (λ word. word.now) words.now) }
 {

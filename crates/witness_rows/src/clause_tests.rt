@@ -546,7 +546,7 @@ const MET: [Row; 9] = [
         &[0, 1, 2],
         Some((Clause::Viii, 3)),
     ),
-    // The one isn't committed, or is none of the script's.
+    // The newer request is not committed, or is not in the script.
     (
         &[MADE, SECOND, AT_W],
         &[(b'v', 2, 0)],

@@ -100,7 +100,7 @@ fn with_reply(mut report: Report, reply: Reply) -> Result<Reading, LineFault>
     })
 }
 
-// Behind a commit and so many answers of its `get`s.
+// After a commit and these answers of its `get`s.
 fn behind_commit(report: Report, commit: Commit, answers: Items<Got>) -> Result<Reading, LineFault>
     ensures { Gives result (Ok (behind_commit report commit answers)) }
 {
@@ -165,7 +165,7 @@ fn after_pairs(
     pair_or_order(alloc, script, report, word, words)
 }
 
-// Behind a pair or the order, by the first word of its line and those behind it.
+// After a pair or the order, from the first word of its line and the words after it.
 fn pair_or_order(
     alloc: Global,
     script: &Named,
@@ -209,7 +209,7 @@ fn with_order(mut report: Report, order: Items<u32>) -> Reading
     }
 }
 
-// A pair, by the words behind `settled`.
+// A pair, from the words after `settled`.
 fn pair_in(script: &Named, mut words: Pieces) -> Result<Pair, LineFault>
     ensures { Gives result (pair_in script.now words.entry) }
 {
@@ -243,7 +243,7 @@ fn pair_of(script: &Named, vertex: &[u8], earlier: &[u8], later: &[u8]) -> Resul
     })
 }
 
-// The order, by the words behind `order`. A word that is no name is told before a name that is no request's.
+// The order, from the words after `order`. A word that is no name is reported before a name that is no request's.
 fn order_in(alloc: Global, script: &Named, words: Pieces) -> Result<Items<u32>, LineFault>
     ensures { Gives result (order_in script.now words.entry) }
 {

@@ -38,7 +38,7 @@ impl<'a> Model for Named<'a> {
 }
 
 impl<'a> Named<'a> {
-    /// The script with its requests by name. The one error is want of memory.
+    /// The script with its requests by name. It fails only if memory runs out.
     pub(crate) fn new(alloc: Global, script: &'a Script) -> Result<Named<'a>, AllocError>
         requires { HasDistinctNames script.now }
         ensures script { IfOk result (λ named. named ≡ script.now) }

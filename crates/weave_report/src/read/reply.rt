@@ -17,7 +17,7 @@ use report_rules::{Reply, ReplyState};
 use std::alloc::Global;
 use weave_text::{Pieces, is};
 
-/// A transaction's reply, by the words behind `tx`.
+/// A transaction's reply, from the words after `tx`.
 pub(crate) fn transaction_in(
     alloc: Global,
     script: &Named,
@@ -37,7 +37,7 @@ pub(crate) fn transaction_in(
     verdict_in(alloc, script, name, stamp, state, words)
 }
 
-// A begun transaction's reply, by the word that tells how it stands and those behind it.
+// A begun transaction's reply, from the word that names its state and the words after it.
 fn verdict_in(
     alloc: Global,
     script: &Named,
@@ -140,7 +140,7 @@ fn is_refusal(state: &[u8], word: &[u8]) -> bool
     is(state, b"refused") && is(word, b"at")
 }
 
-/// A program's reply, by the words behind `prog`.
+/// A program's reply, from the words after `prog`.
 pub(crate) fn program_in(
     alloc: Global,
     script: &Named,

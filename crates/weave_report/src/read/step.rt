@@ -9,7 +9,7 @@ use crate::read::fields::{name_in, small_number_in, this_number_in};
 use report_rules::StepAnswer;
 use weave_text::{Pieces, is};
 
-/// A step's answer, by the words behind `did`, where the step has this number.
+/// A step's answer, from the words after `did`, if the step has this number.
 pub(crate) fn did_in(number: u64, mut words: Pieces) -> Result<StepAnswer, LineFault>
     ensures { Gives result (did_in number words.entry) }
 {

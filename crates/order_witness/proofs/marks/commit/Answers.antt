@@ -5,7 +5,7 @@ use Rattle.graph_ops.specs.Graphs.{plain_of}
 use Rattle.program_defs.specs.declared.script.Request.{Request}
 use Rattle.report_rules.specs.Lookups.{request_at}
 use Rattle.report_rules.specs.Replay.{graph_after_commit}
-use Rattle.order_witness.specs.Refusals.{IsThere}
+use Rattle.order_witness.specs.Refusals.{IsExpectedGraph}
 use Rattle.order_witness.proofs.Testing.{is_numbered}
 use Rattle.order_witness.proofs.marks.commit.Goals as goal
 
@@ -14,5 +14,5 @@ work_passes-requires c = record { numbered = is_numbered c.args.script.now c.req
 
 pub returns-in-Some-request_in : goal.returns-in-Some-request_in
 returns-in-Some-request_in c =
-    subst (λ (o : Option Request). IfOk c.work_passes.result (IsThere (graph_after_commit o (Some (plain_of c.args.graph.now))) (plain_of c.work_passes.new.graph)))
+    subst (λ (o : Option Request). IfOk c.work_passes.result (IsExpectedGraph (graph_after_commit o (Some (plain_of c.args.graph.now))) (plain_of c.work_passes.new.graph)))
     (c.in-Some-request_in.ensures ∙ ap (option_and_then (request_at c.args.script.now)) c.in-Some.ensures) c.work_passes.ensures

@@ -10,7 +10,7 @@ use Rattle.report_rules.specs.declared.report.Report.{Report}
 use Rattle.report_rules.specs.declared.report.Reply.{Reply}
 use Rattle.report_rules.specs.Lookups.{commits, request_at}
 use Rattle.report_rules.specs.Replay.{graph_after_commit, graph_of_commits, the_only}
-use Rattle.order_witness.specs.Refusals.{AreMarkedOn, IsThere, numbered_in}
+use Rattle.order_witness.specs.Refusals.{AreMarkedOn, IsExpectedGraph, numbered_in}
 use Rattle.order_witness.specs.ByNumber.{HasRefused}
 use Rattle.order_witness.proofs.Numbered.{numbers_within}
 use Rattle.order_witness.proofs.MarkSteps.{at_start, one_more, at_end, next_commit}
@@ -36,11 +36,11 @@ next_graph script report replies done graph requests is there those =
 within : (report : Report) (replies : List Reply) (done count : ℕ) → replies ≡ report.replies → count ≡ commits report → done < count → done + 1 ≤ length replies
 within report replies done count is count_is lt = omega (arith, ap (length {A = Reply}) is, count_is, lt, numbers_within report.replies)
 
-there_so : (o : Option PlainGraph) (now : PlainGraph) (b : Bool) → b ≡ true → IsThere o now b → o ≡ Some now
-there_so o now b is h = subst (IsThere o now) is h
+there_so : (o : Option PlainGraph) (now : PlainGraph) (b : Bool) → b ≡ true → IsExpectedGraph o now b → o ≡ Some now
+there_so o now b is h = subst (IsExpectedGraph o now) is h
 
-not_there : (o : Option PlainGraph) (now : PlainGraph) (b : Bool) → b ≡ false → IsThere o now b → o ≡ None
-not_there o now b is h = subst (IsThere o now) is h
+not_there : (o : Option PlainGraph) (now : PlainGraph) (b : Bool) → b ≡ false → IsExpectedGraph o now b → o ≡ None
+not_there o now b is h = subst (IsExpectedGraph o now) is h
 
 pub mark-requires-clause-places : goal.mark-requires-clause-places
 mark-requires-clause-places c =

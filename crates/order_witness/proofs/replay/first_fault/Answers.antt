@@ -31,9 +31,11 @@ loop-place-preserved c =
           (subst (λ (b : Bool). TellsOf (MatchesItsReply (plain_of c.loop-place.graph) c.args.script.now c.args.report.now (get_or order i 0)) (plain_of c.replay.new.graph) (graph_after (plain_of c.loop-place.graph) (request_at c.args.script.now (get_or order i 0))) b) c.if-not-holds.false c.in_ok-holds.ensures.replayed);
       size = c.in_ok-holds.ensures.size ∙ c.loop-place.invariant.size;
       marked =
-          marked_next c.args.script.now c.args.report.now c.requires.listing order i (plain_of c.loop-place.graph) c.list_of-places.result.now c.loop-place.marks.items c.replay.new.marks.items c.as_slice-request-items.ensures c.loop-place-test.true c.loop-place.invariant.replayed.left
+          marked_next c.args.script.now c.args.report.now (plain_of c.loop-place.graph) c.list_of-places.result.now c.loop-place.marks.items c.replay.new.marks.items
+          c.in_ok-holds.ensures.others (c.in_ok-holds.ensures.size ∙ c.loop-place.invariant.size)
+          c.requires.listing order i c.as_slice-request-items.ensures c.loop-place-test.true c.loop-place.invariant.replayed.left
           (λ below place pair at. subst (λ (places : List ℕ). (pair.later ≡ get_or order i 0) ↔ Contains places place) (sym c.list_of-places.ensures) (c.in_ok-meetings.ensures (get_or order i 0) place pair below at))
-          c.in_ok-holds.ensures.others (c.in_ok-holds.ensures.size ∙ c.loop-place.invariant.size) c.in_ok-holds.ensures.marked c.loop-place.invariant.marked;
+          c.in_ok-holds.ensures.marked c.loop-place.invariant.marked;
     }
 
 pub returns-clause-first : goal.returns-clause-first

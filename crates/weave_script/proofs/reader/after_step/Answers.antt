@@ -1,6 +1,6 @@
 use Rattle.std.proofs.Common.{ℕ, [], ◌∷◌, ◌++◌, map, Option, Ok, sym, ap, ◌∙◌}
 use Rattle.weave_data.specs.declared.name.Name.{Name}
-use Rattle.weave_script.specs.Fields.{◌>>=◌}
+use Rattle.proof_base.specs.Steps.{◌>>=◌}
 use Rattle.weave_script.specs.StepLines.{step_of}
 use Rattle.weave_script.specs.declared.reading.Place.TheVariants.{Behind}
 use Rattle.weave_script.proofs.reader.after_step.Goals as goal

@@ -1,6 +1,6 @@
 use Rattle.std.proofs.Common.{◌≡◌, [], ◌∷◌, ◌++◌, length, None, Ok, sym, ap, ◌∙◌, subst}
 use Rattle.program_defs.specs.declared.script.Work.TheVariants.{Change}
-use Rattle.weave_script.specs.Fields.{◌>>=◌}
+use Rattle.proof_base.specs.Steps.{◌>>=◌}
 use Rattle.weave_script.specs.Indexed.{IsIndexOf}
 use Rattle.weave_script.specs.Reading.{requests_so_far, unless_taken}
 use Rattle.weave_script.specs.RequestLines.{request_of}
