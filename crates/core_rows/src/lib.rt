@@ -1,4 +1,5 @@
-//! The tests of a core, each public call once, of driving it from hard places, and of taking it apart and joining it. There is nothing but tests here.
+//! The tests of a core, each public call once, of driving it from hard places, and of taking it apart and joining it.
+//! There is nothing but tests here.
 #![tactic(auto)]
 
 #[cfg(test)]

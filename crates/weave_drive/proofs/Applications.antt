@@ -27,7 +27,7 @@ use Rattle.drive_rules.specs.Heads.{AllArrived, AllProcessed, CanApply, IsQuiet}
 use Rattle.weave_drive.specs.Driving.{Drives}
 use Rattle.weave_drive.specs.LowerLaws.{LowerLaws}
 use Rattle.weave_drive.specs.Loops.{AppliesBelow, IsApplying, IsCatchingUp}
-use Rattle.weave_drive.specs.Progress.{AreCores, Applies, AppliesAll, AppliesRound, left_of}
+use Rattle.weave_drive.specs.Progress.{AreCores, AppliesChannel, AppliesAll, AppliesRound, left_of}
 use Rattle.weave_drive.proofs.After.{account-after, not-done, set-there, still-message}
 use Rattle.weave_drive.proofs.Driven.{drives-core, drives-none, drives-on, drives-through}
 use Rattle.weave_drive.proofs.Quiet.{drives-quiet}
@@ -84,7 +84,7 @@ module _ (account : Account) (shard gate : ℕ) where
   head-there None ok = cc
   head-there (Some m) ok = (m, refl)
 
-pub apply-done : (laws : LowerLaws) (old new : CoreView) (shard gate : ℕ) (answer : StepAnswer) → AreCores old new → gate < old.script.gates → shard < old.script.shards → Does (Apply shard gate) old new answer → Applies old.script.gates shard gate old.state new.state (is_ok answer)
+pub apply-done : (laws : LowerLaws) (old new : CoreView) (shard gate : ℕ) (answer : StepAnswer) → AreCores old new → gate < old.script.gates → shard < old.script.shards → Does (Apply shard gate) old new answer → AppliesChannel old.script.gates shard gate old.state new.state (is_ok answer)
 apply-done laws old new shard gate answer cores gate-inside inside did = record {
   same_gates = ap (λ (a : Account). a.gates) is ∙ gates-are old.state.account shard gate (is_ok (answer_of_apply old.state.account shard (head_of gate (shard_log old.state.account shard))));
   fewer = λ ok. fewer (sym (ap is_ok did.answer_is) ∙ ok);
@@ -109,8 +109,8 @@ apply-done laws old new shard gate answer cores gate-inside inside did = record 
         numbers.1 old.script.gates gate-inside
 
 -- with the gatekeepers of the script at the start
-pub applied-at : (shard gate : ℕ) (old middle new : CoreView) (moved : Bool) → Drives 0 old middle → Applies middle.script.gates shard gate middle.state new.state moved → Applies old.script.gates shard gate middle.state new.state moved
-applied-at shard gate old middle new moved d a = subst (λ (s : Script). Applies s.gates shard gate middle.state new.state moved) d.script_is a
+pub applied-at : (shard gate : ℕ) (old middle new : CoreView) (moved : Bool) → Drives 0 old middle → AppliesChannel middle.script.gates shard gate middle.state new.state moved → AppliesChannel old.script.gates shard gate middle.state new.state moved
+applied-at shard gate old middle new moved d a = subst (λ (s : Script). AppliesChannel s.gates shard gate middle.state new.state moved) d.script_is a
 
 pub round-at : (shard : ℕ) (old middle new : CoreView) (moved : Bool) → Drives 0 old middle → AppliesRound middle.script.gates shard middle.script.gates middle.state new.state moved → AppliesRound old.script.gates shard old.script.gates middle.state new.state moved
 round-at shard old middle new moved d a = subst (λ (s : Script). AppliesRound s.gates shard s.gates middle.state new.state moved) d.script_is a
@@ -125,7 +125,7 @@ no-more : (gates shard : ℕ) (old new : CoreState) (moved : Bool) → (IsTrue m
 no-more gates shard old new true fewer same = let less = fewer refl in omega (arith, less)
 no-more gates shard old new false fewer same = let is = ap (λ (s : CoreState). left_of gates s.account shard) (same refl) in omega (arith, is)
 
-pub applying-next : (gates shard gate : ℕ) (old middle new : CoreView) (before moved : Bool) → IsApplying gates shard old middle before → Drives 0 middle new → Applies gates shard gate middle.state new.state moved → IsApplying gates shard old new (before || moved)
+pub applying-next : (gates shard gate : ℕ) (old middle new : CoreView) (before moved : Bool) → IsApplying gates shard old middle before → Drives 0 middle new → AppliesChannel gates shard gate middle.state new.state moved → IsApplying gates shard old new (before || moved)
 applying-next gates shard gate old middle new before moved a drives b = record {
   drives = drives-through 0 old middle new a.drives drives;
   same_gates = b.same_gates ∙ a.same_gates;
@@ -133,7 +133,7 @@ applying-next gates shard gate old middle new before moved a drives b = record {
   same = same before moved a b;
 }
   where
-    fewer : (x y : Bool) → IsApplying gates shard old middle x → Applies gates shard gate middle.state new.state y → x || y ≡ true → left_of gates new.state.account shard < left_of gates old.state.account shard
+    fewer : (x y : Bool) → IsApplying gates shard old middle x → AppliesChannel gates shard gate middle.state new.state y → x || y ≡ true → left_of gates new.state.account shard < left_of gates old.state.account shard
     fewer true y p q t =
         let less = p.fewer refl in
         let most = no-more gates shard middle.state new.state y q.fewer q.same in
@@ -144,20 +144,20 @@ applying-next gates shard gate old middle new before moved a drives b = record {
         omega (arith, less, is)
     fewer false false p q t = cc
 
-    same : (x y : Bool) → IsApplying gates shard old middle x → Applies gates shard gate middle.state new.state y → x || y ≡ false → new.state ≡ old.state
+    same : (x y : Bool) → IsApplying gates shard old middle x → AppliesChannel gates shard gate middle.state new.state y → x || y ≡ false → new.state ≡ old.state
     same true y p q f = cc
     same false true p q f = cc
     same false false p q f = q.same refl ∙ p.same refl
 
 -- one that was done makes it true
-pub applying-on : (gates shard gate : ℕ) (old middle new : CoreView) (before : Bool) → IsApplying gates shard old middle before → Drives 0 middle new → Applies gates shard gate middle.state new.state true → IsApplying gates shard old new true
+pub applying-on : (gates shard gate : ℕ) (old middle new : CoreView) (before : Bool) → IsApplying gates shard old middle before → Drives 0 middle new → AppliesChannel gates shard gate middle.state new.state true → IsApplying gates shard old new true
 applying-on gates shard gate old middle new before a drives b = subst (IsApplying gates shard old new) (or-true before) (applying-next gates shard gate old middle new before true a drives b)
   where
     or-true : (x : Bool) → x || true ≡ true
     or-true true = refl
     or-true false = refl
 
-pub applying-end : (gates shard gate : ℕ) (old middle new : CoreView) (moved : Bool) → IsApplying gates shard old middle moved → Applies gates shard gate middle.state new.state false → Applies gates shard gate old.state new.state moved
+pub applying-end : (gates shard gate : ℕ) (old middle new : CoreView) (moved : Bool) → IsApplying gates shard old middle moved → AppliesChannel gates shard gate middle.state new.state false → AppliesChannel gates shard gate old.state new.state moved
 applying-end gates shard gate old middle new moved a b = record {
   same_gates = b.same_gates ∙ a.same_gates;
   fewer = λ t. (let less = a.fewer t in let is = ap (λ (s : CoreState). left_of gates s.account shard) (b.same refl) in omega (arith, less, is));
@@ -170,13 +170,13 @@ applying-end gates shard gate old middle new moved a b = record {
 pub round-none : (gates shard : ℕ) (old : CoreView) → AppliesBelow gates shard 0 old old false
 round-none gates shard old = record { applying = applying-none gates shard old; stuck = λ f gate below. absurd (omega (arith, below)) }
 
-pub round-next : (gates shard n m : ℕ) (old middle new : CoreView) (before moved : Bool) → m ≡ n + 1 → AppliesBelow gates shard n old middle before → Drives 0 middle new → Applies gates shard n middle.state new.state moved → AppliesBelow gates shard m old new (before || moved)
+pub round-next : (gates shard n m : ℕ) (old middle new : CoreView) (before moved : Bool) → m ≡ n + 1 → AppliesBelow gates shard n old middle before → Drives 0 middle new → AppliesChannel gates shard n middle.state new.state moved → AppliesBelow gates shard m old new (before || moved)
 round-next gates shard n m old middle new before moved next a drives b = record {
   applying = applying-next gates shard n old middle new before moved a.applying drives b;
   stuck = stuck before moved a b;
 }
   where
-    stuck : (x y : Bool) → AppliesBelow gates shard n old middle x → Applies gates shard n middle.state new.state y → x || y ≡ false → (gate : ℕ) → gate < m → ¬ CanApply old.state.account shard gate
+    stuck : (x y : Bool) → AppliesBelow gates shard n old middle x → AppliesChannel gates shard n middle.state new.state y → x || y ≡ false → (gate : ℕ) → gate < m → ¬ CanApply old.state.account shard gate
     stuck true y p q f gate below = cc
     stuck false true p q f gate below = cc
     stuck false false p q f gate below = elim (cases_eq gate n) [

@@ -28,7 +28,7 @@ use Rattle.weaver_core.specs.Cores.{CoreView, Does}
 use Rattle.weave_drive.specs.Driving.{Drives}
 use Rattle.weave_drive.specs.LowerLaws.{LowerLaws}
 use Rattle.weave_drive.specs.Loops.{DeliversBelow, IsDelivering}
-use Rattle.weave_drive.specs.Progress.{AreCores, Delivers, DeliversAll, DeliversTo, HaveArrived, is_known}
+use Rattle.weave_drive.specs.Progress.{AreCores, DeliversMessage, DeliversAll, DeliversTo, HaveArrived, is_known}
 use Rattle.weave_drive.proofs.After.{account-after, set-there, still-arrived}
 use Rattle.weave_drive.proofs.Driven.{drives-none, drives-through}
 
@@ -83,7 +83,7 @@ module _ (account : Account) (gate shard number : ℕ) (within : shard < length 
             ∙ none-or (find (λ (a : Arrival). (a.gate == gate) && (a.number == number)) (arrivals_of (shard_log account shard))) one ((gate == gate) && (number == number)) e (and_from _ _ (eq-eqb gate gate refl) (eq-eqb number number refl));
       }
 
-pub deliver-done : (old new : CoreView) (gate shard number : ℕ) (answer : StepAnswer) → AreCores old new → shard < old.script.shards → Does (Deliver gate shard number) old new answer → Delivers gate shard number old.state.account new.state.account (is_known answer)
+pub deliver-done : (old new : CoreView) (gate shard number : ℕ) (answer : StepAnswer) → AreCores old new → shard < old.script.shards → Does (Deliver gate shard number) old new answer → DeliversMessage gate shard number old.state.account new.state.account (is_known answer)
 deliver-done old new gate shard number answer cores inside did =
     let account = old.state.account in
     let sent = sent_as number (channel_of shard (gate_log account gate)) in
@@ -104,7 +104,7 @@ pub delivering-none : (old : CoreView) (gate shard number : ℕ) → 1 ≤ numbe
 delivering-none old gate shard number some arrived = record { drives = drives-none 0 old; same_gates = refl; some = some; arrived = arrived }
 
 pub delivering-next : (old middle new : CoreView) (gate shard number next : ℕ) → next ≡ number + 1 → GoesOn middle.state.account new.state.account → IsDelivering gate shard number old middle → Drives 0 middle new
-    → Delivers gate shard number middle.state.account new.state.account true → IsDelivering gate shard next old new
+    → DeliversMessage gate shard number middle.state.account new.state.account true → IsDelivering gate shard next old new
 delivering-next old middle new gate shard number next after on before drives d = record {
   drives = drives-through 0 old middle new before.drives drives;
   same_gates = d.same_gates ∙ before.same_gates;
@@ -116,7 +116,7 @@ delivering-next old middle new gate shard number next after on before drives d =
 }
 
 -- there are fewer messages from the next number on
-pub delivering-less : (old new : Account) (gate shard number next : ℕ) → next ≡ number + 1 → 1 ≤ number → Delivers gate shard number old new true
+pub delivering-less : (old new : Account) (gate shard number next : ℕ) → next ≡ number + 1 → 1 ≤ number → DeliversMessage gate shard number old new true
     → length (channel_of shard (gate_log new gate)) + 1 - next < length (channel_of shard (gate_log old gate)) + 1 - number
 delivering-less old new gate shard number next after some d =
     let long = ap (λ (gs : List (List GateEntry)). length (channel_of shard (slice_index_or gs gate []))) d.same_gates in
@@ -124,7 +124,7 @@ delivering-less old new gate shard number next after some d =
     omega (arith, after, long, within)
 
 pub delivering-all : (old middle new : CoreView) (gate shard number : ℕ) → GoesOn middle.state.account new.state.account → IsDelivering gate shard number old middle
-    → Delivers gate shard number middle.state.account new.state.account false → DeliversAll gate shard old.state.account new.state.account
+    → DeliversMessage gate shard number middle.state.account new.state.account false → DeliversAll gate shard old.state.account new.state.account
 delivering-all old middle new gate shard number on before d = record {
   same_gates = d.same_gates ∙ before.same_gates;
   arrived = λ n low high. (

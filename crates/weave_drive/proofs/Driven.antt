@@ -1,7 +1,6 @@
 -- Driving on: lists of driving steps in turn, and what they leave.
 use Rattle.std.proofs.Common.{◌≡◌, ℕ, ◌≤◌, List, [], ◌∷◌, ◌++◌, fold, IsTrue, refl, sym, ap, subst, ◌∙◌, arith, append_assoc}
 use Rattle.std.proofs.lemmas.Bool.{lt-ltb, ltb-true}
-use Rattle.std.proofs.lemmas.List.{append-nil}
 use Rattle.std.proofs.lemmas.List.Sums.{fold-append}
 use Rattle.program_defs.specs.declared.script.Script.{Script}
 use Rattle.program_defs.specs.declared.script.Step.{Step}
@@ -17,23 +16,12 @@ use Rattle.step_rules.specs.Trace.{state_after}
 use Rattle.weaver_core.specs.Cores.{CoreView, Does}
 use Rattle.weave_drive.specs.Driving.{AreDriving, Drives, IsDriven, is_driving}
 use Rattle.weave_drive.specs.LowerLaws.{LowerLaws}
+use Rattle.weaver_core.proofs.VisitWith.{goes-same}
 
 -- Accounts go on
 
-same-log : {E : Type 0} (log : List E) → IsBeginningOf log log
-same-log log = ([], sym (append-nil log))
-
 longer-log : {E : Type 0} (log middle last : List E) → IsBeginningOf log middle → IsBeginningOf middle last → IsBeginningOf log last
 longer-log log middle last (more, is) (further, are) = (more ++ further, are ∙ ap (λ l. l ++ further) is ∙ append_assoc log more further)
-
-goes-same : (account : Account) → GoesOn account account
-goes-same account = record {
-  gates = λ home. same-log (gate_log account home);
-  store = same-log account.store;
-  oracle = same-log account.oracle;
-  shards = λ shard. same-log (shard_log account shard);
-  sessions = λ session. same-log (session_log account session);
-}
 
 goes-further : (account middle last : Account) → GoesOn account middle → GoesOn middle last → GoesOn account last
 goes-further account middle last on further = record {

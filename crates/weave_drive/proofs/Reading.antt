@@ -40,7 +40,7 @@ use Rattle.weaver_core.specs.Cores.{CoreView, Does}
 use Rattle.drive_rules.specs.Links.{link_count}
 use Rattle.weave_drive.specs.Driving.{Drives}
 use Rattle.weave_drive.specs.LowerLaws.{LowerLaws}
-use Rattle.weave_drive.specs.Progress.{AreCores, IsReading, MakesReady, Visits, reading_left, reading_left_of, unready_of}
+use Rattle.weave_drive.specs.Progress.{AreCores, IsReading, MakesReady, ReadsOnward, reading_left, reading_left_of, unready_of}
 use Rattle.weave_drive.proofs.After.{account-after, not-done}
 use Rattle.weave_drive.proofs.Driven.{drives-core, drives-on}
 use Rattle.weave_drive.proofs.Nudging.{still-stamped}
@@ -164,7 +164,7 @@ still-reading script old new on r home reading = record {
 pub shard-there : (script : Script) → IsWithinLimits script → (v : Name) → shard_of v script.shards < script.shards
 shard-there script limits v = let some = limits.some_shard in omega (arith, some)
 
--- Visits
+-- ReadsOnward
 
 -- neither `ok` nor `again`
 abbrev pub is_other : StepAnswer → Bool
@@ -216,10 +216,10 @@ module _ (laws : LowerLaws) (old new : CoreView) (r home : ℕ) (answer : StepAn
       let many = cores.before.account.shards.as_many in
       ap (λ (a : Account). length (reads_of a r)) is ∙ reads-many r old.state.account.shards s _ (omega (arith, many, inside)) (read-more r (shard_log old.state.account s) reading.begun.stamp v _ _)
 
-  pub visit-ok : GoesOn old.state.account new.state.account → ((v : Name) → shard_of v old.script.shards < old.script.shards) → answer ≡ Ok → Visits old.script r home old.state.account new.state.account true
+  pub visit-ok : GoesOn old.state.account new.state.account → ((v : Name) → shard_of v old.script.shards < old.script.shards) → answer ≡ Ok → ReadsOnward old.script r home old.state.account new.state.account true
   visit-ok on some-shard ok = at (next_visit (reads_of old.state.account r) reading.program) refl
     where
-      at : (o : Option Name) → next_visit (reads_of old.state.account r) reading.program ≡ o → Visits old.script r home old.state.account new.state.account true
+      at : (o : Option Name) → next_visit (reads_of old.state.account r) reading.program ≡ o → ReadsOnward old.script r home old.state.account new.state.account true
       at None e = let clash : Ok ≡ Idle = sym ok ∙ answer-by None e in cc
       at (Some v) e = record {
         less = λ t. (
@@ -266,7 +266,7 @@ module _ (laws : LowerLaws) (old new : CoreView) (r home : ℕ) (answer : StepAn
       at None e = let clash : Again s g ≡ Idle = sym again ∙ answer-by None e in cc
       at (Some v) e = by v e (ready-at v) refl
 
-  pub visit-readied : (s : ℕ) (readied : CoreView) → IsAgain s → IsCore old.script readied.state → GoesOn old.state.account readied.state.account → MakesReady old.script home s old.state.account readied.state.account → Visits old.script r home old.state.account readied.state.account true
+  pub visit-readied : (s : ℕ) (readied : CoreView) → IsAgain s → IsCore old.script readied.state → GoesOn old.state.account readied.state.account → MakesReady old.script home s old.state.account readied.state.account → ReadsOnward old.script r home old.state.account readied.state.account true
   visit-readied s readied again core on made = record {
     less = λ t. (
         let few = few-read again.v again.next in
@@ -279,7 +279,7 @@ module _ (laws : LowerLaws) (old new : CoreView) (r home : ℕ) (answer : StepAn
     whole = λ f. cc;
   }
 
-  pub visit-after : (s : ℕ) (readied : CoreView) → IsAgain s → Drives 0 new readied → MakesReady new.script home s new.state.account readied.state.account → Visits old.script r home old.state.account readied.state.account true
+  pub visit-after : (s : ℕ) (readied : CoreView) → IsAgain s → Drives 0 new readied → MakesReady new.script home s new.state.account readied.state.account → ReadsOnward old.script r home old.state.account readied.state.account true
   visit-after s readied again drives made =
       let core-new : IsCore new.script new.state = subst (λ (k : Script). IsCore k new.state) (sym did.script_is) cores.after in
       let core : IsCore old.script readied.state = subst (λ (k : Script). IsCore k readied.state) did.script_is (drives-core 0 new readied core-new drives) in
@@ -289,14 +289,14 @@ module _ (laws : LowerLaws) (old new : CoreView) (r home : ℕ) (answer : StepAn
       (subst (λ (k : CoreState). MakesReady old.script home s k.account readied.state.account) again.same (subst (λ (k : Script). MakesReady k home s new.state.account readied.state.account) did.script_is made))
 
   -- any other answer says that there is no next vertex
-  pub visit-whole : is_other answer ≡ true → Visits old.script r home old.state.account new.state.account false
+  pub visit-whole : is_other answer ≡ true → ReadsOnward old.script r home old.state.account new.state.account false
   visit-whole other = at (next_visit (reads_of old.state.account r) reading.program) refl
     where
-      by : (v : Name) → next_visit (reads_of old.state.account r) reading.program ≡ Some v → (o : Option ℕ) → ready-at v ≡ o → Visits old.script r home old.state.account new.state.account false
+      by : (v : Name) → next_visit (reads_of old.state.account r) reading.program ≡ Some v → (o : Option ℕ) → ready-at v ≡ o → ReadsOnward old.script r home old.state.account new.state.account false
       by v e None ready = let clash : true ≡ false = sym other ∙ ap is_other (answer-by (Some v) e ∙ ap (again_or_ok (shard_of v old.script.shards)) ready) in cc
       by v e (Some gate) ready = let clash : true ≡ false = sym other ∙ ap is_other (answer-by (Some v) e ∙ ap (again_or_ok (shard_of v old.script.shards)) ready) in cc
 
-      at : (o : Option Name) → next_visit (reads_of old.state.account r) reading.program ≡ o → Visits old.script r home old.state.account new.state.account false
+      at : (o : Option Name) → next_visit (reads_of old.state.account r) reading.program ≡ o → ReadsOnward old.script r home old.state.account new.state.account false
       at (Some v) e = by v e (ready-at v) refl
       at None e =
           let same : new.state ≡ old.state = did.state_is ∙ not-done old.script old.state (Visit r) (ap is_ok (sym did.answer_is ∙ answer-by None e)) in
@@ -326,5 +326,5 @@ other-of Empty not-ok not-again = refl
 other-of (Waits v) not-ok not-again = refl
 
 -- with the script at the start
-pub visits-at : (r home : ℕ) (old middle new : CoreView) (more : Bool) → Drives 0 old middle → Visits middle.script r home middle.state.account new.state.account more → Visits old.script r home middle.state.account new.state.account more
-visits-at r home old middle new more d v = subst (λ (s : Script). Visits s r home middle.state.account new.state.account more) d.script_is v
+pub visits-at : (r home : ℕ) (old middle new : CoreView) (more : Bool) → Drives 0 old middle → ReadsOnward middle.script r home middle.state.account new.state.account more → ReadsOnward old.script r home middle.state.account new.state.account more
+visits-at r home old middle new more d v = subst (λ (s : Script). ReadsOnward s r home middle.state.account new.state.account more) d.script_is v

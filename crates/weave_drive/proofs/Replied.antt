@@ -43,7 +43,7 @@ use Rattle.drive_rules.specs.Heads.{IsQuiet}
 use Rattle.weave_drive.specs.Driving.{AreReplied, Drives, is_driving}
 use Rattle.weave_drive.specs.LowerLaws.{LowerLaws}
 use Rattle.weave_drive.specs.Loops.{AnswersBelow}
-use Rattle.weave_drive.specs.Progress.{AreCores, IsAnswered, IsReading, IsReadWhole}
+use Rattle.weave_drive.specs.Progress.{AreCores, AreAnsweredBelow, IsReading, HasNoNextVertex}
 use Rattle.weave_drive.proofs.After.{account-after, set-other, set-there}
 use Rattle.weave_drive.proofs.Driven.{drives-core, drives-on, drives-through}
 use Rattle.weave_drive.proofs.Quiet.{drives-quiet, drives-quiet-at}
@@ -199,7 +199,7 @@ module _ (laws : LowerLaws) (script : Script) (limits : IsWithinLimits script) (
       by (Look program) t e = cc
 
   -- and a program that has no next vertex was read
-  pub read-when-whole : (account : Account) → IsReadWhole script r account → is_change request.work ≡ false → is_answered account r request request.work ≡ true
+  pub read-when-whole : (account : Account) → HasNoNextVertex script r account → is_change request.work ≡ false → is_answered account r request request.work ≡ true
   read-when-whole account whole look = by request.work refl look
     where
       by : (work : Work) → request.work ≡ work → is_change work ≡ false → is_answered account r request work ≡ true
@@ -308,7 +308,7 @@ module _ (laws : LowerLaws) (script : Script) (limits : IsWithinLimits script) (
 
   -- Answered
 
-  pub answered-next : (old new : Account) → GoesOn old new → AreReplied script r old → IsQuiet new → has_reply new r request ≡ true → (n : ℕ) → n ≡ r + 1 → IsAnswered script n new
+  pub answered-next : (old new : Account) → GoesOn old new → AreReplied script r old → IsQuiet new → has_reply new r request ≡ true → (n : ℕ) → n ≡ r + 1 → AreAnsweredBelow script n new
   answered-next old new on replied quiet has n n-is = record {
     quiet = quiet;
     replied = λ q asked below asked-is. elim (cases_eq q r) [
@@ -323,7 +323,7 @@ module _ (laws : LowerLaws) (script : Script) (limits : IsWithinLimits script) (
 -- One request in its turn
 
 module _ (laws : LowerLaws) (old first : CoreView) (r : ℕ) (request : Request) (request-is : request_at old.script r ≡ Some request) (cores : AreCores old first) (a : StepAnswer) (did : Does (Begin r) old first a)
-    (answered : IsAnswered old.script r old.state.account) where
+    (answered : AreAnsweredBelow old.script r old.state.account) where
   pub first-begins : Begins laws old.script cores.limits r request request-is first.state.account
   first-begins = subst (λ (s : CoreState). Begins laws old.script cores.limits r request request-is s.account) (sym did.state_is)
       (begun-now laws old.script cores.limits r request request-is old.state cores.before answered.quiet answered.replied)
@@ -372,12 +372,12 @@ module _ (laws : LowerLaws) (old first : CoreView) (r : ℕ) (request : Request)
     middle-sent change quiet = sent-when-quiet laws old.script cores.limits r request request-is middle.state middle-core quiet change middle-begun
 
     -- a program was read
-    pub middle-read : is_change request.work ≡ false → IsReadWhole middle.script r middle.state.account → is_answered middle.state.account r request request.work ≡ true
-    middle-read look whole = read-when-whole laws old.script cores.limits r request request-is middle.state.account (subst (λ s. IsReadWhole s r middle.state.account) (drives.script_is ∙ did.script_is) whole) look
+    pub middle-read : is_change request.work ≡ false → HasNoNextVertex middle.script r middle.state.account → is_answered middle.state.account r request request.work ≡ true
+    middle-read look whole = read-when-whole laws old.script cores.limits r request request-is middle.state.account (subst (λ s. HasNoNextVertex s r middle.state.account) (drives.script_is ∙ did.script_is) whole) look
 
     -- so it has its reply
     pub last-answered : (last : CoreView) (b : StepAnswer) → IsQuiet middle.state.account → is_answered middle.state.account r request request.work ≡ true
-        → Does (Reply r) middle last b → Drives 0 middle last → IsAnswered old.script (r + 1) last.state.account
+        → Does (Reply r) middle last b → Drives 0 middle last → AreAnsweredBelow old.script (r + 1) last.state.account
     last-answered last b quiet ended replied on-drives =
         let same : middle.script ≡ old.script = drives.script_is ∙ did.script_is in
         let last-is : last.state ≡ state_after old.script middle.state (Reply r) = replied.state_is ∙ ap (λ s. state_after s middle.state (Reply r)) same in
@@ -401,10 +401,10 @@ answers-from upto n old new drives quiet replied = record {
   answered = record { quiet = quiet; replied = subst (λ (s : Script). AreReplied s n new.state.account) drives.script_is replied };
 }
 
-pub answers-next : (upto n : ℕ) (old middle new : CoreView) (m : ℕ) → AnswersBelow upto n old middle → Drives upto middle new → IsAnswered middle.script m new.state.account → AnswersBelow upto m old new
+pub answers-next : (upto n : ℕ) (old middle new : CoreView) (m : ℕ) → AnswersBelow upto n old middle → Drives upto middle new → AreAnsweredBelow middle.script m new.state.account → AnswersBelow upto m old new
 answers-next upto n old middle new m before drives answered = record {
   drives = drives-through upto old middle new before.drives drives;
-  answered = subst (λ (s : Script). IsAnswered s m new.state.account) before.drives.script_is answered;
+  answered = subst (λ (s : Script). AreAnsweredBelow s m new.state.account) before.drives.script_is answered;
 }
 
 pub answers-all : (upto n : ℕ) (old new : CoreView) → upto ≤ n → AnswersBelow upto n old new → AreReplied old.script upto new.state.account

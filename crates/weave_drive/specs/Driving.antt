@@ -1,4 +1,5 @@
--- What driving a core does: ordinary steps, of which none begins a request from a bound on, raises an epoch or collects.
+-- What driving a core does: ordinary steps, of which none begins a request from a bound on, raises an epoch or
+-- collects.
 use Rattle.std.specs.Prelude.{◌≡◌, ℕ, ◌<◌, Bool, true, false, nat_lt, List, [], ◌∷◌, ◌++◌, fold, Contains, IsTrue, Some, ⊤}
 use Rattle.program_defs.specs.declared.script.Request.{Request}
 use Rattle.program_defs.specs.declared.script.Script.{Script}

@@ -5,7 +5,7 @@ use Rattle.weave_account.specs.Account.{gate_log}
 use Rattle.weaver_core.specs.Cores.{CoreView}
 use Rattle.drive_rules.specs.Heads.{CanApply}
 use Rattle.weave_drive.specs.Driving.{Drives}
-use Rattle.weave_drive.specs.Progress.{HaveArrived, IsAnswered, Nudges, left_of}
+use Rattle.weave_drive.specs.Progress.{HaveArrived, AreAnsweredBelow, Nudges, left_of}
 
 -- no transaction is in flight at the first n gatekeepers
 pub record EndsBelow (n : ℕ) (old new : CoreView) : Type 0 where
@@ -51,4 +51,4 @@ pub record NudgesBelow (n home shard : ℕ) (old new : CoreView) : Type 0 where
 -- the first n requests have their replies
 pub record AnswersBelow (upto n : ℕ) (old new : CoreView) : Type 0 where
   pub drives : Drives upto old new
-  pub answered : IsAnswered old.script n new.state.account
+  pub answered : AreAnsweredBelow old.script n new.state.account

@@ -46,7 +46,7 @@ HaveArrived account shard gate number =
     (n : ℕ) → 1 ≤ n → n < number → IsTrue (is_some (arrived_at gate n (shard_log account shard)))
 
 -- the message of this number was to arrive: it is there, if it was sent
-pub record Delivers (gate shard number : ℕ) (old new : Account) (sent : Bool) : Type 0 where
+pub record DeliversMessage (gate shard number : ℕ) (old new : Account) (sent : Bool) : Type 0 where
   pub same_gates : new.gates ≡ old.gates
   pub sent_is : sent ≡ is_some (sent_as number (channel_of shard (gate_log old gate)))
   pub arrived : IsTrue sent → IsTrue (is_some (arrived_at gate number (shard_log new shard)))
@@ -67,10 +67,11 @@ pub record DeliversTo (shard : ℕ) (old new : Account) : Type 0 where
 abbrev pub left_of : ℕ → Account → ℕ → ℕ
 left_of zero account shard = 0
 left_of (suc g) account shard =
-    left_of g account shard + (length (channel_of shard (gate_log account g)) - processed_count g (shard_log account shard))
+    left_of g account shard + (length (channel_of shard (gate_log account g))
+    - processed_count g (shard_log account shard))
 
 -- a channel's heads were to be processed, while they can be: there are fewer messages left, or it was stuck
-pub record Applies (gates shard gate : ℕ) (old new : CoreState) (moved : Bool) : Type 0 where
+pub record AppliesChannel (gates shard gate : ℕ) (old new : CoreState) (moved : Bool) : Type 0 where
   pub same_gates : new.account.gates ≡ old.account.gates
   pub fewer : IsTrue moved → left_of gates new.account shard < left_of gates old.account shard
   pub same : moved ≡ false → new ≡ old
@@ -98,7 +99,8 @@ pub record IsSentAfter (account : Account) (shard : ℕ) (stamp : Stamp) (home :
 
 -- for each stamp that the home had made, a gatekeeper has sent a later message to the shard
 abbrev pub Nudges : ℕ → ℕ → ℕ → Account → Account → Type 0
-Nudges home gate shard old new = (stamp : Stamp) → Contains (stamps_of (gate_log old home)) stamp → IsSentAfter new shard stamp gate
+Nudges home gate shard old new =
+    (stamp : Stamp) → Contains (stamps_of (gate_log old home)) stamp → IsSentAfter new shard stamp gate
 
 -- the shard is ready for each stamp that the home had made
 abbrev pub MakesReady : Script → ℕ → ℕ → Account → Account → Type 0
@@ -134,19 +136,19 @@ abbrev pub reading_left : Script → ℕ → ℕ → Account → ℕ
 reading_left script r home account = reading_left_of script r account (program_begun r (gate_log account home))
 
 -- the request, if it is a program, has no next vertex
-abbrev pub IsReadWhole : Script → ℕ → Account → Type 0
-IsReadWhole script r account =
+abbrev pub HasNoNextVertex : Script → ℕ → Account → Type 0
+HasNoNextVertex script r account =
     (request : Request) (program : Program) → request_at script r ≡ Some request → request.work ≡ Look program
     → next_visit (reads_of account r) program ≡ None
 
 -- a vertex was read, or a shard became ready; or there is no next vertex
-pub record Visits (script : Script) (r home : ℕ) (old new : Account) (more : Bool) : Type 0 where
+pub record ReadsOnward (script : Script) (r home : ℕ) (old new : Account) (more : Bool) : Type 0 where
   pub less : IsTrue more → reading_left script r home new < reading_left script r home old
-  pub whole : more ≡ false → IsReadWhole script r new
+  pub whole : more ≡ false → HasNoNextVertex script r new
 
 -- Answers
 
 -- no transaction is in flight, and each request below n has its reply
-pub record IsAnswered (script : Script) (n : ℕ) (account : Account) : Type 0 where
+pub record AreAnsweredBelow (script : Script) (n : ℕ) (account : Account) : Type 0 where
   pub quiet : IsQuiet account
   pub replied : AreReplied script n account

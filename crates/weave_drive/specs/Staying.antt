@@ -14,7 +14,8 @@ use Rattle.weave_account.specs.GoesOn.{IsBeginningOf}
 -- the first ones in the list.
 pub record ReportStays (script : Script) (account next : Account) : Type 0 where
   pub stamps : (r : ℕ) (stamp : Stamp) → stamp_of account r ≡ Some stamp → stamp_of next r ≡ Some stamp
-  pub verdicts : (r : ℕ) (judged : Judgement) → judgement_of r account.store ≡ Some judged → judgement_of r next.store ≡ Some judged
+  pub verdicts : (r : ℕ) (judged : Judgement) → judgement_of r account.store ≡ Some judged
+      → judgement_of r next.store ≡ Some judged
   pub finished : (r : ℕ) → IsTrue (is_ended account r) → IsTrue (is_ended next r)
   pub answers : (r : ℕ) (request : Request) → request_at script r ≡ Some request → IsTrue (is_look request.work)
       → IsTrue (is_ended account r) → reads_of next r ≡ reads_of account r

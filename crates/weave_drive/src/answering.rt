@@ -6,7 +6,7 @@ ghost use Rattle.weave_entries.specs.GateReplay.{flight_of};
 ghost use Rattle.weave_account.specs.Account.{gate_log};
 ghost use Rattle.drive_rules.specs.Heads.{IsQuiet};
 ghost use Rattle.weave_drive.specs.Driving.{AreReplied, Drives, DrivesGates, IsDriven};
-ghost use Rattle.weave_drive.specs.Progress.{IsAnswered, IsReading, IsReadWhole};
+ghost use Rattle.weave_drive.specs.Progress.{AreAnsweredBelow, IsReading, HasNoNextVertex};
 ghost use Rattle.weave_drive.specs.Staying.{ReportStays};
 
 use crate::flights::{end_flight, end_flights};
@@ -48,7 +48,7 @@ fn end_request(
     requires quiet { change ≡ false → IsQuiet core.old.state.account }
     ensures drives { Drives 0 core.old core.new }
     ensures sent { OnOk result (change ≡ true → flight_of (gate_log core.new.state.account home) ≡ None) }
-    ensures read { OnOk result (change ≡ false → IsReadWhole core.old.script request core.new.state.account) }
+    ensures read { OnOk result (change ≡ false → HasNoNextVertex core.old.script request core.new.state.account) }
 {
     if change {
         end_flight(alloc, core, home)?;
@@ -61,9 +61,9 @@ fn end_request(
 // The request begins, unless it has, and has its reply.
 fn answer(alloc: Global, core: &mut Core, request: u32) -> Result<(), AllocError>
     requires there { request < length core.old.script.requests }
-    requires answered { IsAnswered core.old.script request core.old.state.account }
+    requires answered { AreAnsweredBelow core.old.script request core.old.state.account }
     ensures drives { Drives (request + 1) core.old core.new }
-    ensures answered { OnOk result (IsAnswered core.old.script (request + 1) core.new.state.account) }
+    ensures answered { OnOk result (AreAnsweredBelow core.old.script (request + 1) core.new.state.account) }
 {
     the_crates_below_keep_their_laws();
     let found = asked(core, request);

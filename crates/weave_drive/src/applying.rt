@@ -2,7 +2,7 @@
 ghost use Rattle.std.specs.Prelude.{◌<◌, IfOk, OnOk};
 ghost use Rattle.drive_rules.specs.Heads.{AllArrived, IsQuiet};
 ghost use Rattle.weave_drive.specs.Driving.{Drives};
-ghost use Rattle.weave_drive.specs.Progress.{Applies, AppliesAll, AppliesRound};
+ghost use Rattle.weave_drive.specs.Progress.{AppliesChannel, AppliesAll, AppliesRound};
 
 use crate::lower_laws::the_crates_below_keep_their_laws;
 use crate::stepping::{is_done, step};
@@ -15,7 +15,7 @@ fn apply(alloc: Global, core: &mut Core, shard: u32, gate: u32) -> Result<bool, 
     requires gate { gate < core.old.script.gates }
     requires shard { shard < core.old.script.shards }
     ensures drives { Drives 0 core.old core.new }
-    ensures applies { IfOk result (Applies core.old.script.gates shard gate core.old.state core.new.state) }
+    ensures applies { IfOk result (AppliesChannel core.old.script.gates shard gate core.old.state core.new.state) }
 {
     the_crates_below_keep_their_laws();
     let answer = step(alloc, core, Step::Apply { shard, gate })?;
@@ -27,7 +27,7 @@ fn apply_channel(alloc: Global, core: &mut Core, shard: u32, gate: u32) -> Resul
     requires gate { gate < core.old.script.gates }
     requires shard { shard < core.old.script.shards }
     ensures drives { Drives 0 core.old core.new }
-    ensures applies { IfOk result (Applies core.old.script.gates shard gate core.old.state core.new.state) }
+    ensures applies { IfOk result (AppliesChannel core.old.script.gates shard gate core.old.state core.new.state) }
 {
     let mut moved = false;
     while apply(alloc, core, shard, gate)? {

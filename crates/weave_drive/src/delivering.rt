@@ -1,7 +1,7 @@
 //! Messages that were sent arrive.
 ghost use Rattle.std.specs.Prelude.{◌≡◌, ◌+◌, ◌<◌, ◌≤◌, IfOk, OnOk};
 ghost use Rattle.weave_drive.specs.Driving.{Drives};
-ghost use Rattle.weave_drive.specs.Progress.{Delivers, DeliversAll, DeliversTo};
+ghost use Rattle.weave_drive.specs.Progress.{DeliversMessage, DeliversAll, DeliversTo};
 
 use crate::lower_laws::the_crates_below_keep_their_laws;
 use crate::stepping::{is_sent, step};
@@ -21,7 +21,7 @@ fn deliver(
     requires shard { shard < core.old.script.shards }
     requires number { 1 ≤ number }
     ensures drives { Drives 0 core.old core.new }
-    ensures delivers { IfOk result (Delivers gate shard number core.old.state.account core.new.state.account) }
+    ensures delivers { IfOk result (DeliversMessage gate shard number core.old.state.account core.new.state.account) }
 {
     let message = Step::Deliver {
         gate,

@@ -2,7 +2,7 @@
 ghost use Rattle.std.specs.Prelude.{◌<◌, length, IfOk, OnOk};
 ghost use Rattle.drive_rules.specs.Heads.{IsQuiet};
 ghost use Rattle.weave_drive.specs.Driving.{Drives};
-ghost use Rattle.weave_drive.specs.Progress.{IsReading, IsReadWhole, Visits};
+ghost use Rattle.weave_drive.specs.Progress.{IsReading, HasNoNextVertex, ReadsOnward};
 
 use crate::lower_laws::the_crates_below_keep_their_laws;
 use crate::readying::make_ready;
@@ -17,7 +17,8 @@ fn visit(alloc: Global, core: &mut Core, home: u32, request: u32) -> Result<bool
     requires reading { IsReading core.old.script request home core.old.state.account }
     requires quiet { IsQuiet core.old.state.account }
     ensures drives { Drives 0 core.old core.new }
-    ensures visits { IfOk result (Visits core.old.script request home core.old.state.account core.new.state.account) }
+    ensures visits { IfOk result
+        (ReadsOnward core.old.script request home core.old.state.account core.new.state.account) }
 {
     the_crates_below_keep_their_laws();
     core.script();
@@ -41,7 +42,7 @@ pub(crate) fn look(
     requires reading { IsReading core.old.script request home core.old.state.account }
     requires quiet { IsQuiet core.old.state.account }
     ensures drives { Drives 0 core.old core.new }
-    ensures whole { OnOk result (IsReadWhole core.old.script request core.new.state.account) }
+    ensures whole { OnOk result (HasNoNextVertex core.old.script request core.new.state.account) }
 {
     the_crates_below_keep_their_laws();
     core.script();

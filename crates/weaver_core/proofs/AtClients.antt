@@ -9,7 +9,7 @@ use Rattle.weave_entries.specs.declared.session_log.SessionEntry.{SessionEntry}
 use Rattle.weave_entries.specs.declared.session_log.SessionDeed.{SessionDeed}
 use Rattle.weave_entries.specs.declared.session_log.SessionDeed.TheVariants.{Begun, Replied}
 use Rattle.weave_entries.specs.SessionReplay.{FitsSession, IsSessionLog, SessionState, session_after, session_of}
-use Rattle.weaver_core.specs.Clients.{AddsAt, AddsDeed, AreFirst, AreNumbered, AreSameClients, ClientTable, IsClientOf, IsSameClient, SessionValues, log_of, no_values, requests_in, session_at, spare_of, values_at, values_of, with_running}
+use Rattle.weaver_core.specs.Clients.{AddsToSession, AddsDeed, AreFirstSessions, AreNumbered, AreSameClients, ClientTable, IsClientOf, IsSameClient, SessionValues, log_of, no_values, requests_in, session_at, spare_of, values_at, values_of, with_running}
 use Rattle.weaver_core.specs.declared.client.Client.{Client}
 use Rattle.weaver_core.specs.declared.walks.Running.{Running}
 use Rattle.weaver_core.proofs.Tables.{each-push, each-set, image-changes, image-push, image-rests}
@@ -59,7 +59,7 @@ same-session old new s same = λ i. session_of (get_or (same.requests i) s []) (
 
 module _ (clients : List Client) (s : ℕ) (before after : Client) (within : s < length clients) (at : slice_get clients s ≡ Some before) where
   -- one more entry
-  pub adds-at : (deed : SessionDeed) → AddsDeed s before after deed → AddsAt (table_of clients) (table_of (slice_set clients s after)) s deed
+  pub adds-at : (deed : SessionDeed) → AddsDeed s before after deed → AddsToSession (table_of clients) (table_of (slice_set clients s after)) s deed
   adds-at deed adds = record {
     logs = image-changes log_of clients s before at (λ (log : List SessionEntry). log ++ record { author = s; deed = deed } ∷ []) [] after adds.log;
     requests = image-rests requests_in clients s before at after adds.requests;
@@ -98,10 +98,10 @@ module _ (clients : List Client) (s : ℕ) (before after : Client) (within : s <
       still-numbered numbered (subst (λ (entries : List SessionEntry). IsClientOf s after.session entries) (sym log) (subst (λ (state : SessionState). IsClientOf s state before.log.items) (sym session) (numbered s before at)))
 
 -- one session more, before its first request
-pub first-client-more : (script : Script) (count : ℕ) (made then_made : List Client) (client : Client) (found : List ℕ) → AreFirst script count made → found ≡ requests_of_session script count
-    → requests_in client ≡ found → log_of client ≡ [] → values_of client ≡ no_values → ((number : ℕ) → IsClientOf number client.session client.log.items) → then_made ≡ made ++ client ∷ [] → AreFirst script (count + 1) then_made
+pub first-client-more : (script : Script) (count : ℕ) (made then_made : List Client) (client : Client) (found : List ℕ) → AreFirstSessions script count made → found ≡ requests_of_session script count
+    → requests_in client ≡ found → log_of client ≡ [] → values_of client ≡ no_values → ((number : ℕ) → IsClientOf number client.session client.log.items) → then_made ≡ made ++ client ∷ [] → AreFirstSessions script (count + 1) then_made
 first-client-more script count made then_made client found are found-is requests log values is-client is =
-    subst (AreFirst script (count + 1)) (sym is) (record {
+    subst (AreFirstSessions script (count + 1)) (sym is) (record {
       numbered = each-push (λ n (one : Client). IsClientOf n one.session one.log.items) made client are.numbered (is-client (length made));
       requests =
           map-append requests_in made (client ∷ [])
@@ -112,7 +112,7 @@ first-client-more script count made then_made client found are found-is requests
     })
 
 -- room first, then an entry
-pub after-room : (old more new : ClientTable) (s : ℕ) (deed : SessionDeed) → AreSameClients old more → AddsAt more new s deed → AddsAt old new s deed
+pub after-room : (old more new : ClientTable) (s : ℕ) (deed : SessionDeed) → AreSameClients old more → AddsToSession more new s deed → AddsToSession old new s deed
 after-room old more new s deed same adds = record {
   logs = adds.logs ∙ ap (λ (logs : List (List SessionEntry)). slice_set logs s (get_or logs s [] ++ record { author = s; deed = deed } ∷ [])) same.logs;
   requests = adds.requests ∙ same.requests;

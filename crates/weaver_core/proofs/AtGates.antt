@@ -10,7 +10,7 @@ use Rattle.weave_entries.specs.declared.gate_log.GateDeed.TheVariants.{Sent}
 use Rattle.weave_entries.specs.declared.verdict.Verdict.{Verdict}
 use Rattle.weave_entries.specs.GateReplay.{Begun, flight_of}
 use Rattle.weave_entries.specs.Sending.{messages_of}
-use Rattle.weaver_core.specs.GateTable.{AddsAt, AreFirst, AreInOrder, GateTable, IsSameGate, log_at, log_of}
+use Rattle.weaver_core.specs.GateTable.{AddsToGate, AreFirstGates, AreGatesInOrder, GateTable, IsSameGate, log_at, log_of}
 use Rattle.weaver_core.proofs.Tables.{each-push, each-set, image-at, image-changes, image-push, image-rests}
 
 -- the table of these gatekeepers
@@ -42,7 +42,7 @@ pub record IsSameFrame (before after : GateView) : Type 0 where
 
 module _ (shards : ℕ) (gates : List GateView) (g : ℕ) (before after : GateView) (within : g < length gates) (at : slice_get gates g ≡ Some before) where
   -- the table has one more entry
-  pub adds-at : (author : ℕ) (deed : GateDeed) → Adds before after author deed → AddsAt (table_of shards gates) (table_of shards (slice_set gates g after)) g author deed
+  pub adds-at : (author : ℕ) (deed : GateDeed) → Adds before after author deed → AddsToGate (table_of shards gates) (table_of shards (slice_set gates g after)) g author deed
   adds-at author deed adds = record { logs = image-changes log_of gates g before at (λ (log : List GateEntry). log ++ record { author = author; deed = deed } ∷ []) [] after adds.log; shards = refl }
 
   -- or stays
@@ -50,23 +50,23 @@ module _ (shards : ℕ) (gates : List GateView) (g : ℕ) (before after : GateVi
   table-rests same = ap (λ (logs : List (List GateEntry)). record { shards = shards; logs = logs }) (image-rests log_of gates g before at after same)
 
   -- the gatekeepers are still in order
-  pub still-in-order : AreInOrder (length gates) shards gates → IsSameFrame before after → AreInOrder (length (slice_set gates g after)) shards (slice_set gates g after)
-  still-in-order are same = subst (λ n. AreInOrder n shards (slice_set gates g after)) (sym (length-set gates g after)) (record {
+  pub still-in-order : AreGatesInOrder (length gates) shards gates → IsSameFrame before after → AreGatesInOrder (length (slice_set gates g after)) shards (slice_set gates g after)
+  still-in-order are same = subst (λ n. AreGatesInOrder n shards (slice_set gates g after)) (sym (length-set gates g after)) (record {
     each_gates = each-set (λ n (gate : GateView). gate.gates ≡ length gates) gates g after within are.each_gates (same.gates ∙ are.each_gates g before at);
     homes = each-set (λ n (gate : GateView). gate.home ≡ n) gates g after within are.homes (same.home ∙ are.homes g before at);
     each_shards = each-set (λ n (gate : GateView). gate.shards ≡ shards) gates g after within are.each_shards (same.shards ∙ are.each_shards g before at);
   })
 
-  pub in-order-after : (author : ℕ) (deed : GateDeed) → AreInOrder (length gates) shards gates → Adds before after author deed → AreInOrder (length (slice_set gates g after)) shards (slice_set gates g after)
+  pub in-order-after : (author : ℕ) (deed : GateDeed) → AreGatesInOrder (length gates) shards gates → Adds before after author deed → AreGatesInOrder (length (slice_set gates g after)) shards (slice_set gates g after)
   in-order-after author deed are adds = still-in-order are (record { home = adds.home; gates = adds.gates; shards = adds.shards })
 
-  pub in-order-still : AreInOrder (length gates) shards gates → IsSameGate before after → AreInOrder (length (slice_set gates g after)) shards (slice_set gates g after)
+  pub in-order-still : AreGatesInOrder (length gates) shards gates → IsSameGate before after → AreGatesInOrder (length (slice_set gates g after)) shards (slice_set gates g after)
   in-order-still are same = still-in-order are (record { home = same.home; gates = same.gates; shards = same.shards })
 
 -- one gatekeeper more, before its first event
-pub first-more : (first count shards : ℕ) (made then_made : List GateView) (gate : GateView) → AreFirst first count shards made → length made ≡ first → IsNew first count shards gate → then_made ≡ made ++ gate ∷ [] → AreFirst (first + 1) count shards then_made
+pub first-more : (first count shards : ℕ) (made then_made : List GateView) (gate : GateView) → AreFirstGates first count shards made → length made ≡ first → IsNew first count shards gate → then_made ≡ made ++ gate ∷ [] → AreFirstGates (first + 1) count shards then_made
 first-more first count shards made then_made gate are many new is =
-    subst (AreFirst (first + 1) count shards) (sym is) (record {
+    subst (AreFirstGates (first + 1) count shards) (sym is) (record {
       in_order = record {
         each_gates = each-push (λ n (one : GateView). one.gates ≡ count) made gate are.in_order.each_gates new.gates_are;
         homes = each-push (λ n (one : GateView). one.home ≡ n) made gate are.in_order.homes (new.home_is ∙ sym many);
@@ -76,14 +76,14 @@ first-more first count shards made then_made gate are many new is =
     })
 
 -- there are that many
-pub first-count : (first count shards : ℕ) (made : List GateView) → AreFirst first count shards made → length made ≡ first
+pub first-count : (first count shards : ℕ) (made : List GateView) → AreFirstGates first count shards made → length made ≡ first
 first-count first count shards made are = sym (length-map made log_of) ∙ ap length are.logs ∙ length-replicate first []
 
 -- what was sent, in terms of the table
-module _ (shards : ℕ) (gates : List GateView) (g : ℕ) (before after : GateView) (within : g < length gates) (at : slice_get gates g ≡ Some before) (are : AreInOrder (length gates) shards gates)
+module _ (shards : ℕ) (gates : List GateView) (g : ℕ) (before after : GateView) (within : g < length gates) (at : slice_get gates g ≡ Some before) (are : AreGatesInOrder (length gates) shards gates)
     (author : ℕ) (ops : List Op) (verdict : Verdict) (sends : SendsFlight before after author ops verdict) where
   pub sends-at : (flight : Begun) → flight_of (log_at (table_of shards gates) g) ≡ Some flight
-      → AddsAt (table_of shards gates) (table_of shards (slice_set gates g after)) g author (Sent flight.request (messages_of shards (log_at (table_of shards gates) g) flight ops verdict))
+      → AddsToGate (table_of shards gates) (table_of shards (slice_set gates g after)) g author (Sent flight.request (messages_of shards (log_at (table_of shards gates) g) flight ops verdict))
   sends-at flight flies =
       let log : before.log ≡ log_at (table_of shards gates) g = sym (image-at log_of gates g before at []) in
       let e : Some sends.flight ≡ Some flight = sym sends.flies ∙ ap flight_of log ∙ flies in

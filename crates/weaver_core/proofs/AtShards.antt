@@ -10,8 +10,8 @@ use Rattle.weave_entries.specs.declared.shard_log.ShardEntry.{ShardEntry}
 use Rattle.weave_entries.specs.declared.shard_log.ShardDeed.{ShardDeed}
 use Rattle.weave_entries.specs.declared.shard_log.ShardDeed.TheVariants.{Applied, Arrived}
 use Rattle.weave_entries.specs.ShardReplay.{arrived_at, processed_count}
-use Rattle.weaver_core.specs.Messages.{AppliesHead, Arrives}
-use Rattle.weaver_core.specs.ShardTable.{AddsAt, AreFirst, AreInOrder, ShardTable, log_at, log_of}
+use Rattle.weaver_core.specs.Messages.{AppliesHead, ArrivesAtShard}
+use Rattle.weaver_core.specs.ShardTable.{AddsToShard, AreFirstShards, AreShardsInOrder, ShardTable, log_at, log_of}
 use Rattle.weaver_core.proofs.Tables.{each-push, each-set, image-at, image-changes, image-push, image-rests}
 
 -- the table of these shards
@@ -51,7 +51,7 @@ module _ (gates : ℕ) (shards : List ShardView) (s : ℕ) (before after : Shard
   log-is = sym (image-at log_of shards s before at [])
 
   -- the table has one more entry
-  pub adds-at : (deed : ShardDeed) → AddsEntry before after 0 deed → AddsAt (table_of gates shards) (table_of gates (slice_set shards s after)) s deed
+  pub adds-at : (deed : ShardDeed) → AddsEntry before after 0 deed → AddsToShard (table_of gates shards) (table_of gates (slice_set shards s after)) s deed
   adds-at deed adds = record { logs = image-changes log_of shards s before at (λ (log : List ShardEntry). log ++ record { author = 0; deed = deed } ∷ []) [] after adds.log; gates = refl }
 
   -- or stays
@@ -59,7 +59,7 @@ module _ (gates : ℕ) (shards : List ShardView) (s : ℕ) (before after : Shard
   table-rests same = ap (λ (logs : List (List ShardEntry)). record { gates = gates; logs = logs }) (image-rests log_of shards s before at after (ap log_of same))
 
   -- the shards are still in order
-  pub still-in-order : AreInOrder gates shards → IsMadeAlike before after → AreInOrder gates (slice_set shards s after)
+  pub still-in-order : AreShardsInOrder gates shards → IsMadeAlike before after → AreShardsInOrder gates (slice_set shards s after)
   still-in-order are alike = record {
     numbers = each-set (λ n (shard : ShardView). shard.number ≡ n) shards s after within are.numbers (alike.number ∙ are.numbers s before at);
     each_gates = each-set (λ n (shard : ShardView). shard.gates ≡ gates) shards s after within are.each_gates (alike.gates ∙ are.each_gates s before at);
@@ -68,7 +68,7 @@ module _ (gates : ℕ) (shards : List ShardView) (s : ℕ) (before after : Shard
   -- what became of a message, in terms of the table
   pub arrives-at : (home number : ℕ) (message : Message) (arrival : Arrival) → arrival ≡ (if is_some (arrived_at home number before.log) then Repeat else Kept)
       → (arrival ≡ Kept → AddsEntry before after 0 (Arrived home number message)) → (arrival ≡ Repeat → after ≡ before)
-      → Arrives (table_of gates shards) (table_of gates (slice_set shards s after)) s home number message arrival
+      → ArrivesAtShard (table_of gates shards) (table_of gates (slice_set shards s after)) s home number message arrival
   arrives-at home number message Kept is kept repeat =
       (ap (arrived_at home number) (sym log-is) ∙ not-arrived (arrived_at home number before.log) is, adds-at (Arrived home number message) (kept refl))
   arrives-at home number message Repeat is kept repeat =
@@ -83,10 +83,10 @@ module _ (gates : ℕ) (shards : List ShardView) (s : ℕ) (before after : Shard
   }
 
 -- one shard more, before anything arrived
-pub first-more : (count gates : ℕ) (made then_made : List ShardView) (shard : ShardView) → AreFirst count gates made → length made ≡ count → shard ≡ record { number = count; gates = gates; log = [] } → then_made ≡ made ++ shard ∷ []
-    → AreFirst (count + 1) gates then_made
+pub first-more : (count gates : ℕ) (made then_made : List ShardView) (shard : ShardView) → AreFirstShards count gates made → length made ≡ count → shard ≡ record { number = count; gates = gates; log = [] } → then_made ≡ made ++ shard ∷ []
+    → AreFirstShards (count + 1) gates then_made
 first-more count gates made then_made shard are many new is =
-    subst (AreFirst (count + 1) gates) (sym is) (record {
+    subst (AreFirstShards (count + 1) gates) (sym is) (record {
       in_order = record {
         numbers = each-push (λ n (one : ShardView). one.number ≡ n) made shard are.in_order.numbers (ap (λ (one : ShardView). one.number) new ∙ sym many);
         each_gates = each-push (λ n (one : ShardView). one.gates ≡ gates) made shard are.in_order.each_gates (ap (λ (one : ShardView). one.gates) new);
@@ -95,5 +95,5 @@ first-more count gates made then_made shard are many new is =
     })
 
 -- there are that many
-pub first-count : (count gates : ℕ) (made : List ShardView) → AreFirst count gates made → length made ≡ count
+pub first-count : (count gates : ℕ) (made : List ShardView) → AreFirstShards count gates made → length made ≡ count
 first-count count gates made are = sym (length-map made log_of) ∙ ap length are.logs ∙ length-replicate count []

@@ -19,8 +19,8 @@ use Rattle.weave_entries.specs.ShardRules.{IsKeptFor, entries_of_visit, is_settl
 use Rattle.weave_entries.specs.StoreRule.{entries_of_settling}
 use Rattle.shard_node.specs.Shards.{AddsEntry, ShardView}
 use Rattle.step_rules.specs.Entries.{made_entry}
-use Rattle.weaver_core.specs.ShardTable.{AddsAt}
-use Rattle.weaver_core.specs.Visiting.{IsVisited, Reads, entries_asked, state_seen, updates_seen}
+use Rattle.weaver_core.specs.ShardTable.{AddsToShard}
+use Rattle.weaver_core.specs.Visiting.{IsReadAtShard, Reads, entries_asked, state_seen, updates_seen}
 use Rattle.weaver_core.proofs.AtShards.{adds-at, log-is, table_of}
 
 pub if_ok_on_three : {A E : Type 0} (result : Result A E) (P Q R : Type 0) (S T : A → Type 0) → ((a : A) → P → Q → R → S a → T a) → OnOk result P → OnOk result Q → OnOk result R → IfOk result S → IfOk result T
@@ -44,7 +44,7 @@ module _ (back : (entry : OracleEntry) → oracle_entry (settled_entry entry) �
 -- A visit is marked exactly if the oracle made an entry
 
 -- what was seen last is one update, or none
-last-cases : (n : ℕ) (updates : List Stamp) → (last_seen n updates ≡ []) ⊎ ((update : Stamp) × (last_seen n updates ≡ update ∷ []))
+pub last-cases : (n : ℕ) (updates : List Stamp) → (last_seen n updates ≡ []) ⊎ ((update : Stamp) × (last_seen n updates ≡ update ∷ []))
 last-cases zero updates = inl refl
 last-cases (suc n) [] = inl refl
 last-cases (suc zero) (update ∷ updates) = inr (update, refl)
@@ -80,7 +80,7 @@ module _ (laws : VisitLaws) (gates : ℕ) (shards : List ShardView) (s : ℕ) (b
   -- what was visited, over this log
   abbrev Over : List ShardEntry → Type 0
   Over log = (first_unready gates stamp log ≡ None)
-      × AddsAt (table_of gates shards) (table_of gates (slice_set shards s after)) s (Visited r stamp v (updates_seen oracle log stamp v) (made_entry (entries_asked oracle log stamp v)))
+      × AddsToShard (table_of gates shards) (table_of gates (slice_set shards s after)) s (Visited r stamp v (updates_seen oracle log stamp v) (made_entry (entries_asked oracle log stamp v)))
       × (then_oracle ≡ oracle ++ entries_asked oracle log stamp v)
 
   updates-are : updates_read pairs stamp v before.log ≡ updates_seen oracle before.log stamp v
@@ -97,7 +97,7 @@ module _ (laws : VisitLaws) (gates : ℕ) (shards : List ShardView) (s : ℕ) (b
 
   pub visited-at : first_unready before.gates stamp before.log ≡ None → AddsEntry before after 0 (Visited r stamp v (updates_read pairs stamp v before.log) (is_settled_by pairs stamp v before.log))
       → map settled_entry then_oracle ≡ map settled_entry oracle ++ entries_of_visit pairs 0 stamp v before.log
-      → IsVisited (table_of gates shards) (table_of gates (slice_set shards s after)) oracle then_oracle s r stamp v
+      → IsReadAtShard (table_of gates shards) (table_of gates (slice_set shards s after)) oracle then_oracle s r stamp v
   visited-at ready entry logged =
       let here : Over before.log = (
         ap (λ n. first_unready n stamp before.log) (sym made) ∙ ready,

@@ -18,6 +18,7 @@ use Rattle.report_rules.specs.Lookups.{request_at}
 use Rattle.report_rules.specs.declared.report.StepAnswer.{StepAnswer}
 use Rattle.report_rules.specs.declared.report.StepAnswer.TheVariants as answer
 use Rattle.weave_entries.specs.declared.oracle_log.OracleEntry.{OracleEntry}
+use Rattle.weave_account.proofs.InSession.{last-any}
 use Rattle.weaver_core.specs.ShardTable.{ShardTable}
 use Rattle.weave_entries.specs.declared.store_log.StoreEntry.{StoreEntry}
 use Rattle.weave_entries.specs.GateReplay.{Begun, begun_stamp, clock_of}
@@ -36,18 +37,17 @@ use Rattle.weaver_core.specs.Beginning.{Begins, BeginsOne, IsBegun, IsReadyToBeg
 use Rattle.weaver_core.specs.Clients as clients
 use Rattle.weaver_core.specs.Cores.{AreOf, MachinesDo, MachinesView, machines_of}
 use Rattle.weaver_core.specs.GateTable as gates
+use Rattle.weaver_core.proofs.CitedLaws.{RequestLaws}
 use Rattle.weaver_core.proofs.Resting.{done, rests}
-use Rattle.weaver_core.proofs.Turns.{last-any}
 
 -- the laws of weave_account that are cited
 pub record BeginLaws : Type 0 where
+  pub requests : RequestLaws
   -- stamps_are_begun
   pub last : (script : Script) (account : Account) → IsWithinLimits script → IsAccount script account → (session : ℕ) (stamp : Stamp) → (session_of [] (session_log account session)).last ≡ Some stamp → IsBegunStamp account stamp
   -- clocks_are_known
   pub begun : (script : Script) (account : Account) → IsWithinLimits script → IsAccount script account → (begun : Begun) → Contains (all_begun account) begun → IsKnown account begun.stamp.clock
   pub may_be_heard : (shards home : ℕ) (account : Account) → home < 8 → IsGateLog home shards (gate_log account home) → (clock : Clock) → IsKnown account clock → IsTrue (counts_no_more home (clock_of home (gate_log account home)) clock)
-  -- requests_of_a_session_rise
-  pub among : (script : Script) (r : ℕ) (request : Request) → request_at script r ≡ Some request → Contains (requests_of_session script request.session) r
 
 -- how a request is says which tests hold
 is-twice : (a b : Bool) → (if a then standing.Twice else (if b then standing.Early else standing.Next)) ≡ standing.Twice → a ≡ true
@@ -96,7 +96,7 @@ module _ (script : Script) (old : gates.GateTable) (store : List StoreEntry) (or
         record {
           gate = omega (arith, home, many);
           session = omega (arith, session, all);
-          among = subst (λ rs. Contains rs r) (sym (requests-are request.session session)) (laws.among script r request is);
+          among = subst (λ rs. Contains rs r) (sym (requests-are request.session session)) (laws.requests.among script r request is);
           known = subst (λ (last : Option Stamp). ForSome last (λ stamp. IsTrue (counts_no_more request.gate (clock_of request.gate (gates.log_at old request.gate)) stamp.clock)))
               (last-any [] (clients.requests_at was request.session) (clients.log_at was request.session)) (heard request home);
         }

@@ -1,17 +1,15 @@
 -- A running program can visit any vertex, and can be finished.
-use Rattle.std.proofs.Common.{◌≡◌, ◌≢◌, ◌⊎◌, ℕ, zero, suc, ◌<◌, false, List, [], ◌∷◌, ◌++◌, length, map, take, drop, Contains, IsTrue, Option, None, Some, inl, inr, refl, sym, ap, subst, ◌∙◌, arith}
-use Rattle.std.specs.Prelude.{◌↔◌, ◌==◌, IsSomeAnd, slice_index_or}
+use Rattle.std.proofs.Common.{◌≡◌, ◌≢◌, ℕ, zero, suc, ◌<◌, false, List, [], ◌∷◌, ◌++◌, length, take, drop, Contains, IsTrue, Option, None, Some, inl, inr, refl, sym, ap, subst, ◌∙◌, arith}
+use Rattle.std.specs.Prelude.{◌==◌, IsSomeAnd, slice_index_or}
 use Rattle.std.specs.List.{flat_map, list_any}
 use Rattle.std.proofs.lemmas.Bool.{and_from, both_ways, eq-eqb, eqb-true}
-use Rattle.std.proofs.lemmas.List.Elements.{All-from_recursion, Contains-append_cases, Contains-append_right, Contains-get_or}
+use Rattle.std.proofs.lemmas.List.Elements.{All-from_recursion, Contains-append_cases, Contains-get_or}
 use Rattle.proof_base.proofs.Members.{any_from, filter_has, find_has, flat_has, has_flat, has_map, has_none, has_read, has_head, has_tail, map_has}
 use Rattle.proof_base.proofs.Places.{all-from}
 use Rattle.weave_data.specs.Names.{shard_of}
 use Rattle.weave_data.specs.declared.name.Name.{Name}
 use Rattle.vector_stamp.specs.declared.clock.Stamp.{Stamp}
-use Rattle.vector_stamp.specs.Coherence.{AreCoherent}
 use Rattle.vector_stamp.specs.Order.{id_of}
-use Rattle.vector_stamp.specs.Precedence.{Given, JoinsEvents}
 use Rattle.order_graph.specs.Building.{ends_of}
 use Rattle.program_defs.specs.Limits.{IsWithinLimits}
 use Rattle.program_defs.specs.declared.program.Program.{Program}
@@ -25,8 +23,7 @@ use Rattle.weave_entries.specs.declared.store_log.StoreEntry.{StoreEntry}
 use Rattle.weave_entries.specs.declared.store_log.StoreDeed.{StoreDeed}
 use Rattle.weave_entries.specs.declared.store_log.StoreDeed.TheVariants.{Judged}
 use Rattle.weave_entries.specs.declared.verdict.Verdict.TheVariants.{Committed, Conflict, Refused}
-use Rattle.weave_entries.specs.GateReplay.{Begun, begun_by, begun_in, ended_in, is_begun, program_begun, program_by, programs_of, running_of, tx_by}
-use Rattle.weave_entries.specs.GateRules.{BeginsEachOnce, IsGateLog}
+use Rattle.weave_entries.specs.GateReplay.{Begun, begun_in, ended_in, is_begun, program_begun, programs_of, running_of}
 use Rattle.weave_entries.specs.ShardReplay.{Update, updates_of}
 use Rattle.weave_entries.specs.ShardRules.{IsKeptFor, dropped_of, kept_stamps, update_stamps}
 use Rattle.weave_entries.specs.StoreReplay.{Commit, Judgement, commit_by, commits_naming, commits_of, judged_by, judgements_of, names_vertex}
@@ -34,34 +31,17 @@ use Rattle.weave_account.specs.declared.account.Account.{Account}
 use Rattle.weave_account.specs.Account.{IsBegunStamp, all_begun, begun_stamps, commits_in, gate_log, is_ended, pairs_in, shard_log}
 use Rattle.weave_account.specs.IsAccount.{IsAccount}
 use Rattle.weave_account.specs.Shards.{update_of}
+use Rattle.weave_entries.proofs.OwnStamps.{program-begun}
 use Rattle.weaver_core.specs.Visiting.{CanBeVisited}
-
--- the laws that are cited of what is running
-pub record RunLaws : Type 0 where
-  -- requests_end_or_go_on
-  pub once : (script : Script) (account : Account) → IsWithinLimits script → IsAccount script account → (home : ℕ) → BeginsEachOnce (gate_log account home)
-  -- what_has_not_ended_goes_on
-  pub running : (home shards : ℕ) (log : List GateEntry) → IsGateLog home shards log → BeginsEachOnce log → (program : Begun) → Contains (running_of log) program ↔ (Contains (programs_of log) program × ¬ Contains (ended_in log) program.request)
+use Rattle.weaver_core.proofs.CitedLaws.{AskedLaws, BegunLaws, CommitLaws, RunLaws}
 
 -- the laws that are cited of visits
 pub record CanVisitLaws : Type 0 where
-  -- begun_stamps_are_coherent
-  pub coherent : (script : Script) (account : Account) → IsWithinLimits script → IsAccount script account → AreCoherent (begun_stamps account)
-  pub differ : (script : Script) (account : Account) → IsWithinLimits script → IsAccount script account → (a b : Begun) → Contains (all_begun account) a → Contains (all_begun account) b → a.request ≢ b.request → id_of a.stamp ≢ id_of b.stamp
-  -- judgements_are_of_requests
-  pub work : (script : Script) (account : Account) → IsWithinLimits script → IsAccount script account → (judged : Judgement) → Contains (judgements_of account.store) judged
-      → IsSomeAnd (request_at script judged.request) (λ (request : Request). request.work ≡ Change judged.ops)
-  pub begun : (script : Script) (account : Account) → IsWithinLimits script → IsAccount script account → (judged : Judgement) → Contains (judgements_of account.store) judged
-      → Contains (all_begun account) (record { author = judged.author; request = judged.request; stamp = judged.stamp })
+  pub stamps : BegunLaws
+  pub commits : CommitLaws
+  pub asked : AskedLaws
   -- stamps_are_begun
   pub updates : (script : Script) (account : Account) → IsWithinLimits script → IsAccount script account → (v : Name) (shard : ℕ) (update : Update) → Contains (updates_of v (shard_log account shard)) update → IsBegunStamp account update.stamp
-  pub paired : (script : Script) (account : Account) → IsWithinLimits script → IsAccount script account → JoinsEvents (begun_stamps account) (pairs_in account)
-  -- parts_and_unions_are_coherent
-  pub part : (stamps others : List Stamp) → AreCoherent others → ((stamp : Stamp) → Contains stamps stamp → Contains others stamp) → AreCoherent stamps
-  -- ends_are_of_pairs
-  pub no_others : (pairs : List Given) (stamp : Stamp) → Contains (ends_of pairs) stamp → (pair : Given) × Contains pairs pair × ((pair.0 ≡ stamp) ⊎ (pair.1 ≡ stamp))
-  -- updates_are_commits
-  pub whole : (script : Script) (account : Account) → IsWithinLimits script → IsAccount script account → (v : Name) → let updates = updates_of v (shard_log account (shard_of v script.shards)) in updates ≡ map (update_of v) (take (length updates) (commits_naming v (commits_in account)))
   -- collections_leave_what_programs_see
   pub kept : (script : Script) (account : Account) → IsWithinLimits script → IsAccount script account → (home : ℕ) (program : Begun) → Contains (running_of (gate_log account home)) program
       → (v : Name) → IsKeptFor program.stamp v (shard_log account (shard_of v script.shards))
@@ -95,16 +75,10 @@ commit-judged store c h =
     let from = flat_has (λ (entry : StoreEntry). commit_by entry.deed) store c h in
     (judged_by from.0.author from.0.deed, (has_map (λ (entry : StoreEntry). judged_by entry.author entry.deed) store from.0 from.1, commit-deed from.0.author from.0.deed c from.2))
 
--- a program that was begun is one of what was begun
-pub program-in : (log : List GateEntry) (b : Begun) → Contains (programs_of log) b → Contains (begun_in log) b
-program-in log b h =
-    let from = flat_has (λ (e : GateEntry). program_by e.author e.deed) log b h in
-    has_flat (λ (e : GateEntry). begun_by e.author e.deed) log from.0 b from.1 (Contains-append_right (tx_by from.0.author from.0.deed) (program_by from.0.author from.0.deed) b from.2)
-
 -- a program of some log is among all that was begun
 pub inside : (b : Begun) (gates : List (List GateEntry)) (n : ℕ) → Contains (programs_of (slice_index_or gates n [])) b → Contains (flat_map begun_in gates) b
 inside b [] n has = absurd (has_none b has)
-inside b (log ∷ gates) zero has = has_flat begun_in (log ∷ gates) log b (has_head log gates) (program-in log b has)
+inside b (log ∷ gates) zero has = has_flat begun_in (log ∷ gates) log b (has_head log gates) (program-begun log b has)
 inside b (log ∷ gates) (suc n) has =
     let from = flat_has begun_in gates b (inside b gates n has) in
     has_flat begun_in (log ∷ gates) from.0 b (has_tail log gates from.0 from.1) from.2
@@ -127,7 +101,7 @@ module _ (run : RunLaws) (script : Script) (account : Account) (limits : IsWithi
   log-there = Contains-get_or account.gates request.gate [] gate-there
 
   pub among-begun : Contains (all_begun account) begun
-  among-begun = has_flat begun_in account.gates log begun log-there (program-in log begun found.0)
+  among-begun = has_flat begun_in account.gates log begun log-there (program-begun log begun found.0)
 
   -- it is running at its gatekeeper
   pub not-ended : ¬ Contains (ended_in log) begun.request
@@ -154,12 +128,12 @@ module _ (run : RunLaws) (script : Script) (account : Account) (limits : IsWithi
     update-differs stamp h =
         let updates = updates_of v here in
         let from = map_has (λ (update : Update). update.stamp) updates stamp h in
-        let commit = map_has (update_of v) (take (length updates) (commits_naming v (commits_in account))) from.0 (subst (λ (us : List Update). Contains us from.0) (laws.whole script account limits is v) from.1) in
+        let commit = map_has (update_of v) (take (length updates) (commits_naming v (commits_in account))) from.0 (subst (λ (us : List Update). Contains us from.0) (laws.commits.whole script account limits is v) from.1) in
         let in-all = (filter_has (names_vertex v) (commits_in account) commit.0 (in-take (length updates) (commits_naming v (commits_in account)) commit.0 commit.1)).0 in
         let judged = commit-judged account.store commit.0 in-all in
         let other : judged.0.request ≢ begun.request = λ (e : judged.0.request ≡ begun.request).
-        no-change (request_at script judged.0.request) judged.0 (ap (request_at script) (e ∙ its-request) ∙ request-is) (laws.work script account limits is judged.0 judged.1.0) in
-        let apart = laws.differ script account limits is (record { author = judged.0.author; request = judged.0.request; stamp = judged.0.stamp }) begun (laws.begun script account limits is judged.0 judged.1.0) among-begun other in
+        no-change (request_at script judged.0.request) judged.0 (ap (request_at script) (e ∙ its-request) ∙ request-is) (laws.commits.work script account limits is judged.0 judged.1.0) in
+        let apart = laws.stamps.differ script account limits is (record { author = judged.0.author; request = judged.0.request; stamp = judged.0.stamp }) begun (laws.stamps.begun script account limits is judged.0 judged.1.0) among-begun other in
         subst (λ (s : Stamp). id_of s ≢ id_of begun.stamp) (judged.1.1.1 ∙ ap (λ (u : Update). u.stamp) commit.2 ∙ from.2) apart
 
     known : (stamp : Stamp) → Contains (begun.stamp ∷ kept_stamps v here ++ ends_of (pairs_in account)) stamp → Contains (begun_stamps account) stamp
@@ -170,8 +144,8 @@ module _ (run : RunLaws) (script : Script) (account : Account) (limits : IsWithi
             let from = map_has (λ (update : Update). update.stamp) (updates_of v here) stamp (in-drop (dropped_of v here) (update_stamps v here) stamp kept) in
             subst (λ (s : Stamp). Contains (begun_stamps account) s) from.2 (laws.updates script account limits is v (shard_of v script.shards) from.0 from.1)
         | inr end ↦
-            let from = laws.no_others (pairs_in account) stamp end in
-            let both = laws.paired script account limits is from.0.0 from.0.1 from.1 in
+            let from = laws.asked.no_others (pairs_in account) stamp end in
+            let both = laws.asked.paired script account limits is from.0.0 from.0.1 from.1 in
             elim from.2 [
               | inl first ↦ subst (λ (s : Stamp). Contains (begun_stamps account) s) first both.0
               | inr second ↦ subst (λ (s : Stamp). Contains (begun_stamps account) s) second both.1
@@ -182,6 +156,6 @@ module _ (run : RunLaws) (script : Script) (account : Account) (limits : IsWithi
     pub can-be-visited : CanBeVisited account.oracle here begun.stamp v
     can-be-visited = record {
       other_ids = All-from_recursion (λ (stamp : Stamp). id_of stamp ≢ id_of begun.stamp) (kept_stamps v here) (all-from (λ (stamp : Stamp). id_of stamp ≢ id_of begun.stamp) (kept_stamps v here) (λ stamp h. update-differs stamp (in-drop (dropped_of v here) (update_stamps v here) stamp h)));
-      coherent = laws.part (begun.stamp ∷ kept_stamps v here ++ ends_of (pairs_in account)) (begun_stamps account) (laws.coherent script account limits is) known;
+      coherent = laws.asked.part (begun.stamp ∷ kept_stamps v here ++ ends_of (pairs_in account)) (begun_stamps account) (laws.stamps.coherent script account limits is) known;
       base = laws.kept script account limits is request.gate begun is-running v;
     }

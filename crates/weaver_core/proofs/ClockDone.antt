@@ -1,6 +1,7 @@
 -- `say`, `hear` and `epoch`, by what the gatekeepers did.
-use Rattle.std.proofs.Common.{◌≡◌, ℕ, Bool, true, false, not, nat_lt, List, [], ◌∷◌, ◌++◌, Option, refl, sym, ap, ◌∙◌}
+use Rattle.std.proofs.Common.{◌≡◌, ℕ, Bool, nat_lt, List, [], ◌∷◌, ◌++◌, Option, refl, sym, ap, ◌∙◌}
 use Rattle.std.specs.Prelude.{is_some, if◌then◌else◌}
+use Rattle.std.proofs.lemmas.Bool.{not-false, not-true}
 use Rattle.vector_stamp.specs.declared.clock.Clock.{Clock}
 use Rattle.program_defs.specs.declared.script.Script.{Script}
 use Rattle.program_defs.specs.declared.script.Step.TheVariants as step
@@ -19,14 +20,6 @@ use Rattle.weaver_core.specs.Clocking.{Hears, Raises}
 use Rattle.weaver_core.specs.Cores.{MachinesDo, MachinesView, machines_of}
 use Rattle.weaver_core.specs.GateTable.{GateTable, log_at}
 use Rattle.weaver_core.proofs.Resting.{done, gate-frame, gate-gains, rests, same-gates}
-
-not-is : (b : Bool) → not b ≡ false → b ≡ true
-not-is true is = refl
-not-is false is = absurd (let e : true ≡ false = is in cc)
-
-not-not : (b : Bool) → not b ≡ true → b ≡ false
-not-not true is = absurd (let e : false ≡ true = is in cc)
-not-not false is = refl
 
 module _ (script : Script) (old : GateTable) (store : List StoreEntry) (oracle : List OracleEntry) (shards : ShardTable) (was : ClientTable) (notices : List Clock) where
   abbrev before : MachinesView
@@ -61,11 +54,11 @@ module _ (script : Script) (old : GateTable) (store : List StoreEntry) (oracle :
   pub raise-done : (new : GateTable) (g epoch : ℕ) (a : StepAnswer) → Raises old new g epoch a → MachinesDo script (step.Epoch g epoch) before (machines_of new store oracle shards was notices) a
   raise-done new g epoch answer.Ok did =
       done script (step.Epoch g epoch) before _
-      (ap (λ (b : Bool). if b then answer.Ok else answer.Old) (not-is (nat_lt (clock_of g (log_at old g)).epoch epoch) did.1))
+      (ap (λ (b : Bool). if b then answer.Ok else answer.Old) (not-false (nat_lt (clock_of g (log_at old g)).epoch epoch) did.1))
       (ap state-of (gate-gains old store oracle shards was notices new g 0 (Raised epoch) did.0))
       (gate-frame old store oracle shards was notices new g 0 (Raised epoch) did.0) tt
   raise-done new g epoch answer.Old did =
-      rests script (step.Epoch g epoch) before _ answer.Old (ap (λ (b : Bool). if b then answer.Ok else answer.Old) (not-not (nat_lt (clock_of g (log_at old g)).epoch epoch) did.1)) refl (same-gates old store oracle shards was notices new did.0)
+      rests script (step.Epoch g epoch) before _ answer.Old (ap (λ (b : Bool). if b then answer.Ok else answer.Old) (not-true (nat_lt (clock_of g (log_at old g)).epoch epoch) did.1)) refl (same-gates old store oracle shards was notices new did.0)
   raise-done new g epoch answer.Twice none = absurd none
   raise-done new g epoch answer.Early none = absurd none
   raise-done new g epoch answer.Busy none = absurd none

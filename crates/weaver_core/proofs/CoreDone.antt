@@ -16,14 +16,13 @@ use Rattle.weave_account.specs.Sessions.{requests_of_session}
 use Rattle.step_rules.specs.CoreState.{CoreState, start_state}
 use Rattle.step_rules.specs.IsCore.{IsCore, IsSmallIfDone, IsStepOf}
 use Rattle.step_rules.specs.Trace.{state_after}
-use Rattle.weaver_core.specs.Clients.{ClientTable}
-use Rattle.weaver_core.specs.Cores.{AreOf, Frame, IsFrameOf, MachinesDo, MachinesView, machines_of}
+use Rattle.weaver_core.specs.Clients.{ClientTable, SessionValues, no_values}
+use Rattle.weaver_core.specs.Cores.{AreOf, MachinesFrame, IsFrameOf, MachinesDo, MachinesView, machines_of}
 use Rattle.weaver_core.specs.GateTable.{GateTable}
 use Rattle.weaver_core.specs.ShardTable.{ShardTable}
 use Rattle.proof_base.proofs.Members.{has_none}
 use Rattle.weave_account.specs.Account.{session_log}
 use Rattle.weave_entries.specs.declared.session_log.SessionEntry.{SessionEntry}
-use Rattle.weaver_core.specs.Clients.{SessionValues, no_values}
 use Rattle.weaver_core.specs.Splitting.{AreAllByLog, AreValuesByLog}
 
 -- Before the first step
@@ -61,7 +60,7 @@ pub are-after : (script : Script) (old new : MachinesView) (step : Step)
     → AreOf script old → IsStepOf script step → (answer : StepAnswer) → MachinesDo script step old new answer → AreOf script new
 are-after script old new step tried are there answer did = record {
   limits = are.limits;
-  frame = subst (λ (frame : Frame). IsFrameOf script frame) (sym did.frame_is) are.frame;
+  frame = subst (λ (frame : MachinesFrame). IsFrameOf script frame) (sym did.frame_is) are.frame;
   core = subst (IsCore script) (sym did.state_is) (tried old.state step are.limits there did.small are.core);
 }
 

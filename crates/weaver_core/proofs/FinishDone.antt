@@ -33,7 +33,7 @@ use Rattle.step_rules.specs.Entries.{after_reply, after_work, at_request, with_f
 use Rattle.step_rules.specs.Requests.{has_begun, has_ended, has_reply, is_answered}
 use Rattle.weaver_core.specs.Clients as clients
 use Rattle.weaver_core.specs.Cores.{AreOf, MachinesDo, MachinesView, machines_of}
-use Rattle.weaver_core.specs.Finishing.{AreSameParts, CanBeFinished, Finishes, IsFinished, IsRunningOn, last_author}
+use Rattle.weaver_core.specs.Finishing.{AreSameParts, CanBeFinished, FinishesInSession, IsFinished, IsRunningOn, last_author}
 use Rattle.weaver_core.specs.GateTable as gates
 use Rattle.weaver_core.specs.ShardTable.{ShardTable}
 use Rattle.weaver_core.specs.Staying.{StayLaws}
@@ -45,7 +45,8 @@ use Rattle.path_program.specs.AnyPrograms.{next_read}
 use Rattle.weaver_core.proofs.Authors.{last-author-is}
 use Rattle.weaver_core.proofs.OpenRuns.{open-runs}
 use Rattle.weaver_core.proofs.BeginDone.{requests-are}
-use Rattle.weaver_core.proofs.CanVisit.{RunLaws, not-ended, runs-there}
+use Rattle.weaver_core.proofs.CanVisit.{not-ended, runs-there}
+use Rattle.weaver_core.proofs.CitedLaws.{RunLaws}
 use Rattle.weaver_core.proofs.Resting.{done, gate-frame, rests, same-sessions}
 use Rattle.weaver_core.proofs.VisitDone.{next-over}
 
@@ -189,7 +190,7 @@ module _ (script : Script) (old : gates.GateTable) (store : List StoreEntry) (or
         let going : is_some next ≡ true = ap is_some (sym (its-next running runs on.going.asks)) ∙ on.going.next in
         is-open (has_begun account r request) (has_reply account r request) (not (is_answered account r request request.work)) on.is_open ∙ ap not answered-is ∙ ap (λ b. not (not b)) going
 
-    pub finish-done : (a : StepAnswer) → Finishes old new was is request.gate request.session r a → MachinesDo script (step.Reply r) before after a
+    pub finish-done : (a : StepAnswer) → FinishesInSession old new was is request.gate request.session r a → MachinesDo script (step.Reply r) before after a
     finish-done answer.Ok did = finished-done did
     finish-done answer.Idle did = elim did.1 [
       | inl closed ↦ idles (not-open (has_begun account r request) (has_reply account r request) (not (is_answered account r request request.work)) closed) did.0
@@ -206,7 +207,7 @@ module _ (script : Script) (old : gates.GateTable) (store : List StoreEntry) (or
     finish-done (answer.Again s g) none = absurd none
 
     -- what it leaves of the values of the session
-    values-one : (a : StepAnswer) → Finishes old new was is request.gate request.session r a → ValuesAfterFinish before after request.session r a
+    values-one : (a : StepAnswer) → FinishesInSession old new was is request.gate request.session r a → ValuesAfterFinish before after request.session r a
     values-one answer.Ok did =
         let one = its-run all did.is_open in
         let same = one-running one.running did.running one.running_is did.running_is in
@@ -229,5 +230,5 @@ module _ (script : Script) (old : gates.GateTable) (store : List StoreEntry) (or
     values-one (answer.Waits v) none = absurd none
     values-one (answer.Again s g) none = absurd none
 
-    pub finish-values : (a : StepAnswer) → Finishes old new was is request.gate request.session r a → RepliesToProgram script r before after a
+    pub finish-values : (a : StepAnswer) → FinishesInSession old new was is request.gate request.session r a → RepliesToProgram script r before after a
     finish-values a did other at = subst (λ (one : Request). ValuesAfterFinish before after one.session r a) (same_Some request other (sym request-is ∙ at)) (values-one a did)

@@ -1,5 +1,5 @@
 -- The first request without a reply, in the script's order, by the sessions of a core.
-use Rattle.std.proofs.Common.{◌≡◌, ℕ, ◌<◌, ◌≤◌, ◌==◌, true, false, List, [], length, AllPairs, Contains, IsTrue, Some, inl, inr, sym, ap, ◌∙◌, arith}
+use Rattle.std.proofs.Common.{◌≡◌, ℕ, ◌<◌, ◌≤◌, ◌==◌, true, false, List, [], length, AllPairs, IsTrue, Some, inl, inr, sym, ap, ◌∙◌, arith}
 use Rattle.std.specs.Prelude.{slice_get}
 use Rattle.std.specs.List.{range_with_len}
 use Rattle.std.proofs.lemmas.Bool.{cases_lt, cases_order, eqb-true, le-ltb, lt-ltb}
@@ -21,14 +21,9 @@ use Rattle.weaver_core.specs.Clients.{ClientTable, IsFirstUnanswered, log_at, re
 use Rattle.weaver_core.specs.Cores.{AreOf, machines_of}
 use Rattle.weaver_core.specs.GateTable.{GateTable}
 use Rattle.weaver_core.specs.ShardTable.{ShardTable}
+use Rattle.weaver_core.proofs.CitedLaws.{RequestLaws}
 use Rattle.weaver_core.proofs.BeginDone.{requests-are}
 use Rattle.weaver_core.proofs.Turns.{SessionLaws, at-place, below, get-before, place-of, reply-is}
-
--- the laws of weave_account that are cited
-pub record RequestLaws : Type 0 where
-  -- requests_of_a_session_rise
-  pub rise : (script : Script) (session : ℕ) → AllPairs (λ (a b : ℕ). a < b) (requests_of_session script session)
-  pub among : (script : Script) (r : ℕ) (request : Request) → request_at script r ≡ Some request → Contains (requests_of_session script request.session) r
 
 -- of numbers that rise, one at an earlier place, or at the same one, is at most this one
 at-most : (requests : List ℕ) → AllPairs (λ (a b : ℕ). a < b) requests → (i j a : ℕ) → slice_get requests i ≡ Some a → j ≤ i → (b : ℕ) × (slice_get requests j ≡ Some b) × (b ≤ a)

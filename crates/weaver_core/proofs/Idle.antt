@@ -24,10 +24,10 @@ use Rattle.weave_account.specs.Account.{all_begun, gate_log, session_log, stamp_
 use Rattle.weave_account.specs.IsAccount.{IsAccount}
 use Rattle.step_rules.specs.Answers.{answer_of, answer_of_visit, for_request}
 use Rattle.step_rules.specs.Requests.{next_vertex}
+use Rattle.weave_entries.proofs.OwnStamps.{program-begun}
 use Rattle.weaver_core.specs.Clients.{is_open_in}
 use Rattle.weaver_core.specs.Cores.{AreOf, MachinesDo, MachinesView}
 use Rattle.weaver_core.specs.Staying.{StayLaws}
-use Rattle.weaver_core.proofs.CanVisit.{program-in}
 use Rattle.weaver_core.proofs.NoStamp.{stamp-begun}
 use Rattle.weaver_core.proofs.Resting.{rests}
 
@@ -45,7 +45,7 @@ not-begun script account limits is r request at none = by (program_begun r (gate
         let found = find_has (λ (one : Begun). one.request == r) (programs_of (gate_log account request.gate)) b e in
         let home = limits.homes r request at in
         let many = is.gatekeepers.as_many in
-        let there = has_flat begun_in account.gates (gate_log account request.gate) b (Contains-get_or account.gates request.gate [] (omega (arith, home, many))) (program-in (gate_log account request.gate) b found.0) in
+        let there = has_flat begun_in account.gates (gate_log account request.gate) b (Contains-get_or account.gates request.gate [] (omega (arith, home, many))) (program-begun (gate_log account request.gate) b found.0) in
         let stamped : stamp_of account b.request ≡ Some b.stamp = ap (option_map (λ (one : Begun). one.stamp)) (find_by_key (λ (one : Begun). one.request) (all_begun account) b is.gatekeepers.once there) in
         absurd (none-some b.stamp (sym none ∙ ap (stamp_of account) (sym (eqb-true b.request r found.1)) ∙ stamped))
 

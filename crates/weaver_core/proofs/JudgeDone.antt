@@ -1,15 +1,13 @@
 -- `judge`, by what store and oracle did.
 use Rattle.std.proofs.Common.{◌≡◌, ◌≢◌, ◌⊎◌, ℕ, ◌<◌, ◌^◌, List, [], ◌∷◌, ◌++◌, length, Contains, IsTrue, Option, None, Some, inl, inr, refl, sym, ap, subst, ◌∙◌, arith}
-use Rattle.std.specs.Prelude.{is_some, ◌==◌, ◌↔◌, IsSome, IsSomeAnd, if◌then◌else◌}
+use Rattle.std.specs.Prelude.{is_some, ◌==◌, IsSome, IsSomeAnd, if◌then◌else◌}
 use Rattle.std.proofs.lemmas.Bool.{eq-eqb}
-use Rattle.std.proofs.lemmas.List.Elements.{All-from_recursion, Contains-append_cases, Contains-append_left, Contains-get_or}
-use Rattle.proof_base.proofs.Members.{find_lacks, flat_has, has_flat, has_map, has_read, map_has}
+use Rattle.std.proofs.lemmas.List.Elements.{All-from_recursion, Contains-append_cases, Contains-get_or}
+use Rattle.proof_base.proofs.Members.{find_lacks, has_flat, has_map, has_read, map_has}
 use Rattle.proof_base.proofs.Places.{all-from}
 use Rattle.vector_stamp.specs.declared.clock.Clock.{Clock}
 use Rattle.vector_stamp.specs.declared.clock.Stamp.{Stamp}
-use Rattle.vector_stamp.specs.Coherence.{AreCoherent}
 use Rattle.vector_stamp.specs.Order.{id_of}
-use Rattle.vector_stamp.specs.Precedence.{Given, JoinsEvents}
 use Rattle.order_graph.specs.Building.{ends_of}
 use Rattle.program_defs.specs.Limits.{IsWithinLimits}
 use Rattle.program_defs.specs.Works.{is_change}
@@ -19,18 +17,17 @@ use Rattle.program_defs.specs.declared.script.Step.TheVariants as step
 use Rattle.report_rules.specs.Lookups.{request_at}
 use Rattle.report_rules.specs.declared.report.StepAnswer.{StepAnswer}
 use Rattle.report_rules.specs.declared.report.StepAnswer.TheVariants as answer
-use Rattle.weave_entries.specs.declared.gate_log.GateEntry.{GateEntry}
 use Rattle.weave_entries.specs.declared.oracle_log.OracleEntry.{OracleEntry}
+use Rattle.weave_entries.proofs.OwnStamps.{tx-begun}
 use Rattle.weaver_core.specs.ShardTable.{ShardTable}
 use Rattle.weave_entries.specs.declared.store_log.StoreEntry.{StoreEntry}
-use Rattle.weave_entries.specs.GateReplay.{Begun, begun_by, begun_in, ended_in, flight_of, program_by, tx_by, txs_of}
-use Rattle.weave_entries.specs.GateRules.{BeginsEachOnce, IsGateLog}
+use Rattle.weave_entries.specs.GateReplay.{Begun, begun_in, flight_of}
 use Rattle.weave_entries.specs.OracleReplay.{pairs_of_log}
 use Rattle.weave_entries.specs.StoreReplay.{Judgement, commits_of, judgement_of, judgements_of}
 use Rattle.weave_entries.specs.StoreRule.{stamps_judged}
 use Rattle.backing_store.specs.Commits.{stamps_kept}
 use Rattle.weave_account.specs.declared.account.Account.{Account}
-use Rattle.weave_account.specs.Account.{IsBegunStamp, all_begun, begun_stamps, gate_log, pairs_in}
+use Rattle.weave_account.specs.Account.{IsBegunStamp, all_begun, begun_stamps, gate_log}
 use Rattle.weave_account.specs.IsAccount.{IsAccount}
 use Rattle.step_rules.specs.Answers.{answer_of_judge}
 use Rattle.step_rules.specs.Entries.{after_judge}
@@ -39,41 +36,25 @@ use Rattle.weaver_core.specs.Clients.{ClientTable}
 use Rattle.weaver_core.specs.Cores.{AreOf, MachinesDo, MachinesView, machines_of}
 use Rattle.weaver_core.specs.GateTable.{GateTable, log_at}
 use Rattle.weaver_core.specs.Judging.{CanBeJudged, HasVerdict, IsJudgedNow, JudgesFlight}
+use Rattle.weaver_core.proofs.CitedLaws.{AskedLaws, BegunLaws, RunLaws}
 use Rattle.weaver_core.proofs.Resting.{done, rests}
 
--- the laws below that are cited
+-- the laws that are cited of a judgement
 pub record JudgeLaws : Type 0 where
-  -- begun_stamps_are_coherent
-  pub coherent : (script : Script) (account : Account) → IsWithinLimits script → IsAccount script account → AreCoherent (begun_stamps account)
-  pub differ : (script : Script) (account : Account) → IsWithinLimits script → IsAccount script account → (a b : Begun) → Contains (all_begun account) a → Contains (all_begun account) b → a.request ≢ b.request → id_of a.stamp ≢ id_of b.stamp
-  -- judgements_are_of_requests
-  pub begun : (script : Script) (account : Account) → IsWithinLimits script → IsAccount script account → (judged : Judgement) → Contains (judgements_of account.store) judged
-      → Contains (all_begun account) (record { author = judged.author; request = judged.request; stamp = judged.stamp })
+  pub stamps : BegunLaws
+  pub asked : AskedLaws
+  pub run : RunLaws
   -- requests_end_or_go_on
-  pub once : (script : Script) (account : Account) → IsWithinLimits script → IsAccount script account → (home : ℕ) → BeginsEachOnce (gate_log account home)
   pub flights : (script : Script) (account : Account) → IsWithinLimits script → IsAccount script account → (home : ℕ) (flight : Begun) → flight_of (gate_log account home) ≡ Some flight
       → IsSomeAnd (request_at script flight.request) (λ (request : Request). (request.gate ≡ home) × IsTrue (is_change request.work))
   -- stamps_are_begun
   pub judged : (script : Script) (account : Account) → IsWithinLimits script → IsAccount script account → (judged : Judgement) → Contains (judgements_of account.store) judged → IsBegunStamp account judged.stamp
-  pub paired : (script : Script) (account : Account) → IsWithinLimits script → IsAccount script account → JoinsEvents (begun_stamps account) (pairs_in account)
-  -- what_has_not_ended_goes_on
-  pub flight : (home shards : ℕ) (log : List GateEntry) → IsGateLog home shards log → BeginsEachOnce log → (tx : Begun) → (flight_of log ≡ Some tx) ↔ (Contains (txs_of log) tx × ¬ Contains (ended_in log) tx.request)
-  -- parts_and_unions_are_coherent
-  pub part : (stamps others : List Stamp) → AreCoherent others → ((stamp : Stamp) → Contains stamps stamp → Contains others stamp) → AreCoherent stamps
   -- what_is_asked_is_kept
   pub kept : (log : List StoreEntry) (one : Stamp) → Contains (stamps_kept (commits_of log)) one → Contains (stamps_judged log) one
-  -- ends_are_of_pairs
-  pub no_others : (pairs : List Given) (stamp : Stamp) → Contains (ends_of pairs) stamp → (pair : Given) × Contains pairs pair × ((pair.0 ≡ stamp) ⊎ (pair.1 ≡ stamp))
 
 some-from : {A : Type 0} (o : Option A) (P : A → Type 0) → IsSomeAnd o P → IsSome o
 some-from None P h = absurd h
 some-from (Some x) P h = refl
-
--- a transaction that was begun is one of what was begun
-tx-begun : (log : List GateEntry) (b : Begun) → Contains (txs_of log) b → Contains (begun_in log) b
-tx-begun log b h =
-    let from = flat_has (λ (e : GateEntry). tx_by e.author e.deed) log b h in
-    has_flat (λ (e : GateEntry). begun_by e.author e.deed) log from.0 b from.1 (Contains-append_left (tx_by from.0.author from.0.deed) (program_by from.0.author from.0.deed) b from.2)
 
 module _ (script : Script) (gates : GateTable) (store : List StoreEntry) (oracle : List OracleEntry) (shards : ShardTable) (was : ClientTable) (notices : List Clock)
     (are : AreOf script (machines_of gates store oracle shards was notices)) (g : ℕ) where
@@ -87,7 +68,7 @@ module _ (script : Script) (gates : GateTable) (store : List StoreEntry) (oracle
   module _ (laws : JudgeLaws) (below : g < script.gates) (flight : Begun) (flies : flight_of (log_at gates g) ≡ Some flight) (unjudged : judgement_of flight.request store ≡ None) where
     begun : Contains (all_begun account) flight
     begun =
-        let tx = (laws.flight g script.shards (log_at gates g) (are.core.account.gatekeepers.logs g) (laws.once script account are.limits are.core.account g) flight).0 flies in
+        let tx = (laws.run.flight g script.shards (log_at gates g) (are.core.account.gatekeepers.logs g) (laws.run.once script account are.limits are.core.account g) flight).0 flies in
         let many = are.frame.gates in
         has_flat begun_in gates.logs (log_at gates g) flight (Contains-get_or gates.logs g [] (omega (arith, below, many))) (tx-begun (log_at gates g) flight tx.0)
 
@@ -97,7 +78,7 @@ module _ (script : Script) (gates : GateTable) (store : List StoreEntry) (oracle
         let from = map_has (λ (judged : Judgement). judged.stamp) (judgements_of store) stamp h in
         let judged = from.0 in
         let other : judged.request ≢ flight.request = λ (e : judged.request ≡ flight.request). find_lacks (λ (one : Judgement). one.request == flight.request) (judgements_of store) judged unjudged from.1 (eq-eqb judged.request flight.request e) in
-        let apart = laws.differ script account are.limits are.core.account (record { author = judged.author; request = judged.request; stamp = judged.stamp }) flight (laws.begun script account are.limits are.core.account judged from.1) begun other in
+        let apart = laws.stamps.differ script account are.limits are.core.account (record { author = judged.author; request = judged.request; stamp = judged.stamp }) flight (laws.stamps.begun script account are.limits are.core.account judged from.1) begun other in
         subst (λ (s : Stamp). id_of s ≢ id_of flight.stamp) from.2 apart
 
     -- what the judge is asked of was begun
@@ -109,8 +90,8 @@ module _ (script : Script) (gates : GateTable) (store : List StoreEntry) (oracle
             let from = map_has (λ (judged : Judgement). judged.stamp) (judgements_of store) stamp (laws.kept store stamp kept) in
             subst (λ (s : Stamp). Contains (begun_stamps account) s) from.2 (laws.judged script account are.limits are.core.account from.0 from.1)
         | inr end ↦
-            let from = laws.no_others (pairs_of_log oracle) stamp end in
-            let both = laws.paired script account are.limits are.core.account from.0.0 from.0.1 from.1 in
+            let from = laws.asked.no_others (pairs_of_log oracle) stamp end in
+            let both = laws.asked.paired script account are.limits are.core.account from.0.0 from.0.1 from.1 in
             elim from.2 [
               | inl first ↦ subst (λ (s : Stamp). Contains (begun_stamps account) s) first both.0
               | inr second ↦ subst (λ (s : Stamp). Contains (begun_stamps account) s) second both.1
@@ -127,7 +108,7 @@ module _ (script : Script) (gates : GateTable) (store : List StoreEntry) (oracle
       there = some-from (request_at script flight.request) _ (laws.flights script account are.limits are.core.account g flight flies);
       few = few (request_at script flight.request) refl;
       new = All-from_recursion (λ (stamp : Stamp). id_of stamp ≢ id_of flight.stamp) (stamps_judged store) (all-from (λ (stamp : Stamp). id_of stamp ≢ id_of flight.stamp) (stamps_judged store) differs);
-      coherent = laws.part (flight.stamp ∷ stamps_kept (commits_of store) ++ ends_of (pairs_of_log oracle)) (begun_stamps account) (laws.coherent script account are.limits are.core.account) known;
+      coherent = laws.asked.part (flight.stamp ∷ stamps_kept (commits_of store) ++ ends_of (pairs_of_log oracle)) (begun_stamps account) (laws.stamps.coherent script account are.limits are.core.account) known;
     }
 
   -- what they did

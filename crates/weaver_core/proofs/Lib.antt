@@ -4,6 +4,7 @@ pub mod AtGates
 pub mod AtShards
 pub mod AtVisits
 pub mod FewEdges
+pub mod CitedLaws
 pub mod CanVisit
 pub mod ProgramsStay
 pub mod Turns

@@ -130,7 +130,8 @@ module _ (account : Account) where
 
 -- No visit has the stamp of a commit
 
-no-look : (work : Work) → IsTrue (is_look work) → IsTrue (is_change work) → ⊥
+-- no request both looks and changes
+pub no-look : (work : Work) → IsTrue (is_look work) → IsTrue (is_change work) → ⊥
 no-look (Change ops) look change = let e : false ≡ true = look in cc
 no-look (Look program) look change = let e : false ≡ true = change in cc
 

@@ -3,8 +3,6 @@ use Rattle.std.proofs.Common.{◌≡◌, ◌⊎◌, ℕ, zero, suc, ◌-◌, Boo
 use Rattle.std.specs.Prelude.{nat_lt, slice_get, slice_index_or, IsSomeAnd, if◌then◌else◌}
 use Rattle.std.specs.List.{find}
 use Rattle.std.specs.Option.{option_and_then, option_map}
-use Rattle.std.specs.Cmp.{eq_by_cmp_equiv}
-use Rattle.std.specs.Cmp.Lexicographic.{nat_list_cmp_total}
 use Rattle.std.proofs.lemmas.Bool.{and_from, and_parts, cases_Bool, eq-eqb, eqb-true, lt-ltb, ltb-true}
 use Rattle.std.proofs.lemmas.List.Concat.{flat_map-append}
 use Rattle.std.proofs.lemmas.List.Elements.{filter-append}
@@ -13,6 +11,7 @@ use Rattle.proof_base.proofs.Members.{any_from, any_has, cut_at, find_has, find_
 use Rattle.proof_base.proofs.Ordered.{find_by_key}
 use Rattle.weave_data.specs.Names.{one_name, same_name, shard_of}
 use Rattle.weave_data.specs.declared.name.Name.{Name}
+use Rattle.graph_ops.proofs.Vertices.{itself}
 use Rattle.vector_stamp.specs.declared.clock.Stamp.{Stamp}
 use Rattle.vector_stamp.specs.Precedence.{Given, precedes}
 use Rattle.vector_stamp.specs.Seeing.{last_seen}
@@ -44,14 +43,11 @@ use Rattle.weave_account.specs.Oracle.{IsAskedByCommit, IsAskedByVisit, seen_las
 use Rattle.weave_account.specs.Shards.{IsRightVisit, ShardFitsAs, update_of}
 use Rattle.weave_account.specs.Store.{Judges}
 use Rattle.weaver_core.specs.Marks.{IsMarkOf, IsMarkedAs, adds_visit, all_visits, counts_by, counts_if, counts_in, first_seen, mark_of, same_visit, was_asked}
+use Rattle.weaver_core.proofs.AtVisits.{last-cases}
 use Rattle.weaver_core.proofs.CanVisit.{commit-judged, inside}
 use Rattle.weaver_core.proofs.Found.{stamp-of-begun}
 use Rattle.weaver_core.proofs.Marked.{begun-looks, find-none, not-both}
 use Rattle.weaver_core.proofs.Turns.{place-of}
-
--- a name is itself
-itself : (v : Name) → IsTrue (same_name v v)
-itself = (eq_by_cmp_equiv nat_list_cmp_total).refl
 
 -- The oracle's rule
 
@@ -62,13 +58,6 @@ right-entry pairs (one ∷ log) right entry h = elim (has_read one log entry h) 
   | inl same ↦ (pairs, subst (λ (e : OracleEntry). IsRightEntry pairs (settled_entry e)) same right.0)
   | inr more ↦ right-entry (pairs ++ pairs_of_entry (settled_entry one)) log right.1 entry more
 ]
-
--- what was seen last is one update, or none
-last-parts : (n : ℕ) (updates : List Stamp) → (last_seen n updates ≡ []) ⊎ ((update : Stamp) × (last_seen n updates ≡ update ∷ []))
-last-parts zero updates = inl refl
-last-parts (suc n) [] = inl refl
-last-parts (suc zero) (update ∷ updates) = inr (update, refl)
-last-parts (suc (suc n)) (update ∷ updates) = last-parts (suc n) updates
 
 -- an entry for what was seen last is for one event, at one place
 one-place : (before : List Given) (settled : SettledEntry) → IsRightEntry before settled → (seen : List Stamp) → settled.earlier ≡ seen → (seen ≡ []) ⊎ ((u : Stamp) × (seen ≡ u ∷ []))
@@ -384,7 +373,7 @@ module _ (script : Script) (account : Account) (is : IsAccount script account)
     right = right-visit by-visit.shard w by-visit.visited
 
     one : (u : Stamp) × ((settled.earlier ≡ u ∷ []) × (settled.places ≡ 0 ∷ []))
-    one = let rule = right-entry [] account.oracle is.oracle.log entry h in one-place rule.0 settled rule.1 (seen_last (shard_log account by-visit.shard) w) by-visit.earlier_is (last-parts w.updates stamps)
+    one = let rule = right-entry [] account.oracle is.oracle.log entry h in one-place rule.0 settled rule.1 (seen_last (shard_log account by-visit.shard) w) by-visit.earlier_is (last-cases w.updates stamps)
 
     got : (m : ℕ) × ((w.updates ≡ suc m) × (slice_get stamps m ≡ Some one.0))
     got = last-got w.updates stamps one.0 (sym by-visit.earlier_is ∙ one.1.0)

@@ -3,7 +3,8 @@ use Rattle.std.proofs.Common.{◌≡◌, ℕ, ◌+◌, ◌-◌, ◌<◌, ◌^◌
 use Rattle.std.specs.Prelude.{is_some, slice_get, if◌then◌else◌}
 use Rattle.std.specs.Option.{ForSome}
 use Rattle.std.proofs.lemmas.Bool.{cases_Bool}
-use Rattle.std.proofs.lemmas.Option.{get_or_from_slice_get, none-some, slice_get_within}
+use Rattle.std.proofs.lemmas.Option.{none-some}
+use Rattle.proof_base.proofs.Images.{get-has}
 use Rattle.proof_base.proofs.Members.{map_has}
 use Rattle.vector_stamp.specs.declared.clock.Clock.{Clock}
 use Rattle.shard_queue.specs.Sent.{sent_as}
@@ -29,8 +30,8 @@ use Rattle.step_rules.specs.Entries.{after_deliver}
 use Rattle.weaver_core.specs.Clients.{ClientTable}
 use Rattle.weaver_core.specs.Cores.{AreOf, MachinesDo, MachinesView, machines_of}
 use Rattle.weaver_core.specs.GateTable.{GateTable, log_at}
-use Rattle.weaver_core.specs.Messages.{Applies, Delivers, SendsNop, nop_deed}
-use Rattle.weaver_core.specs.ShardTable.{AddsAt, ShardTable}
+use Rattle.weaver_core.specs.Messages.{AppliesAtShard, DeliversToShard, SendsEmptyMessage, nop_deed}
+use Rattle.weaver_core.specs.ShardTable.{AddsToShard, ShardTable}
 use Rattle.weaver_core.proofs.Resting.{done, gate-frame, gate-gains, rests, same-gates, same-shards, shard-frame, shard-gains}
 
 -- what was sent with a number was sent
@@ -39,10 +40,6 @@ sent-there number xs m e = elim (cases_Bool (number == 0)) [
   | inl none ↦ absurd (none-some m (sym (ap (λ b. cond b None (slice_get xs (number - 1))) none) ∙ e))
   | inr some ↦ sym (ap (λ b. cond b None (slice_get xs (number - 1))) some) ∙ e
 ]
-
--- what is there is among the list
-got-has : {M : Type 0} (xs : List M) (i : ℕ) (m : M) → slice_get xs i ≡ Some m → Contains xs m
-got-has xs i m at = (i, slice_get_within xs i m at, get_or_from_slice_get xs i m m at)
 
 module _ (script : Script) (old : GateTable) (store : List StoreEntry) (oracle : List OracleEntry) (shards : ShardTable) (was : ClientTable) (notices : List Clock) where
   abbrev before : MachinesView
@@ -63,7 +60,7 @@ module _ (script : Script) (old : GateTable) (store : List StoreEntry) (oracle :
   abbrev nop-answer : Bool → StepAnswer
   nop-answer busy = if busy then answer.Busy else answer.Ok
 
-  pub nop-done : (new : GateTable) (g s : ℕ) (a : StepAnswer) → SendsNop old new g s a → MachinesDo script (step.Nop g s) before (machines_of new store oracle shards was notices) a
+  pub nop-done : (new : GateTable) (g s : ℕ) (a : StepAnswer) → SendsEmptyMessage old new g s a → MachinesDo script (step.Nop g s) before (machines_of new store oracle shards was notices) a
   nop-done new g s answer.Ok did =
       let deed = nop_deed g s (log_at old g) in
       done script (step.Nop g s) before _ (ap nop-answer did.1) (ap state-of (gate-gains old store oracle shards was notices new g 0 deed did.0))
@@ -86,7 +83,7 @@ module _ (script : Script) (old : GateTable) (store : List StoreEntry) (oracle :
       → Contains (addressed_to shard (gate_log all home)) addressed → IsTakable addressed.message)
       → AreOf script before → length (commits_in account) < 2 ^ 64 - 1 → (g s n : ℕ) → ForSome (sent_as n (channel_of s (log_at old g))) IsTakable
   can-be-taken takable are few g s n message is =
-      let among = got-has (channel_of s (log_at old g)) (n - 1) message (sent-there n (channel_of s (log_at old g)) message is) in
+      let among = get-has (channel_of s (log_at old g)) (n - 1) message (sent-there n (channel_of s (log_at old g)) message is) in
       let from = map_has (λ (addressed : Addressed). addressed.message) (addressed_to s (log_at old g)) message among in
       subst IsTakable from.2 (takable script account are.limits are.core.account few s g from.0 from.1)
 
@@ -100,7 +97,7 @@ module _ (script : Script) (old : GateTable) (store : List StoreEntry) (oracle :
   unknown-answer None arrived is = refl
   unknown-answer (Some one) arrived is = absurd (none-some one (sym is))
 
-  pub deliver-done : (new : ShardTable) (g s n : ℕ) (a : StepAnswer) → Delivers old shards new g s n a → MachinesDo script (step.Deliver g s n) before (machines_of old store oracle new was notices) a
+  pub deliver-done : (new : ShardTable) (g s n : ℕ) (a : StepAnswer) → DeliversToShard old shards new g s n a → MachinesDo script (step.Deliver g s n) before (machines_of old store oracle new was notices) a
   deliver-done new g s n answer.Ok did =
       let sent = sent_as n (channel_of s (gate_log account g)) in
       let arrived = arrived_at g n (shard_log account s) in
@@ -132,7 +129,7 @@ module _ (script : Script) (old : GateTable) (store : List StoreEntry) (oracle :
   abbrev apply-answer : ℕ → Option Message → StepAnswer
   apply-answer s head = answer_of_apply account s head
 
-  pub apply-done : (new : ShardTable) (s g : ℕ) (a : StepAnswer) → Applies shards new s g a → MachinesDo script (step.Apply s g) before (machines_of old store oracle new was notices) a
+  pub apply-done : (new : ShardTable) (s g : ℕ) (a : StepAnswer) → AppliesAtShard shards new s g a → MachinesDo script (step.Apply s g) before (machines_of old store oracle new was notices) a
   apply-done new s g answer.Ok did =
       let applied = deed.Applied g (processed_count g (shard_log account s) + 1) in
       done script (step.Apply s g) before _ (ap (apply-answer s) did.next.is ∙ ap waits_or_ok did.next.waits) (ap state-of (shard-gains old store oracle shards was notices new s applied did.adds))
@@ -154,7 +151,7 @@ module _ (script : Script) (old : GateTable) (store : List StoreEntry) (oracle :
   abbrev collected : Account → ℕ → ℕ → Account
   collected all s gates = with_shard_deed all s (deed.Collected (bound_of gates (shard_log all s)))
 
-  pub collect-done : AreOf script before → (new : ShardTable) (s : ℕ) → AddsAt shards new s (deed.Collected (bound_of shards.gates (shard_log account s))) → MachinesDo script (step.Collect s) before (machines_of old store oracle new was notices) answer.Ok
+  pub collect-done : AreOf script before → (new : ShardTable) (s : ℕ) → AddsToShard shards new s (deed.Collected (bound_of shards.gates (shard_log account s))) → MachinesDo script (step.Collect s) before (machines_of old store oracle new was notices) answer.Ok
   collect-done are new s adds =
       let entry = deed.Collected (bound_of shards.gates (shard_log account s)) in
       done script (step.Collect s) before _ refl

@@ -10,6 +10,7 @@ use Rattle.weave_entries.specs.declared.session_log.SessionEntry.{SessionEntry}
 use Rattle.weave_entries.specs.declared.session_log.SessionDeed.{SessionDeed}
 use Rattle.weave_entries.specs.declared.session_log.SessionDeed.TheVariants.{Begun, Replied}
 use Rattle.weave_entries.specs.SessionReplay.{begin_by, begins_in, session_stamp_of}
+use Rattle.shard_node.proofs.Places.{map-or, or_none}
 use Rattle.weaver_core.specs.Clients.{stamp_in}
 use Rattle.weaver_core.specs.Noting.{all_noted, noted, noted_all, noted_by}
 
@@ -18,14 +19,6 @@ use Rattle.weaver_core.specs.Noting.{all_noted, noted, noted_all, noted_by}
 or-or : {A : Type 0} (a b c : Option A) → option_or (option_or a b) c ≡ option_or a (option_or b c)
 or-or None b c = refl
 or-or (Some x) b c = refl
-
-pub or-none : {A : Type 0} (a : Option A) → option_or a None ≡ a
-or-none None = refl
-or-none (Some x) = refl
-
-map-or : {A B : Type 0} (f : A → B) (a b : Option A) → option_map f (option_or a b) ≡ option_or (option_map f a) (option_map f b)
-map-or f None b = refl
-map-or f (Some x) b = refl
 
 -- the first of two lists together
 find-both : {A : Type 0} (p : A → Bool) (xs ys : List A) → find p (xs ++ ys) ≡ option_or (find p xs) (find p ys)
@@ -47,14 +40,14 @@ same-length stamps (Begun r stamp) = length-set stamps r _
 same-length stamps (Replied r) = refl
 
 after-deed : (stamps : List (Option Stamp)) (deed : SessionDeed) (q : ℕ) → q < length stamps → get_or (noted_by stamps deed) q None ≡ option_or (get_or stamps q None) (stamp_by q deed)
-after-deed stamps (Replied r) q within = sym (or-none (get_or stamps q None))
+after-deed stamps (Replied r) q within = sym (or_none (get_or stamps q None))
 after-deed stamps (Begun r stamp) q within = elim (cases_eq r q) [
   | inl same ↦
       let found : stamp_by q (Begun r stamp) ≡ Some stamp = ap (λ b. option_map (λ (begun : ℕ × Stamp). begun.1) (cond b (Some (r, stamp)) None)) (eq-eqb r q same) in
       ap (λ n. get_or (noted stamps n stamp) q None) same ∙ get_or-set_same stamps q (option_or (get_or stamps q None) (Some stamp)) None within ∙ ap (option_or (get_or stamps q None)) (sym found)
   | inr differ ↦
       let none : stamp_by q (Begun r stamp) ≡ None = ap (λ b. option_map (λ (begun : ℕ × Stamp). begun.1) (cond b (Some (r, stamp)) None)) (ne_eqb r q differ) in
-      get_or-set_other stamps r q (option_or (get_or stamps r None) (Some stamp)) None (λ e. differ (sym e)) ∙ sym (or-none (get_or stamps q None)) ∙ ap (option_or (get_or stamps q None)) (sym none)
+      get_or-set_other stamps r q (option_or (get_or stamps r None) (Some stamp)) None (λ e. differ (sym e)) ∙ sym (or_none (get_or stamps q None)) ∙ ap (option_or (get_or stamps q None)) (sym none)
 ]
 
 -- A log
@@ -69,7 +62,7 @@ all-same-length stamps [] = refl
 all-same-length stamps (entry ∷ log) = all-same-length (noted_by stamps entry.deed) log ∙ same-length stamps entry.deed
 
 after-log : (log : List SessionEntry) (stamps : List (Option Stamp)) (q : ℕ) → q < length stamps → get_or (noted_all stamps log) q None ≡ option_or (get_or stamps q None) (session_stamp_of q log)
-after-log [] stamps q within = sym (or-none (get_or stamps q None))
+after-log [] stamps q within = sym (or_none (get_or stamps q None))
 after-log (entry ∷ log) stamps q within =
     let still = same-length stamps entry.deed in
     after-log log (noted_by stamps entry.deed) q (omega (arith, within, still))
@@ -85,7 +78,7 @@ stamp-in-more log logs q =
     ∙ map-or (λ (begun : ℕ × Stamp). begun.1) (find (λ (begun : ℕ × Stamp). begun.0 == q) (begins_in log)) (find (λ (begun : ℕ × Stamp). begun.0 == q) (flat_map begins_in logs))
 
 after-logs : (logs : List (List SessionEntry)) (stamps : List (Option Stamp)) (q : ℕ) → q < length stamps → get_or (all_noted stamps logs) q None ≡ option_or (get_or stamps q None) (stamp_in logs q)
-after-logs [] stamps q within = sym (or-none (get_or stamps q None))
+after-logs [] stamps q within = sym (or_none (get_or stamps q None))
 after-logs (log ∷ logs) stamps q within =
     let still = all-same-length stamps log in
     after-logs logs (noted_all stamps log) q (omega (arith, within, still))

@@ -2,7 +2,7 @@
 use Rattle.std.proofs.Common.{◌≡◌, ℕ, ◌<◌, Bool, true, false, List, Option, None, Some, inl, inr, refl, sym, ap, subst, ◌∙◌}
 use Rattle.std.specs.Prelude.{not, slice_get, if◌then◌else◌}
 use Rattle.std.specs.Option.{option_and_then, option_map}
-use Rattle.std.proofs.lemmas.Bool.{and_parts, both_ways, cases_Bool}
+use Rattle.std.proofs.lemmas.Bool.{and_parts, both_ways, cases_Bool, not-true}
 use Rattle.std.proofs.lemmas.Option.{none-some, same_Some}
 use Rattle.vector_stamp.specs.declared.clock.Stamp.{Stamp}
 use Rattle.program_defs.specs.Limits.{IsWithinLimits}
@@ -37,10 +37,6 @@ pub record RunsInSession (script : Script) (account : Account) (values : Session
 -- the request of a running program, and its stamp
 abbrev pub begun-as : Running → ℕ × Stamp
 begun-as one = (one.request, one.stamp)
-
-not-true : (b : Bool) → not b ≡ true → b ≡ false
-not-true true e = absurd (let f : false ≡ true = e in cc)
-not-true false e = refl
 
 module _ (stay : StayLaws) (script : Script) (account : Account) (limits : IsWithinLimits script) (is : IsAccount script account) where
   -- of a program that waits

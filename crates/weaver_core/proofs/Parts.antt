@@ -35,27 +35,28 @@ state-of-parts table store oracle rows clients notices split gate-logs shard-log
   notices = notices-are i;
 }
 
--- the parts of machines of a script are parts for it
-pub parts-for : (script : Script) (table : gates.GateTable) (store : List StoreEntry) (oracle : List OracleEntry) (rows : shards.ShardTable) (clients : ClientTable) (notices : List Clock) (are : AreOf script (machines_of table store oracle rows clients notices)) (split : Split)
-    → gates.AreInOrder (length split.gates.items) table.shards split.gates.items → map gates.log_of split.gates.items ≡ table.logs
-    → shards.AreInOrder rows.gates split.shards.items → map shards.log_of split.shards.items ≡ rows.logs
-    → map requests_in split.clients.items ≡ clients.requests → ArePartsFor script split
-parts-for script table store oracle rows clients notices are split gates-order gate-logs shards-order shard-logs requests =
-    let gate-count : length split.gates.items ≡ script.gates = sym (length-map split.gates.items gates.log_of) ∙ ap length gate-logs ∙ are.frame.gates in
-    record {
-      gate_count = gate-count;
-      gates = λ home gate at. record {
-        home_is = gates-order.homes home gate at;
-        gates_are = gates-order.each_gates home gate at ∙ gate-count;
-        shards_are = gates-order.each_shards home gate at ∙ are.frame.shards;
-      };
-      shard_count = sym (length-map split.shards.items shards.log_of) ∙ ap length shard-logs ∙ are.core.account.shards.as_many;
-      shards = λ number shard at. record {
-        number_is = shards-order.numbers number shard at;
-        gates_are = shards-order.each_gates number shard at ∙ are.frame.senders;
-      };
-      requests = requests ∙ are.frame.requests;
-    }
+module _ (script : Script) (table : gates.GateTable) (store : List StoreEntry) (oracle : List OracleEntry) (rows : shards.ShardTable)
+    (clients : ClientTable) (notices : List Clock) (are : AreOf script (machines_of table store oracle rows clients notices)) (split : Split) where
+  -- the parts of machines of a script are parts for it
+  pub parts-for : gates.AreGatesInOrder (length split.gates.items) table.shards split.gates.items → map gates.log_of split.gates.items ≡ table.logs
+      → shards.AreShardsInOrder rows.gates split.shards.items → map shards.log_of split.shards.items ≡ rows.logs
+      → map requests_in split.clients.items ≡ clients.requests → ArePartsFor script split
+  parts-for gates-order gate-logs shards-order shard-logs requests =
+      let gate-count : length split.gates.items ≡ script.gates = sym (length-map split.gates.items gates.log_of) ∙ ap length gate-logs ∙ are.frame.gates in
+      record {
+        gate_count = gate-count;
+        gates = λ home gate at. record {
+          home_is = gates-order.homes home gate at;
+          gates_are = gates-order.each_gates home gate at ∙ gate-count;
+          shards_are = gates-order.each_shards home gate at ∙ are.frame.shards;
+        };
+        shard_count = sym (length-map split.shards.items shards.log_of) ∙ ap length shard-logs ∙ are.core.account.shards.as_many;
+        shards = λ number shard at. record {
+          number_is = shards-order.numbers number shard at;
+          gates_are = shards-order.each_gates number shard at ∙ are.frame.senders;
+        };
+        requests = requests ∙ are.frame.requests;
+      }
 
 -- and they can be joined, if no transaction is in flight
 pub can-be-joined : (machines : MachinesView) (split : Split) → AreOf split.script machines → AreAllByLog split.script machines.state.account machines.values → NoneInFlight machines.state.account
@@ -87,14 +88,14 @@ can-be-joined machines split are all landed state-is parts numbered values-are =
 -- Parts that are joined
 
 module _ (split : Split) (can : CanBeJoined split) where
-  pub joined-gates : gates.AreInOrder (length split.gates.items) split.script.shards split.gates.items
+  pub joined-gates : gates.AreGatesInOrder (length split.gates.items) split.script.shards split.gates.items
   joined-gates = record {
     each_gates = λ home gate at. (can.parts.gates home gate at).gates_are ∙ sym can.parts.gate_count;
     homes = λ home gate at. (can.parts.gates home gate at).home_is;
     each_shards = λ home gate at. (can.parts.gates home gate at).shards_are;
   }
 
-  pub joined-shards : shards.AreInOrder split.script.gates split.shards.items
+  pub joined-shards : shards.AreShardsInOrder split.script.gates split.shards.items
   joined-shards = record {
     numbers = λ number shard at. (can.parts.shards number shard at).number_is;
     each_gates = λ number shard at. (can.parts.shards number shard at).gates_are;
@@ -154,26 +155,29 @@ module _ (split : Split) (can : CanBeJoined split) where
           (subst (AreValuesByLog split.script (account_of split) client.log.items) (sym (image-at values_of split.clients.items n client at no_values)) (record { running = mine.running; replies = mine.replies }))
       by {n} None at below = absurd (past split.clients.items n below at)
 
-  -- so the joined machines keep what a core keeps
-  pub joined : (table : gates.GateTable) (rows : shards.ShardTable) (clients : ClientTable) (machines : MachinesView) → machines ≡ machines_of table split.store split.oracle rows clients split.notices.items
-      → table ≡ record { shards = split.script.shards; logs = map gates.log_of split.gates.items } → rows ≡ record { gates = split.script.gates; logs = map shards.log_of split.shards.items }
-      → clients.requests ≡ map requests_in split.clients.items → clients.logs ≡ map log_of split.clients.items → clients.values ≡ map values_of split.clients.items
-      → (machines.state ≡ state_of split) × (AreOf split.script machines × AreAllByLog split.script machines.state.account machines.values)
-  joined table rows clients machines is table-is rows-are requests logs values = (state, (are, kept))
-    where
-      state : machines.state ≡ state_of split
-      state = ap (λ (m : MachinesView). m.state) is ∙ (λ i. record {
-        account = record { gates = (table-is i).logs; store = split.store; oracle = split.oracle; shards = (rows-are i).logs; sessions = logs i };
-        notices = split.notices.items;
-      })
+  module _ (table : gates.GateTable) (rows : shards.ShardTable) (clients : ClientTable) (machines : MachinesView) where
+    -- so the joined machines keep what a core keeps
+    pub joined : machines ≡ machines_of table split.store split.oracle rows clients split.notices.items
+        → table ≡ record { shards = split.script.shards; logs = map gates.log_of split.gates.items }
+        → rows ≡ record { gates = split.script.gates; logs = map shards.log_of split.shards.items }
+        → clients.requests ≡ map requests_in split.clients.items → clients.logs ≡ map log_of split.clients.items
+        → clients.values ≡ map values_of split.clients.items
+        → (machines.state ≡ state_of split) × (AreOf split.script machines × AreAllByLog split.script machines.state.account machines.values)
+    joined is table-is rows-are requests logs values = (state, (are, kept))
+      where
+        state : machines.state ≡ state_of split
+        state = ap (λ (m : MachinesView). m.state) is ∙ (λ i. record {
+          account = record { gates = (table-is i).logs; store = split.store; oracle = split.oracle; shards = (rows-are i).logs; sessions = logs i };
+          notices = split.notices.items;
+        })
 
-      are : AreOf split.script machines
-      are = joined-are machines state
-          (ap (λ (m : MachinesView). m.frame.gates) is ∙ ap (λ (t : gates.GateTable). length t.logs) table-is ∙ length-map split.gates.items gates.log_of)
-          (ap (λ (m : MachinesView). m.frame.shards) is ∙ ap (λ (t : gates.GateTable). t.shards) table-is)
-          (ap (λ (m : MachinesView). m.frame.senders) is ∙ ap (λ (t : shards.ShardTable). t.gates) rows-are)
-          (ap (λ (m : MachinesView). m.frame.requests) is ∙ requests)
+        are : AreOf split.script machines
+        are = joined-are machines state
+            (ap (λ (m : MachinesView). m.frame.gates) is ∙ ap (λ (t : gates.GateTable). length t.logs) table-is ∙ length-map split.gates.items gates.log_of)
+            (ap (λ (m : MachinesView). m.frame.shards) is ∙ ap (λ (t : gates.GateTable). t.shards) table-is)
+            (ap (λ (m : MachinesView). m.frame.senders) is ∙ ap (λ (t : shards.ShardTable). t.gates) rows-are)
+            (ap (λ (m : MachinesView). m.frame.requests) is ∙ requests)
 
-      kept : AreAllByLog split.script machines.state.account machines.values
-      kept = subst (λ (one : CoreState). AreAllByLog split.script one.account machines.values) (sym state)
-          (subst (AreAllByLog split.script (account_of split)) (sym (ap (λ (m : MachinesView). m.values) is ∙ values)) joined-values)
+        kept : AreAllByLog split.script machines.state.account machines.values
+        kept = subst (λ (one : CoreState). AreAllByLog split.script one.account machines.values) (sym state)
+            (subst (AreAllByLog split.script (account_of split)) (sym (ap (λ (m : MachinesView). m.values) is ∙ values)) joined-values)

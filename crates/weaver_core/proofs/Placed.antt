@@ -14,8 +14,8 @@ use Rattle.weave_entries.specs.StoreReplay.{Judgement, judgement_of, judgements_
 use Rattle.weave_account.specs.declared.account.Account.{Account}
 use Rattle.weave_account.specs.Account.{IsBegunStamp}
 use Rattle.weave_account.specs.PairsByPlace.{placed_by, placed_pair, request_stamped, vertex_asked, vertex_visited}
+use Rattle.shard_node.proofs.Places.{or_none}
 use Rattle.weaver_core.specs.Reporting.{asked_by, asked_in, pairs_before, pairs_found}
-use Rattle.weaver_core.proofs.Noting.{or-none}
 
 none-left : {A B : Type 0} (f : A → Option B) → ((x : A) → f x ≡ None) → (xs : List A) → filter_map f xs ≡ []
 none-left f none [] = refl
@@ -37,7 +37,7 @@ module _ (account : Account) (request_of : Stamp → Option ℕ) (requests : (ev
         → option_or (vertex_asked account.store later place) (vertex_visited account.shards earlier later) ≡ slice_get (asked_by account.store r) place
     vertex-is earlier later r place unvisited is =
         ap (option_or (vertex_asked account.store later place)) unvisited
-        ∙ or-none (vertex_asked account.store later place)
+        ∙ or_none (vertex_asked account.store later place)
         ∙ ap (option_and_then (λ (one : Judgement). slice_get one.asked place)) (judged later r is)
         ∙ at-asked (judgement_of r account.store) place
 

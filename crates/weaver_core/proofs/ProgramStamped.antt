@@ -1,5 +1,5 @@
 -- A program that has a stamp was begun at its gatekeeper, with that stamp.
-use Rattle.std.proofs.Common.{◌≡◌, ℕ, true, false, List, [], Contains, IsTrue, Option, None, Some, refl, sym, ap, subst, ◌∙◌}
+use Rattle.std.proofs.Common.{◌≡◌, ℕ, true, List, [], Contains, IsTrue, Option, None, Some, refl, sym, ap, subst, ◌∙◌}
 use Rattle.std.specs.Prelude.{◌==◌, ◌&&◌}
 use Rattle.std.specs.List.{find}
 use Rattle.std.proofs.lemmas.Bool.{and_parts, both_ways, eq-eqb, eqb-true}
@@ -11,7 +11,6 @@ use Rattle.program_defs.specs.Works.{is_change, is_look}
 use Rattle.program_defs.specs.declared.script.Request.{Request}
 use Rattle.program_defs.specs.declared.script.Script.{Script}
 use Rattle.program_defs.specs.declared.script.Work.{Work}
-use Rattle.program_defs.specs.declared.script.Work.TheVariants.{Change, Look}
 use Rattle.report_rules.specs.Lookups.{is_some_and, request_at}
 use Rattle.weave_entries.specs.declared.gate_log.GateEntry.{GateEntry}
 use Rattle.weave_entries.specs.declared.gate_log.GateDeed.{GateDeed}
@@ -23,12 +22,9 @@ use Rattle.weave_account.specs.Gatekeepers.{BeginsAs}
 use Rattle.weave_account.specs.IsAccount.{IsAccount}
 use Rattle.weaver_core.proofs.CanVisit.{inside}
 use Rattle.weaver_core.proofs.Found.{begun-with}
+use Rattle.weaver_core.proofs.Marked.{no-look}
 use Rattle.weaver_core.proofs.NoStamp.{none-any}
 use Rattle.weaver_core.proofs.Turns.{place-of}
-
-not-both : (work : Work) → is_change work ≡ true → is_look work ≡ true → ⊥
-not-both (Change ops) one other = absurd (let f : false ≡ true = other in cc)
-not-both (Look program) one other = absurd (let f : false ≡ true = one in cc)
 
 -- the test on the script's request, of the request itself
 own-is : (script : Script) (r : ℕ) (request : Request) → request_at script r ≡ Some request → (kind : Work → _) (home : ℕ) → IsTrue (is_some_and (λ (one : Request). (one.gate == home) && kind one.work) (request_at script r)) → (request.gate ≡ home) × (kind request.work ≡ true)
@@ -42,7 +38,7 @@ module _ (script : Script) (account : Account) (is : IsAccount script account) (
   deed-is home before author (BeganTx q stamp) b h same begins =
       let one : q ≡ r = ap (λ (c : Begun). c.request) (only (record { author = author; request = q; stamp = stamp }) b h) ∙ same in
       let own = own-is script r request at is_change home (subst (λ n. IsTrue (is_some_and (λ (c : Request). (c.gate == home) && is_change c.work) (request_at script n))) one begins.own) in
-      absurd (not-both request.work own.1 looks)
+      absurd (no-look request.work looks own.1)
   deed-is home before author (BeganProgram q stamp) b h same begins =
       let one : q ≡ r = ap (λ (c : Begun). c.request) (only (record { author = author; request = q; stamp = stamp }) b h) ∙ same in
       let own = own-is script r request at is_look home (subst (λ n. IsTrue (is_some_and (λ (c : Request). (c.gate == home) && is_look c.work) (request_at script n))) one begins.own) in

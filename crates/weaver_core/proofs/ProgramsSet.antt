@@ -23,7 +23,7 @@ use Rattle.step_rules.specs.Entries.{state_with}
 use Rattle.step_rules.specs.Trace.{is_ok, state_after}
 use Rattle.weaver_core.proofs.ProgramsStay.{StaysAt}
 
--- a step is done, or leaves all as it was
+-- a step is done, or changes nothing
 pub step-cases : (script : Script) (state : CoreState) (step : Step) → (state_after script state step ≡ state) ⊎ (state_after script state step ≡ state_with script state step)
 step-cases script state step = by (is_ok (answer_of script state step))
   where

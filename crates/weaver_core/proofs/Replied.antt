@@ -12,8 +12,6 @@ use Rattle.proof_base.proofs.Ordered.{find_by_key}
 use Rattle.program_defs.specs.Works.{is_change, is_look}
 use Rattle.program_defs.specs.declared.script.Request.{Request}
 use Rattle.program_defs.specs.declared.script.Script.{Script}
-use Rattle.program_defs.specs.declared.script.Work.{Work}
-use Rattle.program_defs.specs.declared.script.Work.TheVariants.{Change, Look}
 use Rattle.report_rules.specs.Lookups.{is_some_and, request_at}
 use Rattle.weave_entries.specs.declared.gate_log.GateEntry.{GateEntry}
 use Rattle.weave_entries.specs.declared.gate_log.GateDeed.{GateDeed}
@@ -32,6 +30,7 @@ use Rattle.weave_account.specs.Gatekeepers.{BeginsAs}
 use Rattle.weave_account.specs.IsAccount.{IsAccount}
 use Rattle.weave_account.specs.Sessions.{RepliesAs}
 use Rattle.weaver_core.specs.Staying.{StayLaws}
+use Rattle.weaver_core.proofs.Marked.{no-look}
 use Rattle.weaver_core.proofs.Turns.{place-of}
 
 module _ (stay : StayLaws) (script : Script) (account : Account) (is : IsAccount script account) where
@@ -87,11 +86,6 @@ module _ (stay : StayLaws) (script : Script) (account : Account) (is : IsAccount
       subst (λ bs. Contains bs b) (sym (flat_map-append (λ (e : GateEntry). program_by e.author e.deed) xs ys))
       (Contains-append_left (programs_of xs) (programs_of ys) b h)
 
-  -- a request is not both
-  not-both : (work : Work) → is_change work ≡ true → is_look work ≡ true → ⊥
-  not-both (Change ops) one other = absurd (let f : false ≡ true = other in cc)
-  not-both (Look program) one other = absurd (let f : false ≡ true = one in cc)
-
   deed-judged : (home : ℕ) (before : List GateEntry) (author : ℕ) (deed : GateDeed) (after : List GateEntry)
       → gate_log account home ≡ before ++ record { author = author; deed = deed } ∷ after
       → (r : ℕ) (request : Request) → request_at script r ≡ Some request → is_change request.work ≡ true
@@ -104,7 +98,7 @@ module _ (stay : StayLaws) (script : Script) (account : Account) (is : IsAccount
       (programs-front before (record { author = author; deed = Finished q } ∷ after) _ ends.1) in
       let program = program-begun-is home _ in-log in
       let one = same_Some request program.request (sym there ∙ ap (request_at script) (sym (only q r h)) ∙ program.request_is) in
-      absurd (not-both request.work change (ap (λ (k : Request). is_look k.work) one ∙ program.looks))
+      absurd (no-look request.work (ap (λ (k : Request). is_look k.work) one ∙ program.looks) change)
   deed-judged home before author (BeganTx q stamp) after at r request there change h ends sends = absurd (has_none r h)
   deed-judged home before author (BeganProgram q stamp) after at r request there change h ends sends = absurd (has_none r h)
   deed-judged home before author (Nop to number stamp low) after at r request there change h ends sends = absurd (has_none r h)

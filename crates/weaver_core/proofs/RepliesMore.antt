@@ -24,22 +24,26 @@ one-more-number n = sym (same-map (range_with_len 0 (n + 1))) ∙ map-range_with
 abbrev made : ℕ → Option Stamp → ReplyState → Reply
 made r stamp state = record { request = r; stamp = stamp; state = state }
 
-pub replies-more : (store : List StoreEntry) (values : List SessionValues) (stamps : List (Option Stamp)) (requests : List Request) (r : ℕ) (replies then_replies : List Reply) (asked : Request) (stamp : Option Stamp) (state : ReplyState)
-    → slice_get requests r ≡ Some asked → stamp ≡ slice_index_or stamps r None → AreRequestsReplies store values stamps requests r replies → IsStateFound store (values_at values asked.session).replies r stamp asked.work state
-    → then_replies ≡ replies ++ record { request = r; stamp = stamp; state = state } ∷ [] → AreRequestsReplies store values stamps requests (r + 1) then_replies
-replies-more store values stamps requests r replies then_replies asked stamp state at stamp-is are found is = subst (AreRequestsReplies store values stamps requests (r + 1)) (sym is) (record {
-  numbered = map-append (λ (one : Reply). one.request) replies (made r stamp state ∷ []) ∙ (λ i. are.numbered i ++ r ∷ []) ∙ sym (one-more-number r);
-  each = λ n one place. each-push (λ (k : ℕ) (x : Reply). (request : Request) → slice_get requests k ≡ Some request → IsRequestsReply store values stamps k request x) replies (made r stamp state) are.each
-      (subst (λ k. (request : Request) → slice_get requests k ≡ Some request → IsRequestsReply store values stamps k request (made r stamp state)) (sym count) here) n one place;
-})
-  where
-    count : length replies ≡ r
-    count = sym (length-map replies (λ (one : Reply). one.request)) ∙ ap length are.numbered ∙ length-range_with_len 0 r
+module _ (store : List StoreEntry) (values : List SessionValues) (stamps : List (Option Stamp)) (requests : List Request) (r : ℕ)
+    (replies then_replies : List Reply) (asked : Request) (stamp : Option Stamp) (state : ReplyState) where
+  pub replies-more : slice_get requests r ≡ Some asked → stamp ≡ slice_index_or stamps r None
+      → AreRequestsReplies store values stamps requests r replies
+      → IsStateFound store (values_at values asked.session).replies r stamp asked.work state
+      → then_replies ≡ replies ++ record { request = r; stamp = stamp; state = state } ∷ []
+      → AreRequestsReplies store values stamps requests (r + 1) then_replies
+  replies-more at stamp-is are found is = subst (AreRequestsReplies store values stamps requests (r + 1)) (sym is) (record {
+    numbered = map-append (λ (one : Reply). one.request) replies (made r stamp state ∷ []) ∙ (λ i. are.numbered i ++ r ∷ []) ∙ sym (one-more-number r);
+    each = λ n one place. each-push (λ (k : ℕ) (x : Reply). (request : Request) → slice_get requests k ≡ Some request → IsRequestsReply store values stamps k request x) replies (made r stamp state) are.each
+        (subst (λ k. (request : Request) → slice_get requests k ≡ Some request → IsRequestsReply store values stamps k request (made r stamp state)) (sym count) here) n one place;
+  })
+    where
+      count : length replies ≡ r
+      count = sym (length-map replies (λ (one : Reply). one.request)) ∙ ap length are.numbered ∙ length-range_with_len 0 r
 
-    here : (request : Request) → slice_get requests r ≡ Some request → IsRequestsReply store values stamps r request (made r stamp state)
-    here request there = record {
-      request_is = refl;
-      stamp_is = stamp-is;
-      state_is = subst (λ (q : Request). IsStateFound store (values_at values q.session).replies r (slice_index_or stamps r None) q.work state) (same_Some asked request (sym at ∙ there))
-          (subst (λ (o : Option Stamp). IsStateFound store (values_at values asked.session).replies r o asked.work state) stamp-is found);
-    }
+      here : (request : Request) → slice_get requests r ≡ Some request → IsRequestsReply store values stamps r request (made r stamp state)
+      here request there = record {
+        request_is = refl;
+        stamp_is = stamp-is;
+        state_is = subst (λ (q : Request). IsStateFound store (values_at values q.session).replies r (slice_index_or stamps r None) q.work state) (same_Some asked request (sym at ∙ there))
+            (subst (λ (o : Option Stamp). IsStateFound store (values_at values asked.session).replies r o asked.work state) stamp-is found);
+      }

@@ -17,6 +17,7 @@ use Rattle.report_rules.specs.declared.report.StepAnswer.{StepAnswer}
 use Rattle.report_rules.specs.declared.report.StepAnswer.TheVariants as answer
 use Rattle.weave_entries.specs.declared.oracle_log.OracleEntry.{OracleEntry}
 use Rattle.weave_entries.specs.declared.session_log.SessionDeed.TheVariants.{Replied}
+use Rattle.weave_account.proofs.InSession.{last-any}
 use Rattle.weaver_core.specs.ShardTable.{ShardTable}
 use Rattle.weave_entries.specs.declared.store_log.StoreEntry.{StoreEntry}
 use Rattle.weave_entries.specs.GateReplay.{Begun, flight_of, has_ended_in}
@@ -24,7 +25,6 @@ use Rattle.weave_entries.specs.SessionReplay.{has_begun_in}
 use Rattle.weave_account.specs.declared.account.Account.{Account}
 use Rattle.weave_account.specs.Account.{gate_log, session_log}
 use Rattle.weave_account.specs.IsAccount.{IsAccount}
-use Rattle.weave_account.specs.Sessions.{requests_of_session}
 use Rattle.step_rules.specs.Answers.{answer_of_reply, for_request}
 use Rattle.step_rules.specs.CoreState.{with_session_deed}
 use Rattle.step_rules.specs.Entries.{after_reply, after_work, at_request}
@@ -32,19 +32,18 @@ use Rattle.step_rules.specs.Requests.{has_begun, has_ended, has_reply, is_answer
 use Rattle.weaver_core.specs.Clients as clients
 use Rattle.weaver_core.specs.Cores.{AreOf, MachinesDo, MachinesView, RepliesToChange, machines_of, values_after_reply}
 use Rattle.weaver_core.specs.GateTable as gates
-use Rattle.weaver_core.specs.Replying.{IsThere, Replies, RepliesToOne, can_have_reply, is_flying, reply_of_change}
+use Rattle.weaver_core.specs.Replying.{HasGateAndSession, Replies, RepliesToOne, can_have_reply, is_flying, reply_of_change}
+use Rattle.weaver_core.proofs.CitedLaws.{RequestLaws}
 use Rattle.weaver_core.proofs.BeginDone.{requests-are}
 use Rattle.weaver_core.proofs.Resting.{done, rests, session-gains}
-use Rattle.weaver_core.proofs.Turns.{last-any}
 
 -- the laws of weave_account that are cited
 pub record ReplyLaws : Type 0 where
+  pub requests : RequestLaws
   -- requests_end_or_go_on
   pub sent : (script : Script) (account : Account) → IsWithinLimits script → IsAccount script account → (r : ℕ) (request : Request) → request_at script r ≡ Some request → IsTrue (is_change request.work)
       → IsTrue (has_begun_in r (session_log account request.session))
       → has_ended_in r (gate_log account request.gate) ≡ not (is_some_and (λ (flight : Begun). flight.request == r) (flight_of (gate_log account request.gate)))
-  -- requests_of_a_session_rise
-  pub among : (script : Script) (r : ℕ) (request : Request) → request_at script r ≡ Some request → Contains (requests_of_session script request.session) r
 
 -- idle exactly if it can't have its reply
 idle-if : (b w f e : Bool) → (b ≡ true → e ≡ not f) → (not b || w || not e) ≡ not ((b && not w) && not f)
@@ -60,7 +59,7 @@ module _ (script : Script) (old : gates.GateTable) (store : List StoreEntry) (or
   abbrev account : Account
   account = before.state.account
 
-  pub there : (request : Request) → request_at script r ≡ Some request → IsThere old was r request
+  pub there : (request : Request) → request_at script r ≡ Some request → HasGateAndSession old was r request
   there request is =
       let home = are.limits.homes r request is in
       let session = are.limits.sessions r request is in
@@ -69,7 +68,7 @@ module _ (script : Script) (old : gates.GateTable) (store : List StoreEntry) (or
       record {
         gate = omega (arith, home, many);
         session = omega (arith, session, all);
-        among = subst (λ rs. Contains rs r) (sym (requests-are script old store oracle shards was notices are r request.session session)) (laws.among script r request is);
+        among = subst (λ rs. Contains rs r) (sym (requests-are script old store oracle shards was notices are r request.session session)) (laws.requests.among script r request is);
       }
 
   -- a transaction is a change

@@ -25,7 +25,7 @@ use Rattle.step_rules.specs.Entries.{state_with}
 use Rattle.step_rules.specs.IsCore.{IsSmall}
 use Rattle.step_rules.specs.Trace.{is_ok}
 use Rattle.weaver_core.specs.Clients as clients
-use Rattle.weaver_core.specs.Cores.{Frame, IsFrameOf, MachinesDo, MachinesView, machines_of}
+use Rattle.weaver_core.specs.Cores.{MachinesFrame, IsFrameOf, MachinesDo, MachinesView, machines_of}
 use Rattle.weaver_core.specs.GateTable as gates
 use Rattle.weaver_core.specs.ShardTable as tables
 
@@ -38,7 +38,7 @@ done script step old new ok is frame small = record {
   small = λ _. small;
 }
 
--- and any other leaves all as it was
+-- and any other changes nothing
 pub rests : (script : Script) (step : Step) (old new : MachinesView) (answer : StepAnswer) → answer_of script old.state step ≡ answer → is_ok answer ≡ false → new ≡ old → MachinesDo script step old new answer
 rests script step old new answer is not-ok same = record {
   answer_is = sym is;
@@ -48,15 +48,15 @@ rests script step old new answer is not-ok same = record {
 }
 
 -- a gatekeeper of the script is there
-pub gate-there : (script : Script) (frame : Frame) (g : ℕ) → IsFrameOf script frame → g < script.gates → g < frame.gates
+pub gate-there : (script : Script) (frame : MachinesFrame) (g : ℕ) → IsFrameOf script frame → g < script.gates → g < frame.gates
 gate-there script frame g of below = let many = of.gates in omega (arith, many, below)
 
 -- its shards have channels of it
-pub sender-there : (script : Script) (frame : Frame) (g : ℕ) → IsFrameOf script frame → g < script.gates → g < frame.senders
+pub sender-there : (script : Script) (frame : MachinesFrame) (g : ℕ) → IsFrameOf script frame → g < script.gates → g < frame.senders
 sender-there script frame g of below = let many = of.senders in omega (arith, many, below)
 
 -- and it has channels to the shards of the script
-pub receiver-there : (script : Script) (frame : Frame) (s : ℕ) → IsFrameOf script frame → s < script.shards → s < frame.shards
+pub receiver-there : (script : Script) (frame : MachinesFrame) (s : ℕ) → IsFrameOf script frame → s < script.shards → s < frame.shards
 receiver-there script frame s of below = let many = of.shards in omega (arith, many, below)
 
 -- Machines of parts
@@ -66,25 +66,25 @@ module _ (old : gates.GateTable) (store : List StoreEntry) (oracle : List Oracle
   before = machines_of old store oracle shards was notices
 
   -- one more entry of a gatekeeper
-  pub gate-gains : (new : gates.GateTable) (g author : ℕ) (deed : GateDeed) → gates.AddsAt old new g author deed → (machines_of new store oracle shards was notices).state.account ≡ with_gate_deed before.state.account g author deed
+  pub gate-gains : (new : gates.GateTable) (g author : ℕ) (deed : GateDeed) → gates.AddsToGate old new g author deed → (machines_of new store oracle shards was notices).state.account ≡ with_gate_deed before.state.account g author deed
   gate-gains new g author deed adds = ap (λ (logs : List (List GateEntry)). record before.state.account { gates = logs }) adds.logs
 
   -- one more entry of a session
-  pub session-gains : (is : clients.ClientTable) (s : ℕ) (deed : SessionDeed) → clients.AddsAt was is s deed → (machines_of old store oracle shards is notices).state.account ≡ with_session_deed before.state.account s deed
+  pub session-gains : (is : clients.ClientTable) (s : ℕ) (deed : SessionDeed) → clients.AddsToSession was is s deed → (machines_of old store oracle shards is notices).state.account ≡ with_session_deed before.state.account s deed
   session-gains is s deed adds = ap (λ (logs : List (List SessionEntry)). record before.state.account { sessions = logs }) adds.logs
 
   -- one more entry of a shard
-  pub shard-gains : (new : tables.ShardTable) (s : ℕ) (deed : ShardDeed) → tables.AddsAt shards new s deed → (machines_of old store oracle new was notices).state.account ≡ with_shard_deed before.state.account s deed
+  pub shard-gains : (new : tables.ShardTable) (s : ℕ) (deed : ShardDeed) → tables.AddsToShard shards new s deed → (machines_of old store oracle new was notices).state.account ≡ with_shard_deed before.state.account s deed
   shard-gains new s deed adds = ap (λ (logs : List (List ShardEntry)). record before.state.account { shards = logs }) adds.logs
 
-  pub shard-frame : (new : tables.ShardTable) (s : ℕ) (deed : ShardDeed) → tables.AddsAt shards new s deed → (machines_of old store oracle new was notices).frame ≡ before.frame
+  pub shard-frame : (new : tables.ShardTable) (s : ℕ) (deed : ShardDeed) → tables.AddsToShard shards new s deed → (machines_of old store oracle new was notices).frame ≡ before.frame
   shard-frame new s deed adds = λ i. record { gates = length old.logs; shards = old.shards; senders = adds.gates i; requests = was.requests }
 
   pub same-shards : (new : tables.ShardTable) → new ≡ shards → machines_of old store oracle new was notices ≡ before
   same-shards new same = ap (λ (t : tables.ShardTable). machines_of old store oracle t was notices) same
 
   -- what the machines are made for stays
-  pub gate-frame : (new : gates.GateTable) (g author : ℕ) (deed : GateDeed) → gates.AddsAt old new g author deed → (machines_of new store oracle shards was notices).frame ≡ before.frame
+  pub gate-frame : (new : gates.GateTable) (g author : ℕ) (deed : GateDeed) → gates.AddsToGate old new g author deed → (machines_of new store oracle shards was notices).frame ≡ before.frame
   gate-frame new g author deed adds =
       let many : length new.logs ≡ length old.logs = ap length adds.logs ∙ length-set old.logs g _ in
       λ i. record { gates = many i; shards = adds.shards i; senders = shards.gates; requests = was.requests }

@@ -10,7 +10,7 @@ use Rattle.step_rules.specs.IsCore.{IsCore, IsSmallIfDone}
 use Rattle.step_rules.specs.Answers.{answer_of}
 use Rattle.step_rules.specs.Trace.{state_after}
 use Rattle.weaver_core.specs.Clients.{SessionValues, no_values, values_at, with_running}
-use Rattle.weaver_core.specs.Cores.{AreOf, AreSameMachines, Frame, IsFrameOf, MachinesDo, MachinesView}
+use Rattle.weaver_core.specs.Cores.{AreOf, AreSameMachines, MachinesFrame, IsFrameOf, MachinesDo, MachinesView}
 use Rattle.weaver_core.specs.declared.walks.Running.{Running}
 use Rattle.weaver_core.proofs.Results.{on_err_map}
 
@@ -24,7 +24,7 @@ refused-same result old new h = on_err_map result (new ≡ old) (AreSameMachines
 pub are-of-same : (script : Script) (old new : MachinesView) → AreSameMachines old new → AreOf script old → AreOf script new
 are-of-same script old new same are = record {
   limits = are.limits;
-  frame = subst (λ (frame : Frame). IsFrameOf script frame) (sym same.frame) are.frame;
+  frame = subst (λ (frame : MachinesFrame). IsFrameOf script frame) (sym same.frame) are.frame;
   core = subst (IsCore script) (sym same.state) are.core;
 }
 

@@ -20,7 +20,7 @@ use Rattle.step_rules.specs.Entries.{after_send, judgement_in_flight}
 use Rattle.weaver_core.specs.Clients.{ClientTable}
 use Rattle.weaver_core.specs.Cores.{AreOf, MachinesDo, MachinesView, machines_of}
 use Rattle.weaver_core.specs.GateTable.{GateTable, log_at}
-use Rattle.weaver_core.specs.Sending.{IsSent, IsUnjudged, SendsFlight}
+use Rattle.weaver_core.specs.Sending.{IsFlightSent, IsUnjudged, SendsJudgedFlight}
 use Rattle.weaver_core.proofs.Resting.{done, gate-frame, gate-gains, rests, same-gates}
 
 module _ (script : Script) (old : GateTable) (store : List StoreEntry) (oracle : List OracleEntry) (shards : ShardTable) (was : ClientTable) (notices : List Clock)
@@ -34,7 +34,7 @@ module _ (script : Script) (old : GateTable) (store : List StoreEntry) (oracle :
   abbrev state-of : Account → CoreState
   state-of all = record { account = all; notices = notices }
 
-  sent-done : IsSent old new store g → MachinesDo script (step.Send g) before (machines_of new store oracle shards was notices) answer.Ok
+  sent-done : IsFlightSent old new store g → MachinesDo script (step.Send g) before (machines_of new store oracle shards was notices) answer.Ok
   sent-done did =
       let flight = did.flight in
       let deed = Sent flight.request (messages_of old.shards (log_at old g) flight did.judged.ops did.judged.verdict) in
@@ -52,7 +52,7 @@ module _ (script : Script) (old : GateTable) (store : List StoreEntry) (oracle :
   idle-is (inl none) = ap (answer_of_send account) none
   idle-is (inr has) = ap (answer_of_send account) has.flies ∙ ap (λ (o : Option Judgement). if is_some o then answer.Ok else answer.Idle) has.not_judged
 
-  pub send-done : (a : StepAnswer) → SendsFlight old new store g a → MachinesDo script (step.Send g) before (machines_of new store oracle shards was notices) a
+  pub send-done : (a : StepAnswer) → SendsJudgedFlight old new store g a → MachinesDo script (step.Send g) before (machines_of new store oracle shards was notices) a
   send-done answer.Ok did = sent-done did
   send-done answer.Idle did = rests script (step.Send g) before _ answer.Idle (idle-is did.1) refl (same-gates old store oracle shards was notices new did.0)
   send-done answer.Twice none = absurd none

@@ -45,19 +45,20 @@ pub none-of : {A : Type 0} (o : Option A) → is_some o ≡ false → o ≡ None
 none-of None none = refl
 none-of (Some x) none = absurd (let e : true ≡ false = none in cc)
 
--- a verdict on the flight, by the operations that were handed in
-pub judged-now : (script : Script) (gates : GateTable) (store then_store : List StoreEntry) (oracle then_oracle : List OracleEntry) (home : ℕ) (flight : Begun) (ops : List Op) (verdict : Verdict)
-    → flight_of (log_at gates home) ≡ Some flight → judgement_of flight.request store ≡ None → ops ≡ ops_in_flight script flight
-    → verdict ≡ verdict_at (pairs_of_log oracle) store flight.stamp ops
-    → then_store ≡ store ++ judged_entry flight.author flight.request flight.stamp ops store verdict ∷ []
-    → then_oracle ≡ oracle ++ settled_if verdict (entries_of_settling flight.author (pairs_of_log oracle) (asked_at store flight.stamp ops) flight.stamp)
-    → IsJudgedNow script gates store then_store oracle then_oracle home
-judged-now script gates store then_store oracle then_oracle home flight ops verdict flies unjudged ops-are verdict-is store-is oracle-is =
-    let on-flight : verdict ≡ verdict_on_flight script store oracle flight = verdict-is ∙ ap (verdict_at (pairs_of_log oracle) store flight.stamp) ops-are in
-    record {
-      flight = flight;
-      flies = flies;
-      unjudged = unjudged;
-      store_is = store-is ∙ (λ i. store ++ judged_entry flight.author flight.request flight.stamp (ops-are i) store (on-flight i) ∷ []);
-      oracle_is = oracle-is ∙ (λ i. oracle ++ settled_if (on-flight i) (entries_of_settling flight.author (pairs_of_log oracle) (asked_at store flight.stamp (ops-are i)) flight.stamp));
-    }
+module _ (script : Script) (gates : GateTable) (store then_store : List StoreEntry) (oracle then_oracle : List OracleEntry) (home : ℕ)
+    (flight : Begun) (ops : List Op) (verdict : Verdict) where
+  -- a verdict on the flight, by the operations that were handed in
+  pub judged-now : flight_of (log_at gates home) ≡ Some flight → judgement_of flight.request store ≡ None → ops ≡ ops_in_flight script flight
+      → verdict ≡ verdict_at (pairs_of_log oracle) store flight.stamp ops
+      → then_store ≡ store ++ judged_entry flight.author flight.request flight.stamp ops store verdict ∷ []
+      → then_oracle ≡ oracle ++ settled_if verdict (entries_of_settling flight.author (pairs_of_log oracle) (asked_at store flight.stamp ops) flight.stamp)
+      → IsJudgedNow script gates store then_store oracle then_oracle home
+  judged-now flies unjudged ops-are verdict-is store-is oracle-is =
+      let on-flight : verdict ≡ verdict_on_flight script store oracle flight = verdict-is ∙ ap (verdict_at (pairs_of_log oracle) store flight.stamp) ops-are in
+      record {
+        flight = flight;
+        flies = flies;
+        unjudged = unjudged;
+        store_is = store-is ∙ (λ i. store ++ judged_entry flight.author flight.request flight.stamp (ops-are i) store (on-flight i) ∷ []);
+        oracle_is = oracle-is ∙ (λ i. oracle ++ settled_if (on-flight i) (entries_of_settling flight.author (pairs_of_log oracle) (asked_at store flight.stamp (ops-are i)) flight.stamp));
+      }

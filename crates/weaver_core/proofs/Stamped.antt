@@ -1,10 +1,10 @@
 -- The stamps of the sessions' logs are those of the account.
-use Rattle.std.proofs.Common.{◌≡◌, ◌≢◌, ℕ, zero, suc, ◌<◌, true, List, [], ◌∷◌, length, get_or, take, Contains, Option, None, Some, inl, inr, refl, sym, ap, subst, ◌∙◌, arith}
+use Rattle.std.proofs.Common.{◌≡◌, ◌≢◌, ℕ, zero, suc, ◌<◌, true, List, [], ◌∷◌, length, get_or, Contains, Option, None, Some, refl, sym, ap, subst, ◌∙◌, arith}
 use Rattle.std.specs.Prelude.{◌==◌}
 use Rattle.std.specs.List.{find, range_with_len}
 use Rattle.std.specs.Option.{option_map, option_or}
 use Rattle.std.proofs.lemmas.Bool.{eqb-true}
-use Rattle.proof_base.proofs.Members.{filter_has, find_has, has_head, has_map, has_none, has_read, has_tail}
+use Rattle.proof_base.proofs.Members.{filter_has, find_has, has_map}
 use Rattle.program_defs.specs.declared.script.Request.{Request}
 use Rattle.program_defs.specs.declared.script.Script.{Script}
 use Rattle.report_rules.specs.Lookups.{is_some_and, request_at}
@@ -15,8 +15,10 @@ use Rattle.weave_account.specs.declared.account.Account.{Account}
 use Rattle.weave_account.specs.Account.{session_log, stamp_of}
 use Rattle.weave_account.specs.IsAccount.{IsAccount}
 use Rattle.weave_account.specs.Sessions.{requests_of_session}
+use Rattle.shard_node.proofs.Places.{or_none}
 use Rattle.weaver_core.specs.Clients.{stamp_in}
-use Rattle.weaver_core.proofs.Noting.{or-none, stamp-in-more}
+use Rattle.weaver_core.proofs.CanVisit.{in-take}
+use Rattle.weaver_core.proofs.Noting.{stamp-in-more}
 use Rattle.weaver_core.proofs.Turns.{SessionLaws}
 
 -- no log has a begin of the request
@@ -28,19 +30,10 @@ none-in (log ∷ logs) r none = stamp-in-more log logs r ∙ (λ i. option_or (n
 pub stamp-in-one : (logs : List (List SessionEntry)) (r s : ℕ) → s < length logs → ((other : ℕ) → other ≢ s → session_stamp_of r (get_or logs other []) ≡ None) → stamp_in logs r ≡ session_stamp_of r (get_or logs s [])
 stamp-in-one [] r s within none = absurd (omega (arith, within))
 stamp-in-one (log ∷ logs) r zero within none =
-    stamp-in-more log logs r ∙ ap (option_or (session_stamp_of r log)) (none-in logs r (λ other. none (suc other) (λ (e : suc other ≡ zero). absurd (omega (arith, e))))) ∙ or-none (session_stamp_of r log)
+    stamp-in-more log logs r ∙ ap (option_or (session_stamp_of r log)) (none-in logs r (λ other. none (suc other) (λ (e : suc other ≡ zero). absurd (omega (arith, e))))) ∙ or_none (session_stamp_of r log)
 stamp-in-one (log ∷ logs) r (suc s) within none =
     stamp-in-more log logs r
     ∙ (λ i. option_or (none zero (λ (e : zero ≡ suc s). absurd (omega (arith, e))) i) (stamp-in-one logs r s (omega (arith, within)) (λ other differ. none (suc other) (λ (e : suc other ≡ suc s). differ (omega (arith, e)))) i))
-
--- a member of the first ones is a member
-of-take : {A : Type 0} (n : ℕ) (xs : List A) (x : A) → Contains (take n xs) x → Contains xs x
-of-take zero xs x h = absurd (has_none x h)
-of-take (suc n) [] x h = absurd (has_none x h)
-of-take (suc n) (y ∷ xs) x h = elim (has_read y (take n xs) x h) [
-  | inl same ↦ subst (λ z. Contains (y ∷ xs) z) same (has_head y xs)
-  | inr more ↦ has_tail y xs x (of-take n xs x more)
-]
 
 -- A request is begun in its own session alone
 
@@ -55,7 +48,7 @@ module _ (laws : SessionLaws) (script : Script) (account : Account) (is : IsAcco
           let number : begun.0 ≡ r = eqb-true begun.0 r found.1 in
           let image = has_map (λ (one : ℕ × Stamp). one.0) (begins_in (session_log account other)) begun found.0 in
           let first = subst (λ (rs : List ℕ). Contains rs begun.0) (laws.begun_first other (requests_of_session script other) (session_log account other) (is.sessions.logs other)) image in
-          let among = of-take _ (requests_of_session script other) begun.0 first in
+          let among = in-take _ (requests_of_session script other) begun.0 first in
           let of-it = (filter_has (λ (q : ℕ). is_some_and (λ (one : Request). one.session == other) (request_at script q)) (range_with_len 0 (length script.requests)) begun.0 among).1 in
           let session : (request.session == other) ≡ true = sym (ap (λ (q : ℕ). is_some_and (λ (one : Request). one.session == other) (request_at script q)) number ∙ ap (is_some_and (λ (one : Request). one.session == other)) request-is) ∙ of-it in
           absurd (differ (sym (eqb-true request.session other session)))

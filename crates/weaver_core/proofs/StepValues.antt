@@ -3,7 +3,7 @@ use Rattle.std.proofs.Common.{◌≡◌, ◌≢◌, ℕ, ◌-◌, ◌<◌, ◌�
 use Rattle.std.specs.Prelude.{◌==◌, ◌&&◌, not, IsSomeAnd, slice_get, slice_set, if◌then◌else◌}
 use Rattle.std.specs.List.{list_any}
 use Rattle.std.specs.Option.{option_and_then, option_map}
-use Rattle.std.proofs.lemmas.Bool.{both_ways, eq-eqb, le-ltb}
+use Rattle.std.proofs.lemmas.Bool.{both_ways, eq-eqb, le-ltb, not-true}
 use Rattle.std.proofs.lemmas.List.{append-nil, map-append, set-get_or}
 use Rattle.std.proofs.lemmas.List.Concat.{flat_map-append}
 use Rattle.std.proofs.lemmas.List.Elements.{Contains-append_cases}
@@ -38,7 +38,7 @@ use Rattle.weave_account.specs.IsAccount.{IsAccount}
 use Rattle.weave_account.specs.Report.{IsReplyInAccount, IsStateOf, state_of_tx}
 use Rattle.weave_account.specs.Sessions.{requests_of_session}
 use Rattle.weaver_core.specs.Clients.{SessionValues, is_open_in, no_values, values_at, with_reply, with_running}
-use Rattle.weaver_core.specs.Finishing.{IsReplyOf}
+use Rattle.weaver_core.specs.Finishing.{IsReplyOfProgram}
 use Rattle.weaver_core.specs.Replying.{reply_of_change}
 use Rattle.weaver_core.specs.Splitting.{AreAllByLog, AreRepliesByLog, AreValuesByLog, IsRunningByLog, begun_by, program_waiting, waiting_in}
 use Rattle.weaver_core.specs.Staying.{StayLaws}
@@ -180,10 +180,6 @@ module _ (laws : StayLaws) (script : Script) (account next : Account) (limits : 
           let both : Look a ≡ Look b = sym x.work_is ∙ ap (λ (k : Request). k.work) eq ∙ y.work_is in
           cc
 
-      not-true : (b : Bool) → not b ≡ true → b ≡ false
-      not-true true e = absurd (let f : false ≡ true = e in cc)
-      not-true false e = refl
-
       and-second : (a b : Bool) → (a && b) ≡ true → b ≡ true
       and-second true b e = e
       and-second false b e = absurd (let f : false ≡ true = e in cc)
@@ -198,12 +194,8 @@ module _ (laws : StayLaws) (script : Script) (account next : Account) (limits : 
     and-parts true b e = (refl, e)
     and-parts false b e = absurd (let f : false ≡ true = e in cc)
 
-    un-not : (b : Bool) → not b ≡ true → b ≡ false
-    un-not true e = absurd (let f : false ≡ true = e in cc)
-    un-not false e = refl
-
     unreplied : has_reply_in r log ≡ false
-    unreplied = un-not (has_reply_in r log) (and-parts (has_begun_in r log) (not (has_reply_in r log)) waits).1
+    unreplied = not-true (has_reply_in r log) (and-parts (has_begun_in r log) (not (has_reply_in r log)) waits).1
 
     -- its stamp is the last one
     pub waiting : (stamp : Stamp) × (waiting_in log ≡ Some (r, stamp))
@@ -250,7 +242,7 @@ module _ (laws : StayLaws) (script : Script) (account next : Account) (limits : 
         by (Look program) e = absurd (let f : false ≡ true = e in cc)
 
     -- that of a program, by what it read
-    pub program-right : (program : Program) → request.work ≡ Look program → (running : Running) → IsRunningIn script account r running → (reply : Reply) → IsReplyOf running reply → reads_of next r ≡ reads_of account r
+    pub program-right : (program : Program) → request.work ≡ Look program → (running : Running) → IsRunningIn script account r running → (reply : Reply) → IsReplyOfProgram running reply → reads_of next r ≡ reads_of account r
         → ((a b : List (Name × State)) (one : Program) (result : Answer) → AreSameReads a b → IsPlainAnswer (graph_read a) one result → IsPlainAnswer (graph_read b) one result) → IsReplyInAccount script next reply
     program-right program looks running runs reply is-reply reads plain-free = record {
       stamp_is = is-reply.stamp_is ∙ sym runs.runs.stamped ∙ stamp-now ∙ sym stamp-then ∙ ap (stamp_of next) (sym number);

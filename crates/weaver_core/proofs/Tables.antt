@@ -1,9 +1,10 @@
 -- Lists of which one element is set, or to which one is added, and their images.
-use Rattle.std.proofs.Common.{◌≡◌, ◌≢◌, ◌⊎◌, ℕ, zero, suc, ◌+◌, ◌<◌, List, [], ◌∷◌, ◌++◌, length, map, replicate, get_or, Some, inl, inr, refl, sym, ap, subst, ◌∙◌, arith}
+use Rattle.std.proofs.Common.{◌≡◌, ◌⊎◌, ℕ, zero, suc, ◌+◌, ◌<◌, List, [], ◌∷◌, ◌++◌, length, map, replicate, get_or, Some, inl, inr, refl, sym, ap, subst, ◌∙◌, arith}
 use Rattle.std.specs.Prelude.{slice_get, slice_set}
 use Rattle.std.proofs.lemmas.Bool.{cases_eq}
-use Rattle.std.proofs.lemmas.List.{get_or-map, get_or-set_same, length-map, length-set, map-append, map-set, replicate-append-replicate, set-get_or}
+use Rattle.std.proofs.lemmas.List.{get_or-map, length-map, map-append, map-set, replicate-append-replicate, set-get_or}
 use Rattle.std.proofs.lemmas.Option.{get_or_from_slice_get, slice_get_read, slice_get_within}
+use Rattle.shard_node.proofs.Places.{get_set_here, get_set_other}
 
 -- One element
 
@@ -15,26 +16,16 @@ read-at xs i x within is = slice_get_read xs _ i x refl within is
 pub within-image : {A B : Type 0} (f : A → B) (xs : List A) (i : ℕ) → i < length (map f xs) → i < length xs
 within-image f xs i within = let same = length-map xs f in omega (arith, within, same)
 
-pub set-here : {A : Type 0} (xs : List A) (i : ℕ) (x : A) → i < length xs → slice_get (slice_set xs i x) i ≡ Some x
-set-here xs i x within = slice_get_read (slice_set xs i x) _ i x refl (let same = length-set xs i x in omega (arith, within, same)) (sym (get_or-set_same xs i x x within))
-
-pub set-other : {A : Type 0} (xs : List A) (i other : ℕ) (x : A) → other ≢ i → slice_get (slice_set xs i x) other ≡ slice_get xs other
-set-other [] i other x differ = refl
-set-other (y ∷ xs) zero zero x differ = absurd (differ refl)
-set-other (y ∷ xs) zero (suc other) x differ = refl
-set-other (y ∷ xs) (suc i) zero x differ = refl
-set-other (y ∷ xs) (suc i) (suc other) x differ = set-other xs i other x (λ e. differ (ap suc e))
-
 -- what holds at each place holds at each when one is set to what it holds of
 pub each-set : {A : Type 0} (P : ℕ → A → Type 0) (xs : List A) (i : ℕ) (y : A) → i < length xs → ((j : ℕ) (z : A) → slice_get xs j ≡ Some z → P j z) → P i y
     → (j : ℕ) (z : A) → slice_get (slice_set xs i y) j ≡ Some z → P j z
 each-set P xs i y within each here j z at = elim (cases_eq j i) [
   | inl same ↦
-      let there : slice_get (slice_set xs i y) j ≡ Some y = ap (slice_get (slice_set xs i y)) same ∙ set-here xs i y within in
+      let there : slice_get (slice_set xs i y) j ≡ Some y = ap (slice_get (slice_set xs i y)) same ∙ get_set_here xs i y within in
       let e : Some y ≡ Some z = sym there ∙ at in
       let is : y ≡ z = cc in
       subst (λ n. P n z) (sym same) (subst (P i) is here)
-  | inr differ ↦ each j z (sym (set-other xs i j y differ) ∙ at)
+  | inr differ ↦ each j z (sym (get_set_other xs i j y differ) ∙ at)
 ]
 
 -- an element of a list with one more is of the list, or that one

@@ -1,7 +1,7 @@
 -- What a session's log says of each of its requests, by its state and by its last entry.
 use Rattle.std.proofs.Common.{◌≡◌, ℕ, zero, suc, ◌+◌, ◌-◌, ◌<◌, ◌≤◌, Bool, true, false, not, List, [], ◌∷◌, ◌++◌, length, take, map, AllPairs, Contains, IsTrue, Option, None, Some, inl, inr, refl, sym, ap, subst, ◌∙◌, arith}
 use Rattle.std.specs.Prelude.{nat_le, nat_lt, slice_get, ◌&&◌, ◌↔◌, if◌then◌else◌}
-use Rattle.std.proofs.lemmas.Bool.{and_from, and_parts, cases_Bool, cases_lt, cases_order, eq-eqb, le-leb, le-ltb, lt-leb, lt-ltb, ltb-false, ltb-true, ne_eqb, not_from_false}
+use Rattle.std.proofs.lemmas.Bool.{and_from, and_parts, cases_Bool, cases_lt, cases_order, eq-eqb, le-leb, le-ltb, lt-leb, lt-ltb, ltb-false, ltb-true, ne_eqb, not-true, not_from_false}
 use Rattle.std.proofs.lemmas.List.Sums.{fold-append}
 use Rattle.std.proofs.lemmas.Option.{get_or_from_slice_get, none-some, same_Some, slice_get-get_or, slice_get_within}
 use Rattle.proof_base.proofs.Ends.{by_last}
@@ -50,6 +50,7 @@ get-before (z ∷ xs) zero j x e less = absurd (omega (arith, less))
 get-before (z ∷ xs) (suc i) zero x e less = (z, refl)
 get-before (z ∷ xs) (suc i) (suc j) x e less = get-before xs i j x e (omega (arith, less))
 
+-- what is at a place is a member; it unfolds to its place
 abbrev pub at-place : {A : Type 0} (xs : List A) (i : ℕ) (x : A) → slice_get xs i ≡ Some x → Contains xs x
 at-place xs i x e = (i, slice_get_within xs i x e, get_or_from_slice_get xs i x x e)
 
@@ -69,10 +70,6 @@ none-last [] none = refl
 none-last (x ∷ xs) none =
     let place : length (x ∷ xs) - 1 ≡ length xs = omega arith in
     absurd (none-some _ (sym none ∙ ap (slice_get (x ∷ xs)) place ∙ slice_get-get_or (x ∷ xs) (length xs) x (omega arith)))
-
-not-is : (b : Bool) → not b ≡ true → b ≡ false
-not-is true is = absurd (let e : false ≡ true = is in cc)
-not-is false is = refl
 
 -- Numbers that rise
 
@@ -107,15 +104,6 @@ module _ (requests : List ℕ) where
       by-deed : (deed : SessionDeed) (session : SessionState) → (session_after session deed).waits ≡ true → 1 ≤ (session_after session deed).begun
       by-deed (Begun r stamp) session waits = omega arith
       by-deed (Replied r) session waits = cc
-
--- the stamp that was begun last doesn't depend on the requests
-pub last-any : (a b : List ℕ) (log : List SessionEntry) → (session_of a log).last ≡ (session_of b log).last
-last-any a b = by_last (λ log. (session_of a log).last ≡ (session_of b log).last) refl
-    (λ log entry so. ap (λ (session : SessionState). session.last) (one-more a log entry) ∙ by-deed entry.deed (session_of a log) (session_of b log) so ∙ sym (ap (λ (session : SessionState). session.last) (one-more b log entry)))
-  where
-    by-deed : (deed : SessionDeed) (one other : SessionState) → one.last ≡ other.last → (session_after one deed).last ≡ (session_after other deed).last
-    by-deed (Begun r stamp) one other so = refl
-    by-deed (Replied r) one other so = so
 
 -- whether a deed begins a request
 abbrev pub is_begin : SessionDeed → Bool
@@ -259,7 +247,7 @@ module _ (laws : SessionLaws) (number : ℕ) (requests : List ℕ) (log : List S
         before = ltb-true i session.begun (sym (begun-is i r at) ∙ parts.0)
 
         after : replied_count session ≤ i
-        after = ltb-false i (replied_count session) (sym (reply-is i r at) ∙ not-is (has_reply_in r log) parts.1)
+        after = ltb-false i (replied_count session) (sym (reply-is i r at) ∙ not-true (has_reply_in r log) parts.1)
 
         by : (b : Bool) → session.waits ≡ b → RepliesToLast session r
         by true waits =
@@ -281,7 +269,7 @@ module _ (laws : SessionLaws) (number : ℕ) (requests : List ℕ) (log : List S
           let place = place-of requests one.0 one.1 in
           let count = count-waits false turn.replied in
           let next : slice_get requests session.begun ≡ Some r = sym (ap (λ rs. slice_get rs session.begun) (requests-same requests log)) ∙ turn.next in
-          let over = ltb-false place.0 (replied_count session) (sym (reply-is place.0 one.0 place.1) ∙ not-is (has_reply_in one.0 log) both.1) in
+          let over = ltb-false place.0 (replied_count session) (sym (reply-is place.0 one.0 place.1) ∙ not-true (has_reply_in one.0 log) both.1) in
           let lower = ltb-true one.0 r both.0 in
           absurd (elim (cases_order place.0 session.begun) [
             | inl same ↦ (let e : Some one.0 ≡ Some r = sym place.1 ∙ ap (slice_get requests) same ∙ next in let is = same_Some one.0 r e in omega (arith, is, lower))

@@ -7,6 +7,7 @@ use Rattle.std.proofs.lemmas.Bool.{cases_lt}
 use Rattle.std.proofs.lemmas.Option.{none-some, same_Some}
 use Rattle.weave_entries.specs.declared.session_log.SessionEntry.{SessionEntry}
 use Rattle.weave_entries.specs.SessionReplay.{IsSessionLog, SessionState, next_request, replied_count, session_of}
+use Rattle.step_rules.proofs.VisitLogs.{map-get}
 use Rattle.weaver_core.specs.Clients.{IsFirstUnanswered, IsUnanswered, last_entry, last_request, least_unanswered, lesser, log_of, request_by, requests_in, unanswered_at, unanswered_by, unanswered_in}
 use Rattle.weaver_core.specs.declared.client.Client.{Client}
 use Rattle.weaver_core.proofs.AtClients.{table_of}
@@ -81,11 +82,6 @@ least-one (x ∷ xs) most less = elim (cases_lt (fold lesser (lesser most x) xs)
 
 -- Images
 
-mapped : {A B : Type 0} (f : A → B) (xs : List A) (i : ℕ) (x : A) → slice_get xs i ≡ Some x → slice_get (map f xs) i ≡ Some (f x)
-mapped f [] i x at = absurd (none-some x at)
-mapped f (y ∷ xs) zero x at = ap Some (ap f (same_Some y x at))
-mapped f (y ∷ xs) (suc i) x at = mapped f xs i x at
-
 mapped-past : {A B : Type 0} (f : A → B) (xs : List A) (i : ℕ) (d : B) → slice_get xs i ≡ None → get_or (map f xs) i d ≡ d
 mapped-past f [] i d none = refl
 mapped-past f (y ∷ xs) zero d none = absurd (none-some y (sym none))
@@ -107,7 +103,7 @@ module _ (clients : List Client) where
   is-least most s r is = by (slice_get clients s) refl
     where
       by : (o : Option Client) → slice_get clients s ≡ o → least_unanswered most clients ≤ r
-      by (Some client) at = least-of (map unanswered_by clients) most s r (mapped unanswered_by clients s client at ∙ ap Some (sym (by-table s client at) ∙ is))
+      by (Some client) at = least-of (map unanswered_by clients) most s r (map-get unanswered_by clients s client at ∙ ap Some (sym (by-table s client at) ∙ is))
       by None none = absurd (none-some r (sym (ap (λ (rs : List ℕ). unanswered_in rs (get_or (map log_of clients) s [])) (mapped-past requests_in clients s [] none)) ∙ is))
 
   is-one : (most : ℕ) → least_unanswered most clients < most → IsUnanswered (table_of clients) (least_unanswered most clients)

@@ -1,21 +1,16 @@
 -- What the report of machines owes, but for its order: over the stamps that were noted.
-use Rattle.std.proofs.Common.{◌≡◌, ◌≢◌, ℕ, ◌<◌, AllPairs, List, [], ◌∷◌, length, map, replicate, take, drop, inl, inr, Contains, IsTrue, Option, None, Some, sym, ap, subst, ◌∙◌, arith}
-use Rattle.std.specs.Prelude.{◌↔◌, slice_index_or, IsSomeAnd}
-use Rattle.std.proofs.lemmas.List.{length-replicate}
+use Rattle.std.proofs.Common.{◌≡◌, ℕ, ◌<◌, AllPairs, List, [], ◌∷◌, length, map, replicate, take, drop, inl, inr, Contains, IsTrue, Option, None, Some, sym, ap, subst, ◌∙◌, arith}
+use Rattle.std.specs.Prelude.{◌↔◌, slice_index_or}
+use Rattle.std.proofs.lemmas.List.{length-replicate, get_or_past, take-append-drop}
 use Rattle.std.proofs.lemmas.Option.{get_or_from_slice_get, slice_get_within}
 use Rattle.proof_base.proofs.Members.{has_map}
-use Rattle.weave_data.specs.Names.{shard_of}
 use Rattle.weave_data.specs.declared.name.Name.{Name}
 use Rattle.vector_stamp.specs.declared.clock.Clock.{Clock}
 use Rattle.vector_stamp.specs.declared.clock.Stamp.{Stamp}
-use Rattle.vector_stamp.specs.Coherence.{AreCoherent}
-use Rattle.vector_stamp.specs.Order.{id_of, same_stamp}
+use Rattle.vector_stamp.specs.Order.{same_stamp}
 use Rattle.vector_stamp.specs.Settling.{SettledEntry}
 use Rattle.program_defs.specs.Limits.{IsWithinLimits}
-use Rattle.program_defs.specs.declared.script.Request.{Request}
 use Rattle.program_defs.specs.declared.script.Script.{Script}
-use Rattle.program_defs.specs.declared.script.Work.TheVariants.{Change}
-use Rattle.report_rules.specs.Lookups.{request_at}
 use Rattle.report_rules.specs.declared.report.Pair.{Pair}
 use Rattle.report_rules.specs.declared.report.Report.{Report}
 use Rattle.weave_entries.specs.declared.oracle_log.OracleEntry.{OracleEntry}
@@ -23,22 +18,17 @@ use Rattle.weaver_core.specs.ShardTable.{ShardTable}
 use Rattle.weave_entries.specs.declared.store_log.StoreEntry.{StoreEntry}
 use Rattle.weave_entries.specs.GateReplay.{Begun}
 use Rattle.weave_entries.specs.OracleReplay.{settled_entry}
-use Rattle.weave_entries.specs.ShardReplay.{updates_of}
-use Rattle.weave_entries.specs.StoreReplay.{Judgement, commits_naming, judgements_of}
 use Rattle.weave_account.specs.declared.account.Account.{Account}
-use Rattle.weave_account.specs.Account.{IsBegunStamp, all_begun, begun_stamps, commits_in, pairs_in, shard_log, stamp_of}
+use Rattle.weave_account.specs.Account.{IsBegunStamp, all_begun, begun_stamps, pairs_in, stamp_of, session_log}
 use Rattle.weave_account.specs.IsAccount.{IsAccount}
 use Rattle.weave_account.specs.Oracle.{IsAskedByCommit}
 use Rattle.weave_account.specs.Pairs.{ArePairsOf}
 use Rattle.weave_account.specs.PairsByPlace.{placed_by, placed_pairs}
 use Rattle.weave_account.specs.Report.{MatchesAccount}
-use Rattle.weave_account.specs.Shards.{update_of}
-use Rattle.weave_account.specs.Account.{session_log}
 use Rattle.weave_account.specs.Sessions.{requests_of_session}
 use Rattle.weave_entries.specs.SessionReplay.{replied_count, session_of}
 use Rattle.report_rules.specs.declared.report.Reply.{Reply}
 use Rattle.std.proofs.lemmas.Bool.{cases_lt}
-use Rattle.std.proofs.lemmas.List.{get_or_past, take-append-drop}
 use Rattle.proof_base.proofs.Ordered.{pairs_cons, pairs_front, pairs_head, pairs_none, pairs_tail}
 use Rattle.weaver_core.specs.Clients.{ClientTable, HaveRisingReplies, SessionValues, no_values, values_at}
 use Rattle.weaver_core.specs.Cores.{AreOf, machines_of}
@@ -48,6 +38,7 @@ use Rattle.weaver_core.specs.Marks.{all_visits, mark_of, was_asked}
 use Rattle.weaver_core.specs.Reporting.{AreOfHomes, AreRequestsReplies, AreStampsOf, all_pairs_found, pairs_found, request_with}
 use Rattle.weaver_core.specs.Splitting.{AreAllByLog}
 use Rattle.weaver_core.specs.Staying.{StayLaws}
+use Rattle.weaver_core.proofs.CitedLaws.{BegunLaws, CommitLaws}
 use Rattle.weaver_core.proofs.Found.{begun-with, found-at, judged-with, request-found}
 use Rattle.weaver_core.proofs.Marked.{all-are, unvisited-by}
 use Rattle.weaver_core.proofs.MarksFound.{marks-found}
@@ -70,22 +61,13 @@ image-rises (reply ∷ replies) rise =
     (λ other has. pairs_head (λ (a b : ℕ). a < b) reply.request (map (λ (one : Reply). one.request) replies) other.request rise (has_map (λ (one : Reply). one.request) replies other has))
     (image-rises replies (pairs_tail (λ (a b : ℕ). a < b) reply.request (map (λ (one : Reply). one.request) replies) rise))
 
--- the laws of weave_account that are cited
+-- the laws that are cited of a report
 pub record ReportLaws : Type 0 where
-  -- begun_stamps_are_coherent
-  pub coherent : (script : Script) (account : Account) → IsWithinLimits script → IsAccount script account → AreCoherent (begun_stamps account)
-  pub differ : (script : Script) (account : Account) → IsWithinLimits script → IsAccount script account → (a b : Begun) → Contains (all_begun account) a → Contains (all_begun account) b → a.request ≢ b.request → id_of a.stamp ≢ id_of b.stamp
+  pub stamps : BegunLaws
+  pub commits : CommitLaws
   -- stamps_are_begun
   pub settled : (script : Script) (account : Account) → IsWithinLimits script → IsAccount script account → (entry : OracleEntry) → Contains account.oracle entry
       → (stamp : Stamp) → Contains ((settled_entry entry).later ∷ (settled_entry entry).earlier) stamp → IsBegunStamp account stamp
-  -- judgements_are_of_requests
-  pub work : (script : Script) (account : Account) → IsWithinLimits script → IsAccount script account → (judged : Judgement) → Contains (judgements_of account.store) judged
-      → IsSomeAnd (request_at script judged.request) (λ (request : Request). request.work ≡ Change judged.ops)
-  pub begun : (script : Script) (account : Account) → IsWithinLimits script → IsAccount script account → (judged : Judgement) → Contains (judgements_of account.store) judged
-      → Contains (all_begun account) (record { author = judged.author; request = judged.request; stamp = judged.stamp })
-  -- updates_are_commits
-  pub whole : (script : Script) (account : Account) → IsWithinLimits script → IsAccount script account → (v : Name) → let updates = updates_of v (shard_log account (shard_of v script.shards)) in
-      updates ≡ map (update_of v) (take (length updates) (commits_naming v (commits_in account)))
   -- equality_is_decided of vector_stamp
   pub same_stamps : (a b : Stamp) → IsTrue (same_stamp a b) ↔ (a ≡ b)
   -- placed_pairs_are_the_pairs
@@ -114,28 +96,28 @@ module _ (laws : ReportLaws) (sessions : SessionLaws) (script : Script) (gates :
       let place = place-of stamps (Some stamp) has in
       let known = stamps-are place.0 (slice_get_within stamps place.0 (Some stamp) place.1) in
       let from = begun-with script account are.core.account place.0 stamp (sym known ∙ get_or_from_slice_get stamps place.0 (Some stamp) None place.1) in
-      (laws.coherent script account are.limits are.core.account).homes stamp (subst (λ (s : Stamp). Contains (begun_stamps account) s) from.1.1.1 (has_map (λ (begun : Begun). begun.stamp) (all_begun account) from.0 from.1.0))
+      (laws.stamps.coherent script account are.limits are.core.account).homes stamp (subst (λ (s : Stamp). Contains (begun_stamps account) s) from.1.1.1 (has_map (λ (begun : Begun). begun.stamp) (all_begun account) from.0 from.1.0))
 
   pub settled-homes : (entry : OracleEntry) → Contains oracle entry → AreOfHomes (settled_entry entry)
-  settled-homes entry has event h = (laws.coherent script account are.limits are.core.account).homes event (laws.settled script account are.limits are.core.account entry has event h)
+  settled-homes entry has event h = (laws.stamps.coherent script account are.limits are.core.account).homes event (laws.settled script account are.limits are.core.account entry has event h)
 
   module _ (stay : StayLaws) (kept : AreAllByLog script account was.values) where
     found : (q : ℕ) (event : Stamp) → stamp_of account q ≡ Some event → request_with stamps event ≡ Some q
     found q event at =
         let is = are.core.account in
         let b = begun-with script account is q event at in
-        let one = found-at script account is laws.same_stamps (laws.differ script account are.limits is) stamps stamps-are many b.0 b.1.0 in
+        let one = found-at script account is laws.same_stamps (laws.stamps.differ script account are.limits is) stamps stamps-are many b.0 b.1.0 in
         ap (request_with stamps) (sym b.1.1.1) ∙ one ∙ ap Some b.1.1.0
 
     -- the pairs of an entry that a commit asked for
     placed-one : (settled : SettledEntry) → IsAskedByCommit account settled → ((event : Stamp) → Contains (settled.later ∷ settled.earlier) event → IsBegunStamp account event) → pairs_found (request_with stamps) account.store None settled ≡ placed_by account settled
     placed-one settled asked begun =
         let is = are.core.account in
-        let differ = laws.differ script account are.limits is in
+        let differ = laws.stamps.differ script account are.limits is in
         entry-placed account (request_with stamps)
         (request-found script account is laws.same_stamps differ stamps stamps-are many)
-        (judged-with script account is laws.same_stamps differ (laws.begun script account are.limits is))
-        settled (unvisited-by script account are.limits is laws.same_stamps differ (laws.work script account are.limits is) (laws.begun script account are.limits is) settled asked) begun
+        (judged-with script account is laws.same_stamps differ (laws.stamps.begun script account are.limits is))
+        settled (unvisited-by script account are.limits is laws.same_stamps differ (laws.commits.work script account are.limits is) (laws.stamps.begun script account are.limits is) settled asked) begun
 
     -- the mark that is found of an entry
     abbrev mark : SettledEntry → Option Name
@@ -145,9 +127,9 @@ module _ (laws : ReportLaws) (sessions : SessionLaws) (script : Script) (gates :
     pairs-are : ArePairsOf account (all_pairs_found (request_with stamps) store mark oracle) (pairs_in account)
     pairs-are =
         let is = are.core.account in
-        let begun = found-at script account is laws.same_stamps (laws.differ script account are.limits is) stamps stamps-are many in
+        let begun = found-at script account is laws.same_stamps (laws.stamps.differ script account are.limits is) stamps stamps-are many in
         all-are account (request_with stamps) found placed-one mark oracle (laws.settled script account are.limits is)
-        (marks-found script account is (laws.work script account are.limits is) (laws.begun script account are.limits is) (laws.whole script account are.limits is) (request_with stamps) begun)
+        (marks-found script account is (laws.commits.work script account are.limits is) (laws.stamps.begun script account are.limits is) (laws.commits.whole script account are.limits is) (request_with stamps) begun)
         (laws.placed script account are.limits is)
 
     -- and the report of these parts is the account's but for its order

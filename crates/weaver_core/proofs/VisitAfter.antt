@@ -31,7 +31,7 @@ use Rattle.weaver_core.specs.Cores.{AreOf, MachinesDo, MachinesView, machines_of
 use Rattle.weaver_core.specs.GateTable.{GateTable}
 use Rattle.weaver_core.specs.ShardTable.{ShardTable, log_at}
 use Rattle.weaver_core.specs.Staying.{CoreLaws}
-use Rattle.weaver_core.specs.Visiting.{AreSameLogs, Asks, Visits, VisitsNext, entries_asked, updates_seen}
+use Rattle.weaver_core.specs.Visiting.{AreSameLogs, Asks, VisitsForProgram, VisitsNext, entries_asked, updates_seen}
 use Rattle.weaver_core.specs.Walks.{IsRunningIn}
 use Rattle.weaver_core.specs.declared.walks.Running.{Running}
 use Rattle.weaver_core.proofs.VisitDone.{next-over}
@@ -115,7 +115,7 @@ module _ (free : (a b : List (Name × State)) (program : Program) → AreSameRea
       }
 
   module _ (is-next : IsAccount script next) (there : (v : Name) → shard_of v script.shards < length shards.logs) where
-    pub runs-after : (a : StepAnswer) → Visits script.shards shards new oracle then_oracle running now a → IsRunningIn script next r now
+    pub runs-after : (a : StepAnswer) → VisitsForProgram script.shards shards new oracle then_oracle running now a → IsRunningIn script next r now
     runs-after answer.Ok did = runs-if-visited is-next did (there did.vertex)
     runs-after answer.Idle did = runs-if-same did.0
     runs-after (answer.Again s g) did = runs-if-same did.0

@@ -30,7 +30,7 @@ use Rattle.weaver_core.specs.Clients.{ClientTable}
 use Rattle.weaver_core.specs.Cores.{AreOf, MachinesDo, MachinesView, machines_of}
 use Rattle.weaver_core.specs.GateTable.{GateTable}
 use Rattle.weaver_core.specs.ShardTable.{ShardTable, log_at}
-use Rattle.weaver_core.specs.Visiting.{AreSameLogs, Asks, Visits, VisitsNext, entries_asked, updates_seen}
+use Rattle.weaver_core.specs.Visiting.{AreSameLogs, Asks, VisitsForProgram, VisitsNext, entries_asked, updates_seen}
 use Rattle.weaver_core.specs.Walks.{HasReadAll, IsRunningIn}
 use Rattle.weaver_core.specs.declared.walks.Running.{Running}
 use Rattle.weaver_core.proofs.Resting.{done, rests, shard-frame}
@@ -42,7 +42,7 @@ next-over free walk program all asks has =
     asks has.reads has.has_read ∙ ap (next_visit has.reads) has.program_is ∙ free has.reads all program has.same
 
 -- a visit leaves the stamp
-pub visit-stamp : (shards : ℕ) (old new : ShardTable) (oracle then_oracle : List OracleEntry) (was is : Running) (a : StepAnswer) → Visits shards old new oracle then_oracle was is a → is.stamp ≡ was.stamp
+pub visit-stamp : (shards : ℕ) (old new : ShardTable) (oracle then_oracle : List OracleEntry) (was is : Running) (a : StepAnswer) → VisitsForProgram shards old new oracle then_oracle was is a → is.stamp ≡ was.stamp
 visit-stamp shards old new oracle then_oracle was is answer.Ok did = did.read.stamp_is
 visit-stamp shards old new oracle then_oracle was is answer.Idle did = did.0.program.stamp_is
 visit-stamp shards old new oracle then_oracle was is (answer.Again s g) did = did.0.program.stamp_is
@@ -109,7 +109,7 @@ module _ (script : Script) (gates : GateTable) (store : List StoreEntry) (oracle
       same-all : AreSameLogs shards new oracle then_oracle running now → after ≡ before
       same-all same = λ i. machines_of gates store (same.oracle_is i) (same.shards_are i) was notices
 
-      pub visit-done : (a : StepAnswer) → Visits script.shards shards new oracle then_oracle running now a → MachinesDo script (step.Visit r) before after a
+      pub visit-done : (a : StepAnswer) → VisitsForProgram script.shards shards new oracle then_oracle running now a → MachinesDo script (step.Visit r) before after a
       visit-done answer.Ok did = visited-done did
       visit-done answer.Idle did = rests script (step.Visit r) before after answer.Idle (told None did.1) refl (same-all did.0)
       visit-done (answer.Again s g) did =

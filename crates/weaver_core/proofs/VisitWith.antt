@@ -36,7 +36,8 @@ use Rattle.weaver_core.proofs.Turns.{place-of}
 use Rattle.weaver_core.proofs.ValuesStay.{all-same}
 use Rattle.weaver_core.proofs.Waiting.{open-waits, session-laws}
 
-goes-same : (account : Account) → GoesOn account account
+-- an account goes on to itself
+pub goes-same : (account : Account) → GoesOn account account
 goes-same account = record {
   gates = λ home. ([], sym (append-nil (gate_log account home)));
   store = ([], sym (append-nil account.store));

@@ -1,9 +1,9 @@
 -- What a visit leaves of the program.
-use Rattle.std.proofs.Common.{◌≡◌, ℕ, ◌<◌, Bool, true, false, not, List, [], ◌∷◌, ◌++◌, length, take, IsTrue, Some, refl, sym, ap, subst, ◌∙◌}
+use Rattle.std.proofs.Common.{◌≡◌, ℕ, ◌<◌, Bool, true, false, not, List, [], ◌∷◌, ◌++◌, length, take, Some, refl, sym, ap, subst, ◌∙◌}
 use Rattle.std.specs.Prelude.{◌||◌, slice_set, if◌then◌else◌}
 use Rattle.std.specs.List.{flat_map}
 use Rattle.std.specs.Map.{keys_of}
-use Rattle.std.proofs.lemmas.Bool.{both_ways}
+use Rattle.std.proofs.lemmas.Bool.{both_ways, not-true}
 use Rattle.proof_base.proofs.Members.{find_has}
 use Rattle.weave_data.specs.Names.{one_name, same_name}
 use Rattle.weave_data.specs.declared.name.Name.{Name}
@@ -71,11 +71,7 @@ reads-added reads front back v state new same = record {
 -- the next vertex was not read
 pub next-new : (reads : List (Name × State)) (program : Program) (v : Name) → next_visit reads program ≡ Some v → is_among (keys_of reads) v ≡ false
 next-new reads program v next =
-    not-it (is_among (keys_of reads) v) (find_has (λ (w : Name). not (is_among (keys_of reads) w)) (visits_to (length reads) (graph_read reads) program) v next).1
-  where
-    not-it : (b : Bool) → IsTrue (not b) → b ≡ false
-    not-it true h = absurd (let e : false ≡ true = h in cc)
-    not-it false h = refl
+    not-true (is_among (keys_of reads) v) (find_has (λ (w : Name). not (is_among (keys_of reads) w)) (visits_to (length reads) (graph_read reads) program) v next).1
 
 -- The program
 

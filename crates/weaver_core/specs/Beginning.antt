@@ -19,7 +19,9 @@ use Rattle.weaver_core.specs.GateTable as gates
 
 -- the stamp that the session began last may be heard at the request's gatekeeper
 abbrev pub MayBeHeard : gates.GateTable → clients.ClientTable → Request → Type 0
-MayBeHeard old was request = ForSome (clients.session_at was request.session).last (λ last. IsTrue (counts_no_more request.gate (clock_of request.gate (gates.log_at old request.gate)) last.clock))
+MayBeHeard old was request =
+    ForSome (clients.session_at was request.session).last
+    (λ last. IsTrue (counts_no_more request.gate (clock_of request.gate (gates.log_at old request.gate)) last.clock))
 
 -- the request's gatekeeper and session are there, it is one of its session's, and the stamp before it may be heard
 pub record IsReadyToBegin (old : gates.GateTable) (was : clients.ClientTable) (r : ℕ) (request : Request) : Type 0 where
@@ -36,30 +38,36 @@ is_held_up old request = is_change request.work && is_some (flight_of (gates.log
 pub record IsBegun (old new : gates.GateTable) (was is : clients.ClientTable) (r : ℕ) (request : Request) : Type 0 where
   pub next : clients.standing_at was request.session r ≡ standing.Next
   pub stamp : Stamp
-  pub stamp_is : stamp ≡ begun_stamp request.gate (clock_of request.gate (gates.log_at old request.gate)) (clients.session_at was request.session).last
+  pub stamp_is : stamp ≡ begun_stamp request.gate (clock_of request.gate (gates.log_at old request.gate))
+      (clients.session_at was request.session).last
   pub small : IsTrue (has_64_bits stamp.clock)
-  pub gate : gates.AddsAt old new request.gate 0 (begin_deed r stamp request.work)
-  pub session : clients.AddsAt was is request.session (Begun r stamp)
+  pub gate : gates.AddsToGate old new request.gate 0 (begin_deed r stamp request.work)
+  pub session : clients.AddsToSession was is request.session (Begun r stamp)
   pub values : is.values ≡ was.values
   pub free : is_held_up old request ≡ false
 
 -- a transaction is in flight
-pub record IsHeldUp (old new : gates.GateTable) (was is : clients.ClientTable) (r : ℕ) (request : Request) : Type 0 where
+pub record IsHeldUp (old new : gates.GateTable) (was is : clients.ClientTable) (r : ℕ)
+    (request : Request) : Type 0 where
   pub next : clients.standing_at was request.session r ≡ standing.Next
   pub flies : is_held_up old request ≡ true
   pub gates_are : new ≡ old
   pub clients_are : clients.AreSameClients was is
 
 -- what `begin` answers for a request, and what it leaves
-abbrev pub BeginsOne : gates.GateTable → gates.GateTable → clients.ClientTable → clients.ClientTable → ℕ → Request → StepAnswer → Type 0
+abbrev pub BeginsOne : gates.GateTable → gates.GateTable → clients.ClientTable → clients.ClientTable → ℕ → Request
+    → StepAnswer → Type 0
 BeginsOne old new was is r request Ok = IsBegun old new was is r request
 BeginsOne old new was is r request Busy = IsHeldUp old new was is r request
-BeginsOne old new was is r request Twice = (clients.standing_at was request.session r ≡ standing.Twice) × (new ≡ old) × (is ≡ was)
-BeginsOne old new was is r request Early = (clients.standing_at was request.session r ≡ standing.Early) × (new ≡ old) × (is ≡ was)
+BeginsOne old new was is r request Twice =
+    (clients.standing_at was request.session r ≡ standing.Twice) × (new ≡ old) × (is ≡ was)
+BeginsOne old new was is r request Early =
+    (clients.standing_at was request.session r ≡ standing.Early) × (new ≡ old) × (is ≡ was)
 BeginsOne old new was is r request _ = ⊥
 
 -- the same, of the script's request
-pub record Begins (script : Script) (old new : gates.GateTable) (was is : clients.ClientTable) (r : ℕ) (answer : StepAnswer) : Type 0 where
+pub record Begins (script : Script) (old new : gates.GateTable) (was is : clients.ClientTable) (r : ℕ)
+    (answer : StepAnswer) : Type 0 where
   pub request : Request
   pub request_is : request_at script r ≡ Some request
   pub begins : BeginsOne old new was is r request answer

@@ -41,7 +41,8 @@ values_of client = record { running = client.running; replies = client.replies.i
 
 -- for how many more entries and replies there is room
 abbrev pub spare_of : Client → ℕ
-spare_of client = min (vec_capacity client.log - vec_len client.log) (vec_capacity client.replies - vec_len client.replies)
+spare_of client =
+    min (vec_capacity client.log - vec_len client.log) (vec_capacity client.replies - vec_len client.replies)
 
 -- the session is at the end of the log, which keeps the rules of a session's log; its requests rise
 pub record IsClientOf (number : ℕ) (session : SessionState) (log : List SessionEntry) : Type 0 where
@@ -137,7 +138,8 @@ values_at values session = slice_index_or values session no_values
 
 -- the same but for the program that is running in a session
 abbrev pub with_running : List SessionValues → ℕ → Option Running → List SessionValues
-with_running values session running = slice_set values session (record { running = running; replies = (values_at values session).replies })
+with_running values session running =
+    slice_set values session (record { running = running; replies = (values_at values session).replies })
 
 -- and with one more reply of a session
 abbrev pub with_reply_at : List SessionValues → ℕ → Reply → List SessionValues
@@ -145,7 +147,8 @@ with_reply_at values session reply = slice_set values session (with_reply (value
 
 -- the replies of each session are of rising requests
 abbrev pub HaveRisingReplies : List SessionValues → Type 0
-HaveRisingReplies values = (session : ℕ) → AllPairs (λ (a b : Reply). a.request < b.request) (values_at values session).replies
+HaveRisingReplies values =
+    (session : ℕ) → AllPairs (λ (a b : Reply). a.request < b.request) (values_at values session).replies
 
 -- a session at the end of its log
 abbrev pub session_at : ClientTable → ℕ → SessionState
@@ -181,13 +184,14 @@ pub record AreSameClients (old new : ClientTable) : Type 0 where
   pub values : new.values ≡ old.values
 
 -- a session's log has one more entry, and all else is as before but for the room
-pub record AddsAt (old new : ClientTable) (session : ℕ) (deed : SessionDeed) : Type 0 where
+pub record AddsToSession (old new : ClientTable) (session : ℕ) (deed : SessionDeed) : Type 0 where
   pub logs : new.logs ≡ slice_set old.logs session (log_at old session ++ record { author = session; deed = deed } ∷ [])
   pub requests : new.requests ≡ old.requests
 
 -- the stamp with which a request was begun in one of these sessions, if it was
 abbrev pub stamp_in : List (List SessionEntry) → ℕ → Option Stamp
-stamp_in logs r = option_map (λ (begun : ℕ × Stamp). begun.1) (find (λ (begun : ℕ × Stamp). begun.0 == r) (flat_map begins_in logs))
+stamp_in logs r =
+    option_map (λ (begun : ℕ × Stamp). begun.1) (find (λ (begun : ℕ × Stamp). begun.0 == r) (flat_map begins_in logs))
 
 -- The table inside. No public contract cites what follows.
 
@@ -206,10 +210,12 @@ least_unanswered most clients = fold lesser most (map unanswered_by clients)
 
 -- each session has its place as its number, and is at the end of its log
 abbrev pub AreNumbered : List Client → Type 0
-AreNumbered clients = (number : ℕ) (client : Client) → slice_get clients number ≡ Some client → IsClientOf number client.session client.log.items
+AreNumbered clients =
+    (number : ℕ) (client : Client) → slice_get clients number ≡ Some client
+    → IsClientOf number client.session client.log.items
 
 -- the first sessions of a script, before their first requests
-pub record AreFirst (script : Script) (count : ℕ) (clients : List Client) : Type 0 where
+pub record AreFirstSessions (script : Script) (count : ℕ) (clients : List Client) : Type 0 where
   pub numbered : AreNumbered clients
   pub requests : map requests_in clients ≡ map (requests_of_session script) (range_with_len 0 count)
   pub logs : map log_of clients ≡ replicate count []

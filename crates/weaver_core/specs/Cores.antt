@@ -38,7 +38,7 @@ pub record Does (step : Step) (old new : CoreView) (answer : StepAnswer) : Type 
 
 -- what the machines are made for: how many gatekeepers and shards there are, for how many gatekeepers each shard has
 -- channels, and which requests each session has
-pub record Frame : Type 0 where
+pub record MachinesFrame : Type 0 where
   pub gates : ℕ
   pub shards : ℕ
   pub senders : ℕ
@@ -46,7 +46,7 @@ pub record Frame : Type 0 where
 
 -- the logs and notices of machines, what they are made for, and the values of the sessions
 pub record MachinesView : Type 0 where
-  pub frame : Frame
+  pub frame : MachinesFrame
   pub state : CoreState
   pub values : List SessionValues
 
@@ -56,7 +56,7 @@ pub record AreSameMachines (old new : MachinesView) : Type 0 where
   pub state : new.state ≡ old.state
 
 -- they are made for the script
-pub record IsFrameOf (script : Script) (frame : Frame) : Type 0 where
+pub record IsFrameOf (script : Script) (frame : MachinesFrame) : Type 0 where
   pub gates : frame.gates ≡ script.gates
   pub shards : frame.shards ≡ script.shards
   pub senders : frame.senders ≡ script.gates
@@ -75,7 +75,7 @@ IsOfMachines script (Reply r) = IsTrue (is_transaction script r)
 IsOfMachines script _ = ⊤
 
 -- machines of the script that can be given this step
-pub record MayDo (script : Script) (machines : MachinesView) (step : Step) : Type 0 where
+pub record CanBeGiven (script : Script) (machines : MachinesView) (step : Step) : Type 0 where
   pub are : AreOf script machines
   pub there : IsStepOf script step
   pub alone : IsOfMachines script step
@@ -88,11 +88,14 @@ pub record MachinesDo (script : Script) (step : Step) (old new : MachinesView) (
   pub small : IsSmallIfDone script old.state step
 
 -- machines of these parts
-abbrev pub machines_of : GateTable → List StoreEntry → List OracleEntry → ShardTable → ClientTable → List Clock → MachinesView
+abbrev pub machines_of : GateTable → List StoreEntry → List OracleEntry → ShardTable → ClientTable → List Clock
+    → MachinesView
 machines_of gates store oracle shards clients notices = record {
-  frame = record { gates = length gates.logs; shards = gates.shards; senders = shards.gates; requests = clients.requests };
+  frame =
+      record { gates = length gates.logs; shards = gates.shards; senders = shards.gates; requests = clients.requests };
   state = record {
-    account = record { gates = gates.logs; store = store; oracle = oracle; shards = shards.logs; sessions = clients.logs };
+    account =
+        record { gates = gates.logs; store = store; oracle = oracle; shards = shards.logs; sessions = clients.logs };
     notices = notices;
   };
   values = clients.values;
@@ -103,8 +106,13 @@ machines_of gates store oracle shards clients notices = record {
 -- the values after `reply` of a request of this session, by its answer
 abbrev pub values_after_reply : MachinesView → ℕ → ℕ → StepAnswer → List SessionValues
 values_after_reply old session r answer =
-    if is_ok answer then with_reply_at old.values session (reply_of_change old.state.account.store (last_begun old.state.account session) r) else old.values
+    if is_ok answer
+    then with_reply_at old.values session
+    (reply_of_change old.state.account.store (last_begun old.state.account session) r)
+    else old.values
 
 -- the values are those after `reply` of the script's request, a transaction
 abbrev pub RepliesToChange : Script → ℕ → MachinesView → MachinesView → StepAnswer → Type 0
-RepliesToChange script r old new answer = (request : Request) → request_at script r ≡ Some request → new.values ≡ values_after_reply old request.session r answer
+RepliesToChange script r old new answer =
+    (request : Request) → request_at script r ≡ Some request
+    → new.values ≡ values_after_reply old request.session r answer

@@ -30,16 +30,19 @@ begins_program r _ = false
 
 -- the author who began the program last; 0 if no one did
 abbrev pub last_author : ℕ → List GateEntry → ℕ
-last_author r log = fold (λ author (entry : GateEntry). if begins_program r entry.deed then entry.author else author) 0 log
+last_author r log =
+    fold (λ author (entry : GateEntry). if begins_program r entry.deed then entry.author else author) 0 log
 
 -- The answer
 
 -- the answer is a plain one over what the walk has read
 abbrev pub IsOutcome : Running → Answer → Type 0
-IsOutcome running answer = (reads : List (Name × State)) → HasRead running.walk reads → IsPlainAnswer (graph_read reads) (any_of running.walk) answer
+IsOutcome running answer =
+    (reads : List (Name × State)) → HasRead running.walk reads
+    → IsPlainAnswer (graph_read reads) (any_of running.walk) answer
 
 -- the program has read all, and this is the reply with its answer
-pub record IsReplyOf (running : Running) (reply : Reply) : Type 0 where
+pub record IsReplyOfProgram (running : Running) (reply : Reply) : Type 0 where
   pub asks : Asks running.walk
   pub over : next_read running.walk ≡ None
   pub request_is : reply.request ≡ running.request
@@ -56,7 +59,7 @@ pub record IsGoing (running : Running) : Type 0 where
 -- the reply of a program that is running; none if it has a next vertex
 abbrev pub IsReplyIfOver : Running → Option Reply → Type 0
 IsReplyIfOver running None = IsGoing running
-IsReplyIfOver running (Some reply) = IsReplyOf running reply
+IsReplyIfOver running (Some reply) = IsReplyOfProgram running reply
 
 -- the same, if one is running
 abbrev pub IsOutcomeOf : Option Running → Option Reply → Type 0
@@ -71,7 +74,8 @@ pub record RunsThere (table : gates.GateTable) (was : clients.ClientTable) (home
   pub running : Running
   pub running_is : (clients.values_at was.values session).running ≡ Some running
   pub request_is : running.request ≡ r
-  pub there : IsTrue (list_any (is_begun (last_author r (gates.log_at table home)) r) (running_of (gates.log_at table home)))
+  pub there : IsTrue (list_any (is_begun (last_author r (gates.log_at table home)) r)
+      (running_of (gates.log_at table home)))
 
 -- a program can be finished at its gatekeeper, if its session waits for the reply
 pub record CanBeFinished (table : gates.GateTable) (was : clients.ClientTable) (home session r : ℕ) : Type 0 where
@@ -86,9 +90,10 @@ pub record AreSameParts (old new : gates.GateTable) (was is : clients.ClientTabl
   pub clients_are : clients.AreSameClients was is
 
 -- the program was finished in the name of its begin's author, and its session has this reply
-pub record IsFinishedWith (old new : gates.GateTable) (was is : clients.ClientTable) (home session r : ℕ) (reply : Reply) : Type 0 where
-  pub adds : gates.AddsAt old new home (last_author r (gates.log_at old home)) (FinishedDeed r)
-  pub replied : clients.AddsAt was is session (Replied r)
+pub record IsFinishedWith (old new : gates.GateTable) (was is : clients.ClientTable) (home session r : ℕ)
+    (reply : Reply) : Type 0 where
+  pub adds : gates.AddsToGate old new home (last_author r (gates.log_at old home)) (FinishedDeed r)
+  pub replied : clients.AddsToSession was is session (Replied r)
   pub values : is.values ≡ clients.with_reply_at was.values session reply
 
 -- the session waited for the reply, and the program that was running there was finished
@@ -97,7 +102,7 @@ pub record IsFinished (old new : gates.GateTable) (was is : clients.ClientTable)
   pub running : Running
   pub running_is : (clients.values_at was.values session).running ≡ Some running
   pub reply : Reply
-  pub is_reply : IsReplyOf running reply
+  pub is_reply : IsReplyOfProgram running reply
   pub finished : IsFinishedWith old new was is home session r reply
 
 -- the session waits for the reply of a program that has a next vertex
@@ -108,8 +113,9 @@ pub record IsRunningOn (was : clients.ClientTable) (session r : ℕ) : Type 0 wh
   pub going : IsGoing running
 
 -- what `reply` answers for a program, and what it leaves
-abbrev pub Finishes : gates.GateTable → gates.GateTable → clients.ClientTable → clients.ClientTable → ℕ → ℕ → ℕ → StepAnswer → Type 0
-Finishes old new was is home session r answer.Ok = IsFinished old new was is home session r
-Finishes old new was is home session r answer.Idle =
+abbrev pub FinishesInSession : gates.GateTable → gates.GateTable → clients.ClientTable → clients.ClientTable → ℕ → ℕ → ℕ
+    → StepAnswer → Type 0
+FinishesInSession old new was is home session r answer.Ok = IsFinished old new was is home session r
+FinishesInSession old new was is home session r answer.Idle =
     AreSameParts old new was is × ((clients.is_open_at was session r ≡ false) ⊎ IsRunningOn was session r)
-Finishes old new was is home session r _ = ⊥
+FinishesInSession old new was is home session r _ = ⊥

@@ -15,7 +15,7 @@ abbrev pub log_at : GateTable → ℕ → List GateEntry
 log_at gates home = slice_index_or gates.logs home []
 
 -- a gatekeeper's log has one more entry, of this author, and all else is as before
-pub record AddsAt (old new : GateTable) (home author : ℕ) (deed : GateDeed) : Type 0 where
+pub record AddsToGate (old new : GateTable) (home author : ℕ) (deed : GateDeed) : Type 0 where
   pub logs : new.logs ≡ slice_set old.logs home (log_at old home ++ record { author = author; deed = deed } ∷ [])
   pub shards : new.shards ≡ old.shards
 
@@ -30,14 +30,14 @@ abbrev pub lands : GateView → Bool
 lands gate = not (is_some (flight_of gate.log))
 
 -- each gatekeeper has its number as its home, and is made for these numbers of gatekeepers and shards
-pub record AreInOrder (count shards : ℕ) (gates : List GateView) : Type 0 where
+pub record AreGatesInOrder (count shards : ℕ) (gates : List GateView) : Type 0 where
   pub each_gates : (home : ℕ) (gate : GateView) → slice_get gates home ≡ Some gate → gate.gates ≡ count
   pub homes : (home : ℕ) (gate : GateView) → slice_get gates home ≡ Some gate → gate.home ≡ home
   pub each_shards : (home : ℕ) (gate : GateView) → slice_get gates home ≡ Some gate → gate.shards ≡ shards
 
 -- the first gatekeepers of this number, before their first events
-pub record AreFirst (first count shards : ℕ) (gates : List GateView) : Type 0 where
-  pub in_order : AreInOrder count shards gates
+pub record AreFirstGates (first count shards : ℕ) (gates : List GateView) : Type 0 where
+  pub in_order : AreGatesInOrder count shards gates
   pub logs : map log_of gates ≡ replicate first []
 
 -- nothing but the room of a gatekeeper may differ

@@ -25,7 +25,8 @@ abbrev pub ops_in_flight : Script → Begun → List Op
 ops_in_flight script flight = ops_in (request_at script flight.request)
 
 -- the store can be asked for a verdict on the flight
-pub record CanBeJudged (script : Script) (store : List StoreEntry) (oracle : List OracleEntry) (flight : Begun) : Type 0 where
+pub record CanBeJudged (script : Script) (store : List StoreEntry) (oracle : List OracleEntry)
+    (flight : Begun) : Type 0 where
   pub there : IsSome (request_at script flight.request)
   pub few : length (ops_in_flight script flight) < 2 ^ 31
   pub new : All (λ (judged : Stamp). id_of judged ≢ id_of flight.stamp) (stamps_judged store)
@@ -33,16 +34,21 @@ pub record CanBeJudged (script : Script) (store : List StoreEntry) (oracle : Lis
 
 -- the verdict on the flight
 abbrev pub verdict_on_flight : Script → List StoreEntry → List OracleEntry → Begun → Verdict
-verdict_on_flight script store oracle flight = verdict_at (pairs_of_log oracle) store flight.stamp (ops_in_flight script flight)
+verdict_on_flight script store oracle flight =
+    verdict_at (pairs_of_log oracle) store flight.stamp (ops_in_flight script flight)
 
 -- the flight is judged, in the logs of store and oracle
-pub record IsJudgedNow (script : Script) (gates : GateTable) (store then_store : List StoreEntry) (oracle then_oracle : List OracleEntry) (home : ℕ) : Type 0 where
+pub record IsJudgedNow (script : Script) (gates : GateTable) (store then_store : List StoreEntry)
+    (oracle then_oracle : List OracleEntry) (home : ℕ) : Type 0 where
   pub flight : Begun
   pub flies : flight_of (log_at gates home) ≡ Some flight
   pub unjudged : judgement_of flight.request store ≡ None
-  pub store_is : then_store ≡ store ++ judged_entry flight.author flight.request flight.stamp (ops_in_flight script flight) store (verdict_on_flight script store oracle flight) ∷ []
+  pub store_is : then_store ≡ store
+      ++ judged_entry flight.author flight.request flight.stamp (ops_in_flight script flight) store
+      (verdict_on_flight script store oracle flight) ∷ []
   pub oracle_is : then_oracle ≡ oracle ++ settled_if (verdict_on_flight script store oracle flight)
-      (entries_of_settling flight.author (pairs_of_log oracle) (asked_at store flight.stamp (ops_in_flight script flight)) flight.stamp)
+      (entries_of_settling flight.author (pairs_of_log oracle)
+      (asked_at store flight.stamp (ops_in_flight script flight)) flight.stamp)
 
 -- the flight has its verdict
 pub record HasVerdict (gates : GateTable) (store : List StoreEntry) (home : ℕ) : Type 0 where
@@ -51,8 +57,11 @@ pub record HasVerdict (gates : GateTable) (store : List StoreEntry) (home : ℕ)
   pub judged : is_some (judgement_of flight.request store) ≡ true
 
 -- what `judge` answers, and what it leaves
-abbrev pub JudgesFlight : Script → GateTable → List StoreEntry → List StoreEntry → List OracleEntry → List OracleEntry → ℕ → StepAnswer → Type 0
-JudgesFlight script gates store then_store oracle then_oracle home Ok = IsJudgedNow script gates store then_store oracle then_oracle home
+abbrev pub JudgesFlight : Script → GateTable → List StoreEntry → List StoreEntry → List OracleEntry → List OracleEntry
+    → ℕ → StepAnswer → Type 0
+JudgesFlight script gates store then_store oracle then_oracle home Ok =
+    IsJudgedNow script gates store then_store oracle then_oracle home
 JudgesFlight script gates store then_store oracle then_oracle home Idle =
-    (then_store ≡ store) × (then_oracle ≡ oracle) × ((flight_of (log_at gates home) ≡ None) ⊎ HasVerdict gates store home)
+    (then_store ≡ store) × (then_oracle ≡ oracle)
+    × ((flight_of (log_at gates home) ≡ None) ⊎ HasVerdict gates store home)
 JudgesFlight script gates store then_store oracle then_oracle home _ = ⊥

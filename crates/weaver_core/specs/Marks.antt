@@ -31,7 +31,8 @@ adds_visit r v updates settled key = (settled && nat_lt 0 updates) && same_visit
 
 -- whether one of these visits did
 abbrev pub was_asked : List Visit → ℕ × Name × ℕ → Bool
-was_asked visits key = list_any (λ (visit : Visit). adds_visit visit.request visit.vertex visit.updates visit.settled key) visits
+was_asked visits key =
+    list_any (λ (visit : Visit). adds_visit visit.request visit.vertex visit.updates visit.settled key) visits
 
 -- the visits of these logs
 abbrev pub all_visits : List (List ShardEntry) → List Visit
@@ -63,12 +64,16 @@ counts_by store r = counts_if (option_map (λ (judged : Judgement). judged.verdi
 
 -- the first of these vertices at which the request saw last the commit after those that are counted
 abbrev pub first_seen : (ℕ × Name × ℕ → Bool) → ℕ → List Counted → Option Name
-first_seen asked r counts = option_map (λ (counted : Counted). counted.vertex) (find (λ (counted : Counted). asked (r, counted.vertex, counted.before)) counts)
+first_seen asked r counts =
+    option_map (λ (counted : Counted). counted.vertex)
+    (find (λ (counted : Counted). asked (r, counted.vertex, counted.before)) counts)
 
--- the vertex of the visit that asked for an entry: the first one that the commit of its earlier event names, if it is one, at which the request of the later one saw that commit last
+-- the vertex of the visit that asked for an entry: the first one that the commit of its earlier event names, if it is
+-- one, at which the request of the later one saw that commit last
 abbrev pub mark_of : (Stamp → Option ℕ) → (ℕ × Name × ℕ → Bool) → List StoreEntry → SettledEntry → Option Name
 mark_of request_of asked store entry =
-    option_and_then (λ (earlier : ℕ). option_and_then (λ (later : ℕ). first_seen asked later (counts_by store earlier)) (request_of entry.later))
+    option_and_then (λ (earlier : ℕ).
+    option_and_then (λ (later : ℕ). first_seen asked later (counts_by store earlier)) (request_of entry.later))
     (option_and_then request_of (slice_get entry.earlier 0))
 
 -- What is right of an entry

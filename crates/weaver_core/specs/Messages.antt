@@ -25,41 +25,48 @@ use Rattle.weaver_core.specs.ShardTable as shards
 -- a gatekeeper's next empty message to a shard: the next number, the next stamp, and its low mark
 abbrev pub nop_deed : ℕ → ℕ → List GateEntry → GateDeed
 nop_deed home shard log =
-    Nop shard (next_number shard log) (next_stamp home (clock_of home log)) (low_mark (next_stamp home (clock_of home log)) (running_of log))
+    Nop shard (next_number shard log) (next_stamp home (clock_of home log))
+    (low_mark (next_stamp home (clock_of home log)) (running_of log))
 
 -- what `nop` answers, and what it leaves
-abbrev pub SendsNop : gates.GateTable → gates.GateTable → ℕ → ℕ → StepAnswer → Type 0
-SendsNop old new home shard answer.Ok = gates.AddsAt old new home 0 (nop_deed home shard (gates.log_at old home)) × (is_some (flight_of (gates.log_at old home)) ≡ false)
-SendsNop old new home shard answer.Busy = (new ≡ old) × (is_some (flight_of (gates.log_at old home)) ≡ true)
-SendsNop old new home shard _ = ⊥
+abbrev pub SendsEmptyMessage : gates.GateTable → gates.GateTable → ℕ → ℕ → StepAnswer → Type 0
+SendsEmptyMessage old new home shard answer.Ok =
+    gates.AddsToGate old new home 0 (nop_deed home shard (gates.log_at old home))
+    × (is_some (flight_of (gates.log_at old home)) ≡ false)
+SendsEmptyMessage old new home shard answer.Busy = (new ≡ old) × (is_some (flight_of (gates.log_at old home)) ≡ true)
+SendsEmptyMessage old new home shard _ = ⊥
 
 -- Arrivals
 
 -- what became of a message that arrived at a shard
-abbrev pub Arrives : shards.ShardTable → shards.ShardTable → ℕ → ℕ → ℕ → Message → Arrival → Type 0
-Arrives old new shard home number message Kept =
-    (arrived_at home number (shards.log_at old shard) ≡ None) × shards.AddsAt old new shard (Arrived home number message)
-Arrives old new shard home number message Repeat = IsSome (arrived_at home number (shards.log_at old shard)) × (new ≡ old)
+abbrev pub ArrivesAtShard : shards.ShardTable → shards.ShardTable → ℕ → ℕ → ℕ → Message → Arrival → Type 0
+ArrivesAtShard old new shard home number message Kept =
+    (arrived_at home number (shards.log_at old shard) ≡ None)
+    × shards.AddsToShard old new shard (Arrived home number message)
+ArrivesAtShard old new shard home number message Repeat =
+    IsSome (arrived_at home number (shards.log_at old shard)) × (new ≡ old)
 
 -- a message that was sent with this number became this
-pub record IsDelivered (table : gates.GateTable) (old new : shards.ShardTable) (home shard number : ℕ) (arrival : Arrival) : Type 0 where
+pub record IsDelivered (table : gates.GateTable) (old new : shards.ShardTable) (home shard number : ℕ)
+    (arrival : Arrival) : Type 0 where
   pub message : Message
   pub is_sent : sent_as number (channel_of shard (gates.log_at table home)) ≡ Some message
-  pub arrives : Arrives old new shard home number message arrival
+  pub arrives : ArrivesAtShard old new shard home number message arrival
 
 -- what `deliver` answers, and what it leaves
-abbrev pub Delivers : gates.GateTable → shards.ShardTable → shards.ShardTable → ℕ → ℕ → ℕ → StepAnswer → Type 0
-Delivers table old new home shard number answer.Ok = IsDelivered table old new home shard number Kept
-Delivers table old new home shard number answer.Repeat = IsDelivered table old new home shard number Repeat
-Delivers table old new home shard number answer.Unknown = (new ≡ old) × (sent_as number (channel_of shard (gates.log_at table home)) ≡ None)
-Delivers table old new home shard number _ = ⊥
+abbrev pub DeliversToShard : gates.GateTable → shards.ShardTable → shards.ShardTable → ℕ → ℕ → ℕ → StepAnswer → Type 0
+DeliversToShard table old new home shard number answer.Ok = IsDelivered table old new home shard number Kept
+DeliversToShard table old new home shard number answer.Repeat = IsDelivered table old new home shard number Repeat
+DeliversToShard table old new home shard number answer.Unknown =
+    (new ≡ old) × (sent_as number (channel_of shard (gates.log_at table home)) ≡ None)
+DeliversToShard table old new home shard number _ = ⊥
 
 -- Heads
 
 -- the head of a channel is applied, and each of its counts was the number of updates applied there
 pub record AppliesHead (old new : shards.ShardTable) (shard home : ℕ) : Type 0 where
   pub next : IsNext home (shards.log_at old shard)
-  pub adds : shards.AddsAt old new shard (Applied home (processed_count home (shards.log_at old shard) + 1))
+  pub adds : shards.AddsToShard old new shard (Applied home (processed_count home (shards.log_at old shard) + 1))
 
 -- a head waits for a vertex
 pub record HeadWaits (log : List ShardEntry) (home : ℕ) (vertex : Name) : Type 0 where
@@ -74,8 +81,8 @@ IsAnswerTo (fault.Waits vertex) given = given ≡ answer.Waits vertex
 IsAnswerTo fault.Memory given = ⊥
 
 -- what `apply` answers, and what it leaves
-abbrev pub Applies : shards.ShardTable → shards.ShardTable → ℕ → ℕ → StepAnswer → Type 0
-Applies old new shard home answer.Ok = AppliesHead old new shard home
-Applies old new shard home answer.Empty = (new ≡ old) × (head_of home (shards.log_at old shard) ≡ None)
-Applies old new shard home (answer.Waits vertex) = (new ≡ old) × HeadWaits (shards.log_at old shard) home vertex
-Applies old new shard home _ = ⊥
+abbrev pub AppliesAtShard : shards.ShardTable → shards.ShardTable → ℕ → ℕ → StepAnswer → Type 0
+AppliesAtShard old new shard home answer.Ok = AppliesHead old new shard home
+AppliesAtShard old new shard home answer.Empty = (new ≡ old) × (head_of home (shards.log_at old shard) ≡ None)
+AppliesAtShard old new shard home (answer.Waits vertex) = (new ≡ old) × HeadWaits (shards.log_at old shard) home vertex
+AppliesAtShard old new shard home _ = ⊥

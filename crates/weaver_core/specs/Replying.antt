@@ -24,7 +24,8 @@ abbrev pub can_have_reply : gates.GateTable → clients.ClientTable → Request 
 can_have_reply table was request r = clients.is_open_at was request.session r && not (is_flying table request.gate r)
 
 -- the request's gatekeeper and session are there, and it is one of its session's
-pub record IsThere (table : gates.GateTable) (was : clients.ClientTable) (r : ℕ) (request : Request) : Type 0 where
+pub record HasGateAndSession (table : gates.GateTable) (was : clients.ClientTable) (r : ℕ)
+    (request : Request) : Type 0 where
   pub gate : request.gate < length table.logs
   pub session : request.session < length was.logs
   pub among : Contains (clients.requests_at was request.session) r
@@ -34,19 +35,23 @@ abbrev pub reply_of_change : List StoreEntry → Option Stamp → ℕ → Reply
 reply_of_change store stamp r = record { request = r; stamp = stamp; state = state_of_tx (judgement_of r store) }
 
 -- the transaction's session has the reply
-pub record HasItsReply (table : gates.GateTable) (store : List StoreEntry) (was is : clients.ClientTable) (r : ℕ) (request : Request) : Type 0 where
+pub record HasItsReply (table : gates.GateTable) (store : List StoreEntry) (was is : clients.ClientTable) (r : ℕ)
+    (request : Request) : Type 0 where
   pub can_be : can_have_reply table was request r ≡ true
-  pub adds : clients.AddsAt was is request.session (Replied r)
-  pub values : is.values ≡ clients.with_reply_at was.values request.session (reply_of_change store (clients.session_at was request.session).last r)
+  pub adds : clients.AddsToSession was is request.session (Replied r)
+  pub values : is.values ≡ clients.with_reply_at was.values request.session
+      (reply_of_change store (clients.session_at was request.session).last r)
 
 -- what `reply` answers for a transaction, and what it leaves
-abbrev pub RepliesToOne : gates.GateTable → List StoreEntry → clients.ClientTable → clients.ClientTable → ℕ → Request → StepAnswer → Type 0
+abbrev pub RepliesToOne : gates.GateTable → List StoreEntry → clients.ClientTable → clients.ClientTable → ℕ → Request
+    → StepAnswer → Type 0
 RepliesToOne table store was is r request Ok = HasItsReply table store was is r request
 RepliesToOne table store was is r request Idle = (can_have_reply table was request r ≡ false) × (is ≡ was)
 RepliesToOne table store was is r request _ = ⊥
 
 -- the same, of the script's request
-pub record Replies (script : Script) (table : gates.GateTable) (store : List StoreEntry) (was is : clients.ClientTable) (r : ℕ) (answer : StepAnswer) : Type 0 where
+pub record Replies (script : Script) (table : gates.GateTable) (store : List StoreEntry) (was is : clients.ClientTable)
+    (r : ℕ) (answer : StepAnswer) : Type 0 where
   pub request : Request
   pub request_is : request_at script r ≡ Some request
   pub replies : RepliesToOne table store was is r request answer

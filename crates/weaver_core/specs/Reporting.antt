@@ -56,22 +56,27 @@ pub record IsReplyFound (replies : List Reply) (r : ℕ) (state : ReplyState) : 
   pub is_found : IsFoundAmong replies r found
   pub state_is : state ≡ state_replied found
 
--- the state of a request that has this stamp, if it was begun: a transaction's by the store's log, a program's by its reply
+-- the state of a request that has this stamp, if it was begun: a transaction's by the store's log, a program's by
+-- its reply
 abbrev pub IsStateFound : List StoreEntry → List Reply → ℕ → Option Stamp → Work → ReplyState → Type 0
 IsStateFound store replies r stamp (Change ops) state = state ≡ state_stamped store r stamp
 IsStateFound store replies r None (Look program) state = state ≡ Unbegun
 IsStateFound store replies r (Some stamp) (Look program) state = IsReplyFound replies r state
 
 -- the reply of a request, by the stamps, by the replies of its session, and by the store's log
-pub record IsRequestsReply (store : List StoreEntry) (values : List SessionValues) (stamps : List (Option Stamp)) (r : ℕ) (request : Request) (reply : Reply) : Type 0 where
+pub record IsRequestsReply (store : List StoreEntry) (values : List SessionValues) (stamps : List (Option Stamp))
+    (r : ℕ) (request : Request) (reply : Reply) : Type 0 where
   pub request_is : reply.request ≡ r
   pub stamp_is : reply.stamp ≡ slice_index_or stamps r None
-  pub state_is : IsStateFound store (values_at values request.session).replies r (slice_index_or stamps r None) request.work reply.state
+  pub state_is : IsStateFound store (values_at values request.session).replies r (slice_index_or stamps r None)
+      request.work reply.state
 
 -- one reply for each of these requests
-pub record AreRequestsReplies (store : List StoreEntry) (values : List SessionValues) (stamps : List (Option Stamp)) (requests : List Request) (count : ℕ) (replies : List Reply) : Type 0 where
+pub record AreRequestsReplies (store : List StoreEntry) (values : List SessionValues) (stamps : List (Option Stamp))
+    (requests : List Request) (count : ℕ) (replies : List Reply) : Type 0 where
   pub numbered : map (λ (reply : Reply). reply.request) replies ≡ range_with_len 0 count
-  pub each : (r : ℕ) (reply : Reply) → slice_get replies r ≡ Some reply → (request : Request) → slice_get requests r ≡ Some request
+  pub each : (r : ℕ) (reply : Reply) → slice_get replies r ≡ Some reply → (request : Request)
+      → slice_get requests r ≡ Some request
       → IsRequestsReply store values stamps r request reply
 
 -- The requests of events
@@ -121,8 +126,9 @@ asked_by store r = asked_in (judgement_of r store)
 -- the pair at a place of what was asked, if its earlier event's request is found
 abbrev pub pair_found : (Stamp → Option ℕ) → List Stamp → List Name → ℕ → ℕ → Option Pair
 pair_found request_of earlier asked later place =
-    option_and_then (λ (event : Stamp). option_and_then (λ (r : ℕ). option_map (λ (v : Name). record { vertex = v; earlier = r; later = later })
-    (slice_get asked place)) (request_of event)) (slice_get earlier place)
+    option_and_then (λ (event : Stamp). option_and_then (λ (r : ℕ).
+    option_map (λ (v : Name). record { vertex = v; earlier = r; later = later }) (slice_get asked place))
+    (request_of event)) (slice_get earlier place)
 
 -- the vertices at the places: that of the visit that is marked, or those of which the store asked
 abbrev pub asked_with : List StoreEntry → ℕ → Option Name → List Name
@@ -140,6 +146,8 @@ abbrev pub pairs_found : (Stamp → Option ℕ) → List StoreEntry → Option N
 pairs_found request_of store mark entry = pairs_before request_of store mark entry (request_of entry.later)
 
 -- the pairs of the oracle's log, in order, by the mark of each entry
-abbrev pub all_pairs_found : (Stamp → Option ℕ) → List StoreEntry → (SettledEntry → Option Name) → List OracleEntry → List Pair
+abbrev pub all_pairs_found : (Stamp → Option ℕ) → List StoreEntry → (SettledEntry → Option Name) → List OracleEntry
+    → List Pair
 all_pairs_found request_of store mark oracle =
-    flat_map (λ (entry : OracleEntry). pairs_found request_of store (mark (settled_entry entry)) (settled_entry entry)) oracle
+    flat_map (λ (entry : OracleEntry). pairs_found request_of store (mark (settled_entry entry)) (settled_entry entry))
+    oracle

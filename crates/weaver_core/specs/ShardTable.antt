@@ -14,7 +14,7 @@ abbrev pub log_at : ShardTable → ℕ → List ShardEntry
 log_at shards number = slice_index_or shards.logs number []
 
 -- a shard's log has one more entry, of author 0, and all else is as before
-pub record AddsAt (old new : ShardTable) (number : ℕ) (deed : ShardDeed) : Type 0 where
+pub record AddsToShard (old new : ShardTable) (number : ℕ) (deed : ShardDeed) : Type 0 where
   pub logs : new.logs ≡ slice_set old.logs number (log_at old number ++ record { author = 0; deed = deed } ∷ [])
   pub gates : new.gates ≡ old.gates
 
@@ -25,11 +25,11 @@ abbrev pub log_of : ShardView → List ShardEntry
 log_of shard = shard.log
 
 -- each shard has its place as its number, and is made for this number of gatekeepers
-pub record AreInOrder (gates : ℕ) (shards : List ShardView) : Type 0 where
+pub record AreShardsInOrder (gates : ℕ) (shards : List ShardView) : Type 0 where
   pub numbers : (number : ℕ) (shard : ShardView) → slice_get shards number ≡ Some shard → shard.number ≡ number
   pub each_gates : (number : ℕ) (shard : ShardView) → slice_get shards number ≡ Some shard → shard.gates ≡ gates
 
 -- the first shards, before anything arrived
-pub record AreFirst (count gates : ℕ) (shards : List ShardView) : Type 0 where
-  pub in_order : AreInOrder gates shards
+pub record AreFirstShards (count gates : ℕ) (shards : List ShardView) : Type 0 where
+  pub in_order : AreShardsInOrder gates shards
   pub logs : map log_of shards ≡ replicate count []

@@ -27,7 +27,7 @@ use Rattle.step_rules.specs.CoreState.{CoreState}
 use Rattle.step_rules.specs.IsCore.{IsCore}
 use Rattle.weaver_core.specs.Clients.{SessionValues, last_entry, log_of, requests_in, values_at, with_reply_at}
 use Rattle.weaver_core.specs.Cores.{MachinesView}
-use Rattle.weaver_core.specs.Finishing.{IsReplyOf}
+use Rattle.weaver_core.specs.Finishing.{IsReplyOfProgram}
 use Rattle.weaver_core.specs.GateTable as gates
 use Rattle.weaver_core.specs.ShardTable as shards
 use Rattle.weaver_core.specs.Walks.{HasReadAll, IsLookAt}
@@ -50,19 +50,23 @@ waiting_in log = option_and_then (λ (entry : SessionEntry). begun_by entry.deed
 -- the same, if it is a program
 abbrev pub program_waiting : Script → List SessionEntry → Option (ℕ × Stamp)
 program_waiting script log =
-    option_and_then (λ (begun : ℕ × Stamp). if is_some_and (λ (request : Request). is_look request.work) (request_at script begun.0) then Some begun else None)
+    option_and_then (λ (begun : ℕ × Stamp).
+    if is_some_and (λ (request : Request). is_look request.work) (request_at script begun.0)
+    then Some begun else None)
     (waiting_in log)
 
 -- a program is running exactly if one waits, and then it is that one, with its stamp; its walk is of the request's
 -- program, and has read the states that the visits of the request read and no others
-pub record IsRunningByLog (script : Script) (account : Account) (log : List SessionEntry) (running : Option Running) : Type 0 where
+pub record IsRunningByLog (script : Script) (account : Account) (log : List SessionEntry)
+    (running : Option Running) : Type 0 where
   pub waits : option_map (λ (one : Running). (one.request, one.stamp)) running ≡ program_waiting script log
   pub fed : ForSome running (λ (one : Running). (program : Program) → IsLookAt script one.request program
       → HasReadAll one.walk program (reads_of account one.request))
 
 -- there is one reply for each `Replied`, in their order, with the stamp and the state that the request has by the logs:
 -- a transaction's by the store's log, a program's by what it read
-pub record AreRepliesByLog (script : Script) (account : Account) (log : List SessionEntry) (replies : List Reply) : Type 0 where
+pub record AreRepliesByLog (script : Script) (account : Account) (log : List SessionEntry)
+    (replies : List Reply) : Type 0 where
   pub requests : map (λ (reply : Reply). reply.request) replies ≡ replied_in log
   pub each : (reply : Reply) → Contains replies reply → IsReplyInAccount script account reply
 
@@ -103,13 +107,14 @@ pub record IsShardFor (script : Script) (number : ℕ) (shard : ShardView) : Typ
   pub number_is : shard.number ≡ number
   pub gates_are : shard.gates ≡ script.gates
 
--- gatekeepers, shards and clients are as many as those with which a core of the script starts, in that order, with those
--- homes, numbers and requests
+-- gatekeepers, shards and clients are as many as those with which a core of the script starts, in that order, with
+-- those homes, numbers and requests
 pub record ArePartsFor (script : Script) (split : Split) : Type 0 where
   pub gate_count : length split.gates.items ≡ script.gates
   pub gates : (home : ℕ) (gate : GateView) → slice_get split.gates.items home ≡ Some gate → IsGateFor script home gate
   pub shard_count : length split.shards.items ≡ script.shards
-  pub shards : (number : ℕ) (shard : ShardView) → slice_get split.shards.items number ≡ Some shard → IsShardFor script number shard
+  pub shards : (number : ℕ) (shard : ShardView) → slice_get split.shards.items number ≡ Some shard
+      → IsShardFor script number shard
   pub requests : map requests_in split.clients.items ≡ map (requests_of_session script) (range_with_len 0 64)
 
 -- Parts that can be joined: they are those of their script, their logs are an account in which no transaction is in
@@ -118,20 +123,23 @@ pub record CanBeJoined (split : Split) : Type 0 where
   pub limits : IsWithinLimits split.script
   pub parts : ArePartsFor split.script split
   pub core : IsCore split.script (state_of split)
-  pub clients : (client : Client) → Contains split.clients.items client → IsClientByLog split.script (account_of split) client
+  pub clients : (client : Client) → Contains split.clients.items client
+      → IsClientByLog split.script (account_of split) client
   pub landed : NoneInFlight (account_of split)
 
 -- What a core keeps. No public contract cites what follows.
 
 -- a session's values are those of its log
-pub record AreValuesByLog (script : Script) (account : Account) (log : List SessionEntry) (values : SessionValues) : Type 0 where
+pub record AreValuesByLog (script : Script) (account : Account) (log : List SessionEntry)
+    (values : SessionValues) : Type 0 where
   pub running : IsRunningByLog script account log values.running
   pub replies : AreRepliesByLog script account log values.replies
 
 -- those of all sessions
 pub record AreAllByLog (script : Script) (account : Account) (values : List SessionValues) : Type 0 where
   pub many : length values ≡ 64
-  pub each : (session : ℕ) → session < 64 → AreValuesByLog script account (session_log account session) (values_at values session)
+  pub each : (session : ℕ) → session < 64
+      → AreValuesByLog script account (session_log account session) (values_at values session)
 
 -- a program was finished: it was running in its session, which has the reply with its answer
 pub record FinishesProgram (old new : MachinesView) (session r : ℕ) : Type 0 where
@@ -139,7 +147,7 @@ pub record FinishesProgram (old new : MachinesView) (session r : ℕ) : Type 0 w
   pub running_is : (values_at old.values session).running ≡ Some running
   pub request_is : running.request ≡ r
   pub reply : Reply
-  pub is_reply : IsReplyOf running reply
+  pub is_reply : IsReplyOfProgram running reply
   pub values : new.values ≡ with_reply_at old.values session reply
 
 -- what `reply` of a program leaves of the values of its session, by its answer
@@ -149,4 +157,5 @@ ValuesAfterFinish old new session r _ = new.values ≡ old.values
 
 -- of the script's request
 abbrev pub RepliesToProgram : Script → ℕ → MachinesView → MachinesView → StepAnswer → Type 0
-RepliesToProgram script r old new a = (request : Request) → request_at script r ≡ Some request → ValuesAfterFinish old new request.session r a
+RepliesToProgram script r old new a =
+    (request : Request) → request_at script r ≡ Some request → ValuesAfterFinish old new request.session r a

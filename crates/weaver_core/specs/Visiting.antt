@@ -21,7 +21,7 @@ use Rattle.weave_entries.specs.StoreRule.{entries_of_settling}
 use Rattle.step_rules.specs.Entries.{made_entry}
 use Rattle.path_program.specs.AnyPrograms.{HasRead, any_of, next_read}
 use Rattle.path_program.specs.declared.any.AnyProgram.{AnyProgram}
-use Rattle.weaver_core.specs.ShardTable.{AddsAt, ShardTable, log_at}
+use Rattle.weaver_core.specs.ShardTable.{AddsToShard, ShardTable, log_at}
 use Rattle.weaver_core.specs.declared.walks.Running.{Running}
 
 -- One vertex
@@ -38,21 +38,27 @@ updates_seen oracle log stamp v = seen_of (pairs_of_log oracle) stamp (update_st
 
 -- the oracle's entry for this: the last one seen is put before the program, unless that one precedes it already
 abbrev pub entries_asked : List OracleEntry → List ShardEntry → Stamp → Name → List OracleEntry
-entries_asked oracle log stamp v = entries_of_settling 0 (pairs_of_log oracle) (last_seen (updates_seen oracle log stamp v) (update_stamps v log)) stamp
+entries_asked oracle log stamp v =
+    entries_of_settling 0 (pairs_of_log oracle) (last_seen (updates_seen oracle log stamp v) (update_stamps v log))
+    stamp
 
 -- the state that it reads
 abbrev pub state_seen : List OracleEntry → List ShardEntry → Stamp → Name → State
 state_seen oracle log stamp v = state_of_updates (take (updates_seen oracle log stamp v) (updates_of v log))
 
 -- the vertex was read at its shard, in the logs of shard and oracle
-pub record IsVisited (old new : ShardTable) (oracle then_oracle : List OracleEntry) (shard r : ℕ) (stamp : Stamp) (v : Name) : Type 0 where
+pub record IsReadAtShard (old new : ShardTable) (oracle then_oracle : List OracleEntry) (shard r : ℕ) (stamp : Stamp)
+    (v : Name) : Type 0 where
   pub ready : first_unready old.gates stamp (log_at old shard) ≡ None
-  pub adds : AddsAt old new shard (Visited r stamp v (updates_seen oracle (log_at old shard) stamp v) (made_entry (entries_asked oracle (log_at old shard) stamp v)))
+  pub adds : AddsToShard old new shard
+      (Visited r stamp v (updates_seen oracle (log_at old shard) stamp v)
+      (made_entry (entries_asked oracle (log_at old shard) stamp v)))
   pub oracle_is : then_oracle ≡ oracle ++ entries_asked oracle (log_at old shard) stamp v
 
 -- and this is the state that the program read
-pub record Reads (old new : ShardTable) (oracle then_oracle : List OracleEntry) (shard r : ℕ) (stamp : Stamp) (v : Name) (state : State) : Type 0 where
-  pub visited : IsVisited old new oracle then_oracle shard r stamp v
+pub record Reads (old new : ShardTable) (oracle then_oracle : List OracleEntry) (shard r : ℕ) (stamp : Stamp) (v : Name)
+    (state : State) : Type 0 where
+  pub visited : IsReadAtShard old new oracle then_oracle shard r stamp v
   pub state_is : state ≡ state_seen oracle (log_at old shard) stamp v
 
 -- The walk
@@ -83,10 +89,11 @@ pub record HasReadMore (old new : Running) (v : Name) (state : State) : Type 0 w
 -- The step
 
 -- the program visited its next vertex
-pub record VisitsNext (shards : ℕ) (old new : ShardTable) (oracle then_oracle : List OracleEntry) (was is : Running) : Type 0 where
+pub record VisitsNext (shards : ℕ) (old new : ShardTable) (oracle then_oracle : List OracleEntry)
+    (was is : Running) : Type 0 where
   pub vertex : Name
   pub next_is : next_read was.walk ≡ Some vertex
-  pub visited : IsVisited old new oracle then_oracle (shard_of vertex shards) was.request was.stamp vertex
+  pub visited : IsReadAtShard old new oracle then_oracle (shard_of vertex shards) was.request was.stamp vertex
   pub read : HasReadMore was is vertex (state_seen oracle (log_at old (shard_of vertex shards)) was.stamp vertex)
 
 -- the program's next vertex is not ready
@@ -103,8 +110,12 @@ pub record AreSameLogs (old new : ShardTable) (oracle then_oracle : List OracleE
   pub program : IsSameProgram was is
 
 -- what `visit` answers of a running program, and what it leaves
-abbrev pub Visits : ℕ → ShardTable → ShardTable → List OracleEntry → List OracleEntry → Running → Running → StepAnswer → Type 0
-Visits shards old new oracle then_oracle was is answer.Ok = VisitsNext shards old new oracle then_oracle was is
-Visits shards old new oracle then_oracle was is answer.Idle = AreSameLogs old new oracle then_oracle was is × (next_read was.walk ≡ None)
-Visits shards old new oracle then_oracle was is (answer.Again shard gate) = AreSameLogs old new oracle then_oracle was is × NextNotReady shards old was shard gate
-Visits shards old new oracle then_oracle was is _ = ⊥
+abbrev pub VisitsForProgram : ℕ → ShardTable → ShardTable → List OracleEntry → List OracleEntry → Running → Running
+    → StepAnswer → Type 0
+VisitsForProgram shards old new oracle then_oracle was is answer.Ok =
+    VisitsNext shards old new oracle then_oracle was is
+VisitsForProgram shards old new oracle then_oracle was is answer.Idle =
+    AreSameLogs old new oracle then_oracle was is × (next_read was.walk ≡ None)
+VisitsForProgram shards old new oracle then_oracle was is (answer.Again shard gate) =
+    AreSameLogs old new oracle then_oracle was is × NextNotReady shards old was shard gate
+VisitsForProgram shards old new oracle then_oracle was is _ = ⊥

@@ -30,10 +30,12 @@ pub record HasReadAll (walk : AnyProgram) (program : Program) (all : List (Name 
   pub same : AreSameReads reads all
 
 -- the program was begun, is not finished, and has read what the shards' logs say
-pub record IsRunningAs (account : Account) (r : ℕ) (request : Request) (program : Program) (running : Running) : Type 0 where
+pub record IsRunningAs (account : Account) (r : ℕ) (request : Request) (program : Program)
+    (running : Running) : Type 0 where
   pub request_is : running.request ≡ r
   pub author : ℕ
-  pub begun : program_begun r (gate_log account request.gate) ≡ Some (record { author = author; request = r; stamp = running.stamp })
+  pub begun : program_begun r (gate_log account request.gate)
+      ≡ Some (record { author = author; request = r; stamp = running.stamp })
   pub stamped : stamp_of account r ≡ Some running.stamp
   pub runs : is_ended account r ≡ false
   pub walk : HasReadAll running.walk program (reads_of account r)

@@ -13,7 +13,8 @@ use program_defs::{Request, Script};
 use report_rules::StepAnswer;
 use std::alloc::{AllocError, Global};
 
-/// The request of the script is stamped at its gatekeeper, if it is its session's next one. The one error is out of memory.
+/// The request of the script is stamped at its gatekeeper, if it is its session's next one. The one error is out of
+/// memory.
 pub(crate) fn begin_in(
     alloc: Global,
     gates: &mut Gates,
@@ -55,7 +56,8 @@ fn begin_one(
     }
 }
 
-// The request, which is its session's next one, is stamped at its gatekeeper. The room for the session's entry is taken first.
+// The request, which is its session's next one, is stamped at its gatekeeper. The room for the session's entry is taken
+// first.
 fn begin_next(
     alloc: Global,
     gates: &mut Gates,

@@ -26,7 +26,8 @@ pub enum Standing {
     Next,
 }
 
-/// A session's client: what it has to begin, what it has begun, and what it was answered. All of it says what the log says, if it is one of a core.
+/// A session's client: what it has to begin, what it has begun, and what it was answered. All of it says what the log
+/// says, if it is one of a core.
 #[derive(Drop)]
 pub struct Client {
     /// The session's requests, at the end of the log.
@@ -135,7 +136,8 @@ impl Client {
         });
     }
 
-    /// The last begun request has its reply, in the session of this number, and no program is running. It takes no memory.
+    /// The last begun request has its reply, in the session of this number, and no program is running. It takes no
+    /// memory.
     pub fn replied(&mut self, number: u32, reply: Reply)
         requires client { IsClientOf number self.old.session self.old.log.items }
         requires room { 1 ≤ spare_of self.old }

@@ -4,7 +4,7 @@ ghost use Rattle.std.specs.List.{range_with_len};
 ghost use Rattle.weave_account.specs.Sessions.{requests_of_session};
 ghost use Rattle.weave_entries.specs.SessionReplay.{FitsSession, RepliesToLast};
 ghost use Rattle.weave_entries.specs.declared.session_log.SessionDeed.TheVariants as deed;
-ghost use Rattle.weaver_core.specs.Clients.{AddsAt, AreFirst, AreNumbered, AreSameClients, HaveRisingReplies, IsFirstUnanswered, IsInTurn, is_open_at, least_unanswered, lesser, log_of, no_values, requests_at, requests_in, session_at, standing_at, values_at, values_of, with_reply_at, with_running};
+ghost use Rattle.weaver_core.specs.Clients.{AddsToSession, AreFirstSessions, AreNumbered, AreSameClients, HaveRisingReplies, IsFirstUnanswered, IsInTurn, is_open_at, least_unanswered, lesser, log_of, no_values, requests_at, requests_in, session_at, standing_at, values_at, values_of, with_reply_at, with_running};
 ghost use Rattle.weaver_core.specs.Finishing.{IsOutcomeOf};
 ghost use Rattle.weaver_core.specs.Reporting.{IsFoundAmong};
 ghost use Rattle.weaver_core.specs.Noting.{all_noted, noted, noted_all, noted_by};
@@ -125,7 +125,7 @@ impl Clients {
         requires there { session < length self.old.logs }
         requires room { 1 ≤ slice_index_or self.old.spares session 0 }
         requires turn { FitsSession (session_at self.old session) (deed.Begun request stamp) }
-        ensures begun { AddsAt self.old self.new session (deed.Begun request stamp) }
+        ensures begun { AddsToSession self.old self.new session (deed.Begun request stamp) }
         ensures values { self.new.values ≡ self.old.values }
     {
         let client = &mut self.clients[session as usize];
@@ -137,7 +137,7 @@ impl Clients {
         requires there { session < length self.old.logs }
         requires room { 1 ≤ slice_index_or self.old.spares session 0 }
         requires turn { FitsSession (session_at self.old session) (deed.Replied reply.request) }
-        ensures replied { AddsAt self.old self.new session (deed.Replied reply.request) }
+        ensures replied { AddsToSession self.old self.new session (deed.Replied reply.request) }
         ensures values { self.new.values ≡ with_reply_at self.old.values session reply }
     {
         let client = &mut self.clients[session as usize];
@@ -172,7 +172,8 @@ impl Clients {
         self.clients[session as usize].reply(request)
     }
 
-    /// The answer of the program that is running in a session, if it has no next vertex. The one error is out of memory.
+    /// The answer of the program that is running in a session, if it has no next vertex. The one error is out of
+    /// memory.
     pub(crate) fn outcome(&self, alloc: Global, session: u32) -> Result<Option<Reply>, AllocError>
         requires { session < length self.now.logs }
         ensures { IfOk result (IsOutcomeOf (values_at self.now.values session).running) }
@@ -195,7 +196,7 @@ impl Clients {
 // The first sessions of a script, before their first requests.
 fn first_clients(alloc: Global, script: &Script) -> Result<Vec<Client>, AllocError>
     requires { length script.now.requests ≤ 10000 }
-    ensures { IfOk result (λ clients. AreFirst script.now 64 clients.items) }
+    ensures { IfOk result (λ clients. AreFirstSessions script.now 64 clients.items) }
 {
     requests_of_a_session_rise();
     let mut clients = Vec::new(alloc);

@@ -6,7 +6,7 @@ ghost use Rattle.weave_entries.specs.SessionReplay.{RepliesToLast};
 ghost use Rattle.path_program.specs.AnyPrograms.{next_read};
 ghost use Rattle.report_rules.specs.declared.report.StepAnswer.TheVariants as answer;
 ghost use Rattle.weaver_core.specs.Clients.{session_at};
-ghost use Rattle.weaver_core.specs.Finishing.{AreSameParts, CanBeFinished, Finishes, IsFinishedWith, IsOutcomeOf, IsReplyIfOver, last_author};
+ghost use Rattle.weaver_core.specs.Finishing.{AreSameParts, CanBeFinished, FinishesInSession, IsFinishedWith, IsOutcomeOf, IsReplyIfOver, last_author};
 ghost use Rattle.weaver_core.specs.GateTable.{log_at};
 ghost use Rattle.weaver_core.specs.Visiting.{Asks};
 
@@ -18,7 +18,8 @@ use program_defs::Request;
 use report_rules::{Reply, ReplyState, StepAnswer};
 use std::alloc::{AllocError, Global};
 
-/// The program is finished, if its session waits for its reply and it has read all that it visits, and the session has the reply. The one error is out of memory.
+/// The program is finished, if its session waits for its reply and it has read all that it visits, and the session has
+/// the reply. The one error is out of memory.
 pub(crate) fn finish_in(
     alloc: Global,
     gates: &mut Gates,
@@ -27,7 +28,7 @@ pub(crate) fn finish_in(
     asked: &Request,
 ) -> Result<StepAnswer, AllocError>
     requires { CanBeFinished gates.old clients.old asked.now.gate asked.now.session request }
-    ensures finishes { IfOk result (Finishes gates.old gates.new clients.old clients.new
+    ensures finishes { IfOk result (FinishesInSession gates.old gates.new clients.old clients.new
         asked.now.gate asked.now.session request) }
     ensures refused { OnErr result (AreSameParts gates.old gates.new clients.old clients.new) }
 {
@@ -40,7 +41,8 @@ pub(crate) fn finish_in(
     finish_with(alloc, gates, clients, request, asked, reply)
 }
 
-// The program is finished, in the name of the author of its begin. The room for the session's entry and reply is taken first.
+// The program is finished, in the name of the author of its begin. The room for the session's entry and reply is taken
+// first.
 fn finish_with(
     alloc: Global,
     gates: &mut Gates,

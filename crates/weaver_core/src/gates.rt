@@ -14,7 +14,7 @@ ghost use Rattle.gatekeeper.specs.Gates.{Adds, SendsFlight};
 ghost use Rattle.gatekeeper.specs.Opened.{as_begun};
 ghost use Rattle.step_rules.specs.Entries.{begin_deed};
 ghost use Rattle.weaver_core.specs.Finishing.{begins_program, last_author};
-ghost use Rattle.weaver_core.specs.GateTable.{AddsAt, AreFirst, AreInOrder, IsSameGate, lands, log_at, log_of};
+ghost use Rattle.weaver_core.specs.GateTable.{AddsToGate, AreFirstGates, AreGatesInOrder, IsSameGate, lands, log_at, log_of};
 ghost use Rattle.weaver_core.specs.Messages.{nop_deed};
 
 use gatekeeper::{Flight, Gate, GateFault};
@@ -34,7 +34,7 @@ pub(crate) struct Gates {
 
 impl Model for Gates {
     ghost use Rattle.std.specs.Prelude.{length, map};
-    ghost use Rattle.weaver_core.specs.GateTable.{GateTable, AreInOrder, log_of};
+    ghost use Rattle.weaver_core.specs.GateTable.{GateTable, AreGatesInOrder, log_of};
 
     ghost Value = { GateTable };
 
@@ -43,7 +43,7 @@ impl Model for Gates {
       logs = map log_of g.gates.items;
     } };
 
-    ghost invariant = { λ g. AreInOrder (length g.gates.items) g.shards g.gates.items };
+    ghost invariant = { λ g. AreGatesInOrder (length g.gates.items) g.shards g.gates.items };
 }
 
 impl Gates {
@@ -63,7 +63,7 @@ impl Gates {
 
     /// These gatekeepers, which are made for this number of shards and are in order. It takes no memory.
     pub(crate) fn of(shards: u32, gates: Vec<Gate>) -> Gates
-        requires { AreInOrder (length gates.items) shards gates.items }
+        requires { AreGatesInOrder (length gates.items) shards gates.items }
         ensures { result ≡ record { shards = shards; logs = map log_of gates.items } }
     {
         Gates { shards, gates }
@@ -71,7 +71,7 @@ impl Gates {
 
     /// The gatekeepers, in order. It takes no memory.
     pub(crate) fn into_gates(self) -> Vec<Gate>
-        ensures order { AreInOrder (length result.items) self.shards result.items }
+        ensures order { AreGatesInOrder (length result.items) self.shards result.items }
         ensures logs { map log_of result.items ≡ self.logs }
     {
         self.gates
@@ -115,7 +115,7 @@ impl Gates {
         ensures after { IfOk result (λ stamp. ForSome last (λ heard.
             IsTrue (counts_no_more gate (clock_of gate (log_at self.old gate)) heard.clock)
             → IsTrue (stamp_before heard stamp))) }
-        ensures entry { IfOk result (λ stamp. AddsAt self.old self.new gate 0 (begin_deed request stamp work.now)) }
+        ensures entry { IfOk result (λ stamp. AddsToGate self.old self.new gate 0 (begin_deed request stamp work.now)) }
         ensures busy { IsRefusedWhere GateFault.Busy
             (is_change work.now && is_some (flight_of (log_at self.old gate))) result }
         ensures refused { OnErr result (self.new ≡ self.old) }
@@ -124,7 +124,8 @@ impl Gates {
         stamp_at(gate, alloc, request, work, last)
     }
 
-    /// Sends the messages of the transaction in flight, by its verdict, and ends the flight. The author is that of its begin.
+    /// Sends the messages of the transaction in flight, by its verdict, and ends the flight. The author is that of its
+    /// begin.
     pub(crate) fn send(
         &mut self,
         alloc: Global,
@@ -138,7 +139,7 @@ impl Gates {
         requires author { ForSome (flight_of (log_at self.old gate)) (λ flight. flight.author ≡ author) }
         requires counts { IsCountsOf ops.now verdict.now }
         ensures entry { OnOk result ((flight : Begun) → flight_of (log_at self.old gate) ≡ Some flight
-            → AddsAt self.old self.new gate author (deed.Sent flight.request
+            → AddsToGate self.old self.new gate author (deed.Sent flight.request
             (messages_of self.old.shards (log_at self.old gate) flight ops.now verdict.now))) }
         ensures refused { OnErr result (self.new ≡ self.old) }
     {
@@ -150,7 +151,7 @@ impl Gates {
     pub(crate) fn nop(&mut self, alloc: Global, gate: u32, shard: u32) -> Result<(), GateFault>
         requires there { gate < length self.old.logs }
         requires shard { shard < self.old.shards }
-        ensures entry { OnOk result (AddsAt self.old self.new gate 0 (nop_deed gate shard (log_at self.old gate))) }
+        ensures entry { OnOk result (AddsToGate self.old self.new gate 0 (nop_deed gate shard (log_at self.old gate))) }
         ensures busy { IsRefusedWhere GateFault.Busy (is_some (flight_of (log_at self.old gate))) result }
         ensures refused { OnErr result (self.new ≡ self.old) }
     {
@@ -184,7 +185,7 @@ impl Gates {
     ) -> Result<(), AllocError>
         requires there { gate < length self.old.logs }
         requires runs { IsTrue (list_any (is_begun author request) (running_of (log_at self.old gate))) }
-        ensures entry { OnOk result (AddsAt self.old self.new gate author (deed.Finished request)) }
+        ensures entry { OnOk result (AddsToGate self.old self.new gate author (deed.Finished request)) }
         ensures refused { OnErr result (self.new ≡ self.old) }
     {
         let gate = &mut self.gates[gate as usize];
@@ -194,7 +195,7 @@ impl Gates {
     /// Hears a clock.
     pub(crate) fn hear(&mut self, alloc: Global, gate: u32, clock: &Clock) -> Result<(), AllocError>
         requires { gate < length self.old.logs }
-        ensures heard { OnOk result (AddsAt self.old self.new gate 0 (deed.Heard clock.now)) }
+        ensures heard { OnOk result (AddsToGate self.old self.new gate 0 (deed.Heard clock.now)) }
         ensures refused { OnErr result (self.new ≡ self.old) }
     {
         let gate = &mut self.gates[gate as usize];
@@ -204,7 +205,7 @@ impl Gates {
     /// Raises the epoch.
     pub(crate) fn raise(&mut self, alloc: Global, gate: u32, epoch: u64) -> Result<(), GateFault>
         requires { gate < length self.old.logs }
-        ensures raised { OnOk result (AddsAt self.old self.new gate 0 (deed.Raised epoch)) }
+        ensures raised { OnOk result (AddsToGate self.old self.new gate 0 (deed.Raised epoch)) }
         ensures old { IsRefusedWhere GateFault.Old
             (not (nat_lt (clock_of gate (log_at self.old gate)).epoch epoch)) result }
         ensures refused { OnErr result (self.new ≡ self.old) }
@@ -219,7 +220,7 @@ fn first_gates(alloc: Global, gates: u32, shards: u32) -> Result<Vec<Gate>, Allo
     requires gates { gates ≤ 8 }
     requires one_shard { 1 ≤ shards }
     requires shards { shards ≤ 16 }
-    ensures { IfOk result (λ made. AreFirst gates gates shards made.items) }
+    ensures { IfOk result (λ made. AreFirstGates gates gates shards made.items) }
 {
     let mut made = Vec::new(alloc);
     for home in 0..gates {

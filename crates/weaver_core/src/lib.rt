@@ -1,6 +1,8 @@
 //! The core of steps: the machines of one script, run step by step.
 //!
-//! Contracts see a `Core` as its script, its logs and its notices. Its logs are an account. A step answers what the definition of steps answers, and leaves the logs that it leaves; the report is that of the account. A core splits into its parts, and parts that fit together join to a core (`specs/Splitting.antt`).
+//! Contracts see a `Core` as its script, its logs and its notices. Its logs are an account. A step answers what the
+//! definition of steps answers, and leaves the logs that it leaves; the report is that of the account. A core splits
+//! into its parts, and parts that fit together join to a core (`specs/Splitting.antt`).
 #![tactic(auto)]
 
 mod beginning;

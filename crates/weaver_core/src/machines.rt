@@ -11,7 +11,7 @@ ghost use Rattle.weave_entries.specs.declared.oracle_log.OracleEntry.{OracleEntr
 ghost use Rattle.weave_account.specs.Account.{session_log, shard_log};
 ghost use Rattle.weave_account.specs.Report.{MatchesAccount};
 ghost use Rattle.step_rules.specs.CoreState.{start_state};
-ghost use Rattle.weaver_core.specs.Cores.{AreOf, MayDo, MachinesDo, RepliesToChange, machines_of};
+ghost use Rattle.weaver_core.specs.Cores.{AreOf, CanBeGiven, MachinesDo, RepliesToChange, machines_of};
 ghost use Rattle.weaver_core.specs.Clients.{AreNumbered, HaveRisingReplies, is_open_in, no_values, values_at, values_of, with_running};
 ghost use Rattle.step_rules.specs.Requests.{has_reply, last_begun};
 ghost use Rattle.weaver_core.specs.Reporting.{AreOfHomes, AreRequestsReplies, all_pairs_found, request_with};
@@ -151,7 +151,7 @@ impl Machines {
         script: &Script,
         step: &Step,
     ) -> Result<StepAnswer, AllocError>
-        requires { MayDo script.now self.old step.now }
+        requires { CanBeGiven script.now self.old step.now }
         ensures done { IfOk result (λ answer. MachinesDo script.now step.now self.old self.new answer) }
         ensures refused { OnErr result (self.new ≡ self.old) }
         ensures values { IsOtherStep step.now → self.new.values ≡ self.old.values }
@@ -183,7 +183,7 @@ impl Machines {
         script: &Script,
         request: u32,
     ) -> Result<StepAnswer, AllocError>
-        requires { MayDo script.now self.old (step.Begin request) }
+        requires { CanBeGiven script.now self.old (step.Begin request) }
         ensures done { IfOk result (λ answer. MachinesDo script.now (step.Begin request) self.old self.new answer) }
         ensures refused { OnErr result (self.new ≡ self.old) }
         ensures values { self.new.values ≡ self.old.values }
@@ -196,7 +196,7 @@ impl Machines {
 
     // `judge G`: the store judges the flight, and the oracle is asked in the same step.
     fn judge(&mut self, alloc: Global, script: &Script, gate: u32) -> Result<StepAnswer, AllocError>
-        requires { MayDo script.now self.old (step.Judge gate) }
+        requires { CanBeGiven script.now self.old (step.Judge gate) }
         ensures done { IfOk result (λ answer. MachinesDo script.now (step.Judge gate) self.old self.new answer) }
         ensures refused { OnErr result (self.new ≡ self.old) }
         ensures values { self.new.values ≡ self.old.values }
@@ -221,7 +221,7 @@ impl Machines {
 
     // `send G`: the messages of the flight go out, by its verdict, and the flight ends.
     fn send(&mut self, alloc: Global, script: &Script, gate: u32) -> Result<StepAnswer, AllocError>
-        requires { MayDo script.now self.old (step.Send gate) }
+        requires { CanBeGiven script.now self.old (step.Send gate) }
         ensures done { IfOk result (λ answer. MachinesDo script.now (step.Send gate) self.old self.new answer) }
         ensures refused { OnErr result (self.new ≡ self.old) }
         ensures values { self.new.values ≡ self.old.values }
@@ -233,7 +233,7 @@ impl Machines {
 
     // `say G`: the clock is the next notice.
     fn say(&mut self, script: &Script, gate: u32) -> Result<StepAnswer, AllocError>
-        requires { MayDo script.now self.old (step.Say gate) }
+        requires { CanBeGiven script.now self.old (step.Say gate) }
         ensures done { IfOk result (λ answer. MachinesDo script.now (step.Say gate) self.old self.new answer) }
         ensures refused { OnErr result (self.new ≡ self.old) }
         ensures values { self.new.values ≡ self.old.values }
@@ -253,7 +253,7 @@ impl Machines {
         gate: u32,
         notice: u64,
     ) -> Result<StepAnswer, AllocError>
-        requires { MayDo script.now self.old (step.Hear gate notice) }
+        requires { CanBeGiven script.now self.old (step.Hear gate notice) }
         ensures done { IfOk result (λ answer. MachinesDo script.now (step.Hear gate notice) self.old self.new answer) }
         ensures refused { OnErr result (self.new ≡ self.old) }
         ensures values { self.new.values ≡ self.old.values }
@@ -275,7 +275,7 @@ impl Machines {
         script: &Script,
         request: u32,
     ) -> Result<StepAnswer, AllocError>
-        requires { MayDo script.now self.old (step.Reply request) }
+        requires { CanBeGiven script.now self.old (step.Reply request) }
         ensures done { IfOk result (λ answer. MachinesDo script.now (step.Reply request) self.old self.new answer) }
         ensures refused { OnErr result (self.new ≡ self.old) }
         ensures values { IfOk result (RepliesToChange script.now request self.old self.new) }
@@ -300,7 +300,7 @@ impl Machines {
         gate: u32,
         epoch: u64,
     ) -> Result<StepAnswer, AllocError>
-        requires { MayDo script.now self.old (step.Epoch gate epoch) }
+        requires { CanBeGiven script.now self.old (step.Epoch gate epoch) }
         ensures done { IfOk result (λ answer. MachinesDo script.now (step.Epoch gate epoch) self.old self.new answer) }
         ensures refused { OnErr result (self.new ≡ self.old) }
         ensures values { self.new.values ≡ self.old.values }
@@ -317,7 +317,7 @@ impl Machines {
         gate: u32,
         shard: u32,
     ) -> Result<StepAnswer, AllocError>
-        requires { MayDo script.now self.old (step.Nop gate shard) }
+        requires { CanBeGiven script.now self.old (step.Nop gate shard) }
         ensures done { IfOk result (λ answer. MachinesDo script.now (step.Nop gate shard) self.old self.new answer) }
         ensures refused { OnErr result (self.new ≡ self.old) }
         ensures values { self.new.values ≡ self.old.values }
@@ -335,7 +335,7 @@ impl Machines {
         shard: u32,
         number: u64,
     ) -> Result<StepAnswer, AllocError>
-        requires { MayDo script.now self.old (step.Deliver gate shard number) }
+        requires { CanBeGiven script.now self.old (step.Deliver gate shard number) }
         ensures done { IfOk result (λ answer.
             MachinesDo script.now (step.Deliver gate shard number) self.old self.new answer) }
         ensures refused { OnErr result (self.new ≡ self.old) }
@@ -356,7 +356,7 @@ impl Machines {
         shard: u32,
         gate: u32,
     ) -> Result<StepAnswer, AllocError>
-        requires { MayDo script.now self.old (step.Apply shard gate) }
+        requires { CanBeGiven script.now self.old (step.Apply shard gate) }
         ensures done { IfOk result (λ answer. MachinesDo script.now (step.Apply shard gate) self.old self.new answer) }
         ensures refused { OnErr result (self.new ≡ self.old) }
         ensures values { self.new.values ≡ self.old.values }
@@ -368,7 +368,7 @@ impl Machines {
 
     // `collect S`: the shard drops the versions that are older than its bound.
     fn collect(&mut self, script: &Script, shard: u32) -> Result<StepAnswer, AllocError>
-        requires { MayDo script.now self.old (step.Collect shard) }
+        requires { CanBeGiven script.now self.old (step.Collect shard) }
         ensures done { IfOk result (λ answer. MachinesDo script.now (step.Collect shard) self.old self.new answer) }
         ensures refused { OnErr result (self.new ≡ self.old) }
         ensures values { self.new.values ≡ self.old.values }

@@ -12,10 +12,12 @@ use std::collections::HashMap;
 use weave_data::Name;
 use weave_entries::{Counted, ShardDeed, ShardEntry, Verdict};
 
-/// The visits that asked the oracle: each with its request, its vertex, and how many updates of the vertex come before the last one that it saw.
+/// The visits that asked the oracle: each with its request, its vertex, and how many updates of the vertex come before
+/// the last one that it saw.
 pub(crate) type VisitTable = HashMap<(u32, Name, u64), ()>;
 
-/// The visits of shards that asked the oracle. It looks once at each entry of their logs. The one error is out of memory.
+/// The visits of shards that asked the oracle. It looks once at each entry of their logs. The one error is out of
+/// memory.
 pub(crate) fn visits_in(alloc: Global, shards: &[Shard]) -> Result<VisitTable, AllocError>
     ensures { IfOk result (λ visits. AddsVisits [] visits.entries (all_visits (map log_of shards.now))) }
 {
@@ -70,7 +72,8 @@ fn note_visit(
     Ok(())
 }
 
-/// The first of these vertices, each with a number of commits that name it before, of which the request visited it and saw last the commit after these, with the oracle asked.
+/// The first of these vertices, each with a number of commits that name it before, of which the request visited it and
+/// saw last the commit after these, with the oracle asked.
 pub(crate) fn first_seen(visits: &VisitTable, request: u32, counts: &[Counted]) -> Option<Name>
     ensures { result ≡ first_seen (is_in visits.now.entries) request counts.now }
 {
@@ -82,7 +85,8 @@ pub(crate) fn first_seen(visits: &VisitTable, request: u32, counts: &[Counted]) 
     None
 }
 
-/// The vertices that the commit of a request names, each with the number of commits before that name it; none if it did not commit.
+/// The vertices that the commit of a request names, each with the number of commits before that name it; none if it did
+/// not commit.
 pub(crate) fn counts_of(store: &Store, request: u32) -> &[Counted]
     ensures { result.now ≡ counts_by store.now request }
 {

@@ -7,7 +7,7 @@ ghost use Rattle.weave_entries.specs.ShardReplay.{head_of, waits_at};
 ghost use Rattle.weave_entries.specs.ShardRules.{IsTakable, PassesAt};
 ghost use Rattle.weaver_core.specs.GateTable as gate_table;
 ghost use Rattle.weaver_core.specs.ShardTable as shard_table;
-ghost use Rattle.weaver_core.specs.Messages.{Applies, Delivers, IsAnswerTo, SendsNop};
+ghost use Rattle.weaver_core.specs.Messages.{AppliesAtShard, DeliversToShard, IsAnswerTo, SendsEmptyMessage};
 
 use crate::gates::Gates;
 use crate::shards::Shards;
@@ -27,7 +27,7 @@ pub(crate) fn nop_in(
 ) -> Result<StepAnswer, AllocError>
     requires there { gate < length gates.old.logs }
     requires shard { shard < gates.old.shards }
-    ensures sends { IfOk result (SendsNop gates.old gates.new gate shard) }
+    ensures sends { IfOk result (SendsEmptyMessage gates.old gates.new gate shard) }
     ensures refused { OnErr result (gates.new ≡ gates.old) }
 {
     match gates.nop(alloc, gate, shard) {
@@ -37,7 +37,8 @@ pub(crate) fn nop_in(
     }
 }
 
-/// The message of this number arrives as it was sent, if it was sent. It is copied once. The one error is out of memory.
+/// The message of this number arrives as it was sent, if it was sent. It is copied once. The one error is out of
+/// memory.
 pub(crate) fn deliver_in(
     alloc: Global,
     gates: &Gates,
@@ -51,7 +52,7 @@ pub(crate) fn deliver_in(
     requires gate { gate < shards.old.gates }
     requires number { 1 ≤ number }
     requires takable { ForSome (sent_as number (channel_of shard (gate_table.log_at gates.now gate))) IsTakable }
-    ensures delivers { IfOk result (Delivers gates.now shards.old shards.new gate shard number) }
+    ensures delivers { IfOk result (DeliversToShard gates.now shards.old shards.new gate shard number) }
     ensures refused { OnErr result (shards.new ≡ shards.old) }
 {
     let Some(message) = gates.fetch(gate, shard, number) else {
@@ -65,7 +66,8 @@ pub(crate) fn deliver_in(
     }
 }
 
-/// The head of the gatekeeper's channel is processed, if it has arrived and does not wait. The one error is out of memory.
+/// The head of the gatekeeper's channel is processed, if it has arrived and does not wait. The one error is out of
+/// memory.
 pub(crate) fn apply_in(
     alloc: Global,
     shards: &mut Shards,
@@ -77,7 +79,7 @@ pub(crate) fn apply_in(
     requires passes { ForSome (head_of gate (shard_table.log_at shards.old shard)) (λ head.
         waits_at head (shard_table.log_at shards.old shard) ≡ None
         → PassesAt (shard_table.log_at shards.old shard) head) }
-    ensures applies { IfOk result (Applies shards.old shards.new shard gate) }
+    ensures applies { IfOk result (AppliesAtShard shards.old shards.new shard gate) }
     ensures refused { OnErr result (shards.new ≡ shards.old) }
 {
     match shards.apply(alloc, shard, gate) {

@@ -24,7 +24,8 @@ use weave_entries::{OracleDeed, OracleEntry, StoreDeed, StoreEntry};
 // The request of each event, by the event's home, epoch and count.
 type Requests = HashMap<(u32, u64, u64), u32>;
 
-/// The pairs of the oracle, in the order in which they were added. It looks once at each entry of the logs of shards and oracle. The one error is out of memory.
+/// The pairs of the oracle, in the order in which they were added. It looks once at each entry of the logs of shards
+/// and oracle. The one error is out of memory.
 pub(crate) fn pairs_of(
     alloc: Global,
     stamps: &[Option<Stamp>],

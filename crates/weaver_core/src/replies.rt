@@ -28,7 +28,8 @@ pub(crate) fn replies_of(
     requires sessions { (r : ℕ) (request : Request) → slice_get requests.now r ≡ Some request
         → request.session < length clients.now.logs }
     requires rising { HaveRisingReplies clients.now.values }
-    ensures { IfOk result (AreRequestsReplies store.now clients.now.values stamps.now requests.now (length requests.now)) }
+    ensures { IfOk result
+        (AreRequestsReplies store.now clients.now.values stamps.now requests.now (length requests.now)) }
 {
     let mut replies = Items::from_vec(Vec::with_capacity(alloc, requests.len())?);
     for request in 0..requests.len() as u32 {

@@ -3,7 +3,7 @@ ghost use Rattle.std.specs.Prelude.{◌≡◌, ◌<◌, Contains, Some, length, 
 ghost use Rattle.program_defs.specs.declared.script.Request.{Request};
 ghost use Rattle.report_rules.specs.Lookups.{request_at};
 ghost use Rattle.weaver_core.specs.Clients.{AreSameClients, requests_at};
-ghost use Rattle.weaver_core.specs.Replying.{IsThere, Replies, RepliesToOne, is_flying};
+ghost use Rattle.weaver_core.specs.Replying.{HasGateAndSession, Replies, RepliesToOne, is_flying};
 
 use crate::clients::Clients;
 use crate::gates::Gates;
@@ -13,7 +13,8 @@ use program_defs::{Request, Script};
 use report_rules::{Reply, StepAnswer};
 use std::alloc::{AllocError, Global};
 
-/// The session has the reply to the script's request, if that was sent. The reply's state is by the store's log. The one error is out of memory.
+/// The session has the reply to the script's request, if that was sent. The reply's state is by the store's log. The
+/// one error is out of memory.
 pub(crate) fn reply_in(
     alloc: Global,
     gates: &Gates,
@@ -24,7 +25,7 @@ pub(crate) fn reply_in(
 ) -> Result<StepAnswer, AllocError>
     requires there { IsSome (request_at script.now request) }
     requires ready { (asked : Request) → request_at script.now request ≡ Some asked
-        → IsThere gates.now clients.old request asked }
+        → HasGateAndSession gates.now clients.old request asked }
     ensures replies { IfOk result (Replies script.now gates.now store.now clients.old clients.new request) }
     ensures refused { OnErr result (AreSameClients clients.old clients.new) }
 {

@@ -2,7 +2,7 @@
 ghost use Rattle.std.specs.Prelude.{◌≡◌, ◌<◌, length, Contains, IfOk, OnErr};
 ghost use Rattle.weave_entries.specs.Sending.{IsCountsOf};
 ghost use Rattle.weave_entries.specs.StoreReplay.{Judgement, judged_by, judgements_of};
-ghost use Rattle.weaver_core.specs.Sending.{SendsFlight};
+ghost use Rattle.weaver_core.specs.Sending.{SendsJudgedFlight};
 
 use crate::gates::Gates;
 use backing_store::Store;
@@ -21,7 +21,7 @@ pub(crate) fn send_in(
     requires there { gate < length gates.old.logs }
     requires counts { (judged : Judgement) → Contains (judgements_of store.now) judged
         → IsCountsOf judged.ops judged.verdict }
-    ensures sends { IfOk result (SendsFlight gates.old gates.new store.now gate) }
+    ensures sends { IfOk result (SendsJudgedFlight gates.old gates.new store.now gate) }
     ensures refused { OnErr result (gates.new ≡ gates.old) }
 {
     let Some(flight) = gates.flight(gate) else {

@@ -6,8 +6,8 @@ ghost use Rattle.weave_entries.specs.ShardRules.{IsTakable, PassesAt};
 ghost use Rattle.weave_entries.specs.declared.shard_log.ShardDeed.TheVariants as deed;
 ghost use Rattle.shard_node.specs.Shards.{IsRightlyUnapplied};
 ghost use Rattle.weaver_core.specs.Marks.{AddsVisits, all_visits};
-ghost use Rattle.weaver_core.specs.Messages.{AppliesHead, Arrives};
-ghost use Rattle.weaver_core.specs.ShardTable.{AddsAt, AreFirst, AreInOrder, log_at, log_of};
+ghost use Rattle.weaver_core.specs.Messages.{AppliesHead, ArrivesAtShard};
+ghost use Rattle.weaver_core.specs.ShardTable.{AddsToShard, AreFirstShards, AreShardsInOrder, log_at, log_of};
 ghost use Rattle.weaver_core.specs.Visiting.{CanBeVisited, Reads};
 ghost use Rattle.shard_node.specs.Shards.{IsRightlyUnread};
 
@@ -32,7 +32,7 @@ pub(crate) struct Shards {
 
 impl Model for Shards {
     ghost use Rattle.std.specs.Prelude.{map};
-    ghost use Rattle.weaver_core.specs.ShardTable.{ShardTable, AreInOrder, log_of};
+    ghost use Rattle.weaver_core.specs.ShardTable.{ShardTable, AreShardsInOrder, log_of};
 
     ghost Value = { ShardTable };
 
@@ -41,7 +41,7 @@ impl Model for Shards {
       logs = map log_of s.shards.items;
     } };
 
-    ghost invariant = { λ s. AreInOrder s.gates s.shards.items };
+    ghost invariant = { λ s. AreShardsInOrder s.gates s.shards.items };
 }
 
 impl Shards {
@@ -60,7 +60,7 @@ impl Shards {
 
     /// These shards, which are made for this number of gatekeepers and are in order. It takes no memory.
     pub(crate) fn of(gates: u32, shards: Vec<Shard>) -> Shards
-        requires { AreInOrder gates shards.items }
+        requires { AreShardsInOrder gates shards.items }
         ensures { result ≡ record { gates = gates; logs = map log_of shards.items } }
     {
         Shards { gates, shards }
@@ -68,7 +68,7 @@ impl Shards {
 
     /// The shards, in order. It takes no memory.
     pub(crate) fn into_shards(self) -> Vec<Shard>
-        ensures order { AreInOrder self.gates result.items }
+        ensures order { AreShardsInOrder self.gates result.items }
         ensures logs { map log_of result.items ≡ self.logs }
     {
         self.shards
@@ -87,7 +87,7 @@ impl Shards {
         requires gate { gate < self.old.gates }
         requires number { 1 ≤ number }
         requires takable { IsTakable message }
-        ensures arrives { IfOk result (λ arrival. Arrives self.old self.new shard gate number message arrival) }
+        ensures arrives { IfOk result (λ arrival. ArrivesAtShard self.old self.new shard gate number message arrival) }
         ensures refused { OnErr result (self.new ≡ self.old) }
     {
         let shard = &mut self.shards[shard as usize];
@@ -136,7 +136,7 @@ impl Shards {
     /// A shard drops the versions that are older than its bound, if it has one. The one error is out of memory.
     pub(crate) fn collect(&mut self, shard: u32) -> Result<(), AllocError>
         requires { shard < length self.old.logs }
-        ensures collected { OnOk result (AddsAt self.old self.new shard
+        ensures collected { OnOk result (AddsToShard self.old self.new shard
             (deed.Collected (bound_of self.old.gates (log_at self.old shard)))) }
         ensures refused { OnErr result (self.new ≡ self.old) }
     {
@@ -172,7 +172,7 @@ impl Shards {
 fn first_shards(alloc: Global, shards: u32, gates: u32) -> Result<Vec<Shard>, AllocError>
     requires some { 1 ≤ gates }
     requires few { gates ≤ 8 }
-    ensures { IfOk result (λ made. AreFirst shards gates made.items) }
+    ensures { IfOk result (λ made. AreFirstShards shards gates made.items) }
 {
     let mut made = Vec::new(alloc);
     for number in 0..shards {

@@ -7,7 +7,8 @@ use shard_node::Shard;
 use timeline_oracle::Oracle;
 use vector_stamp::Clock;
 
-/// The script and the machines of a core, its sessions and its notices, each by itself: what threads work on between a core's steps.
+/// The script and the machines of a core, its sessions and its notices, each by itself: what threads work on between a
+/// core's steps.
 #[derive(Drop)]
 pub struct Split {
     pub script: Script,

@@ -7,7 +7,8 @@ use weave_account::laws::{
 };
 use weave_entries::laws::{begun_and_replied_are_decided, requests_end, sessions_go_in_turn};
 
-/// What is said of a program's begin, its reads and its end stays true while other logs go on, and each step leaves a core.
+/// What is said of a program's begin, its reads and its end stays true while other logs go on, and each step leaves a
+/// core.
 pub(crate) fn what_stays()
     ensures stay { StayLaws }
     ensures core { CoreLaws }

@@ -66,7 +66,8 @@ impl Core {
 
     /// Does a step: its answer, and the logs and notices that it leaves, are those of the definition of steps.
     ///
-    /// It costs what the call of its machine costs, and look-ups. The one error is out of memory, and then the core is as before.
+    /// It costs what the call of its machine costs, and look-ups. The one error is out of memory, and then the core is
+    /// as before.
     pub fn step(&mut self, alloc: Global, step: &Step) -> Result<StepAnswer, AllocError>
         requires there { IsStepOf self.old.script step.now }
         ensures done { IfOk result (λ answer. Does step.now self.old self.new answer) }
@@ -147,8 +148,8 @@ impl Core {
         self.machines.first_unanswered(&self.script)
     }
 
-    /// The number of the message that the shard processes next on the gatekeeper's channel. Those before it have arrived
-    /// there.
+    /// The number of the message that the shard processes next on the gatekeeper's channel. Those before it have
+    /// arrived there.
     pub fn next_message(&self, shard: u32, gate: u32) -> u64
         requires shard { shard < self.now.script.shards }
         requires gate { gate < self.now.script.gates }
@@ -167,7 +168,8 @@ impl Core {
         self.machines.kept(&self.script, shard, v)
     }
 
-    /// The report of the account, without answers of steps. It costs a look at each entry of the logs of sessions, oracle and shards, its own size, and the printed order. The one error is out of memory.
+    /// The report of the account, without answers of steps. It costs a look at each entry of the logs of sessions,
+    /// oracle and shards, its own size, and the printed order. The one error is out of memory.
     pub fn report(&self, alloc: Global) -> Result<Report, AllocError>
         ensures report { IfOk result (IsReportOfAccount self.now.script self.now.state.account) }
         ensures answers { IfOk result (λ report. report.answers ≡ []) }

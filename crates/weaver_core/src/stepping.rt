@@ -180,7 +180,8 @@ fn begun_with(request: u32, stamp: Option<Stamp>, walk: AnyProgram) -> Option<Ru
     }
 }
 
-// `visit R`, if the request has begun and has no reply: its program, if it is one, is the one that is running in its session.
+// `visit R`, if the request has begun and has no reply: its program, if it is one, is the one that is running in its
+// session.
 fn visit_with(
     alloc: Global,
     script: &Script,

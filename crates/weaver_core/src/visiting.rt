@@ -4,7 +4,7 @@ ghost use Rattle.weave_data.specs.declared.name.Name.{Name};
 ghost use Rattle.weave_data.specs.Names.{shard_of};
 ghost use Rattle.path_program.specs.AnyPrograms.{next_read};
 ghost use Rattle.weaver_core.specs.ShardTable.{log_at};
-ghost use Rattle.weaver_core.specs.Visiting.{AreSameLogs, Asks, CanBeVisited, Visits};
+ghost use Rattle.weaver_core.specs.Visiting.{AreSameLogs, Asks, CanBeVisited, VisitsForProgram};
 
 use crate::shards::Shards;
 use crate::walks::Running;
@@ -16,7 +16,8 @@ use std::alloc::{AllocError, Global};
 use timeline_oracle::Oracle;
 use weave_data::Name;
 
-/// The program reads its next vertex, if it has one and the vertex's shard is ready. All memory of the program is taken before the shard is visited. The one error is out of memory.
+/// The program reads its next vertex, if it has one and the vertex's shard is ready. All memory of the program is taken
+/// before the shard is visited. The one error is out of memory.
 pub(crate) fn visit_next(
     alloc: Global,
     shards: &mut Shards,
@@ -28,7 +29,8 @@ pub(crate) fn visit_next(
     requires many { length shards.old.logs ≡ count }
     requires ready { (v : Name) → next_read running.old.walk ≡ Some v
         → CanBeVisited oracle.old (log_at shards.old (shard_of v count)) running.old.stamp v }
-    ensures visits { IfOk result (Visits count shards.old shards.new oracle.old oracle.new running.old running.new) }
+    ensures visits { IfOk result
+        (VisitsForProgram count shards.old shards.new oracle.old oracle.new running.old running.new) }
     ensures refused { OnErr result (AreSameLogs shards.old shards.new oracle.old oracle.new running.old running.new) }
     ensures asks { Asks running.old.walk }
 {
@@ -51,7 +53,8 @@ fn visit_vertex(
     requires there { shard_of vertex count < length shards.old.logs }
     requires next { next_read running.old.walk ≡ Some vertex }
     requires ready { CanBeVisited oracle.old (log_at shards.old (shard_of vertex count)) running.old.stamp vertex }
-    ensures visits { IfOk result (Visits count shards.old shards.new oracle.old oracle.new running.old running.new) }
+    ensures visits { IfOk result
+        (VisitsForProgram count shards.old shards.new oracle.old oracle.new running.old running.new) }
     ensures refused { OnErr result (AreSameLogs shards.old shards.new oracle.old oracle.new running.old running.new) }
 {
     running.walk.ready()?;

@@ -1,7 +1,7 @@
 use Rattle.std.proofs.Common.{◌∙◌, ◌+◌, inl, inr, refl, sym, ap, subst, arith, length}
 use Rattle.std.proofs.lemmas.Bool.{cases_Bool}
 use Rattle.program_defs.specs.declared.script.Script.{Script}
-use Rattle.weave_drive.specs.Progress.{IsReadWhole}
+use Rattle.weave_drive.specs.Progress.{HasNoNextVertex}
 use Rattle.weave_drive.proofs.Driven.{drives-more, drives-through}
 use Rattle.weave_drive.proofs.Quiet.{drives-quiet}
 use Rattle.weave_drive.proofs.Replied.{begins-below, first-quiet, first-reading, last-answered, middle-quiet, middle-read, middle-sent}
@@ -60,7 +60,7 @@ returns-clause-answered c =
       | inr look ↦
           let quiet = drives-quiet first middle drives (first-quiet laws old first r found is cores _ did c.requires.answered (sym same ∙ look)) in
           last-answered laws old first r found is cores _ did c.requires.answered middle drives c.step-2.new.core _ quiet
-          (middle-read laws old first r found is cores _ did c.requires.answered middle drives (sym same ∙ look) (subst (λ (s : Script). IsReadWhole s c.args.request c.end_request.new.core.state.account) (sym drives.script_is) (c.in_ok-end_request.ensures.read look))) c.in_ok-step-2.ensures.done (c.step-2.ensures.drives 0 refl)
+          (middle-read laws old first r found is cores _ did c.requires.answered middle drives (sym same ∙ look) (subst (λ (s : Script). HasNoNextVertex s c.args.request c.end_request.new.core.state.account) (sym drives.script_is) (c.in_ok-end_request.ensures.read look))) c.in_ok-step-2.ensures.done (c.step-2.ensures.drives 0 refl)
     ]
 
 pub returns-in_err-step-2-clause-drives : goal.returns-in_err-step-2-clause-drives

@@ -1,7 +1,7 @@
 use Rattle.std.proofs.Common.{sym, ap, subst, arith}
 use Rattle.std.specs.Prelude.{length}
 use Rattle.program_defs.specs.declared.script.Script.{Script}
-use Rattle.weave_drive.specs.Progress.{IsAnswered}
+use Rattle.weave_drive.specs.Progress.{AreAnsweredBelow}
 use Rattle.weave_drive.proofs.Driven.{drives-more, drives-through}
 use Rattle.weave_drive.proofs.Replied.{answers-all, answers-from, answers-next}
 use Rattle.weave_drive.proofs.answering.drive_all.Goals as goal
@@ -22,7 +22,7 @@ answer-requires-clause-there c =
 
 pub answer-requires-clause-answered : goal.answer-requires-clause-answered
 answer-requires-clause-answered c =
-    subst (λ (s : Script). IsAnswered s c.loop-request.request c.loop-request.core.state.account) (sym c.loop-request.invariant.drives.script_is) c.loop-request.invariant.answered
+    subst (λ (s : Script). AreAnsweredBelow s c.loop-request.request c.loop-request.core.state.account) (sym c.loop-request.invariant.drives.script_is) c.loop-request.invariant.answered
 
 pub returns-in_err-answer-clause-drives : goal.returns-in_err-answer-clause-drives
 returns-in_err-answer-clause-drives c =

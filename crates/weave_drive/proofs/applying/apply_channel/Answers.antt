@@ -1,6 +1,6 @@
 use Rattle.std.proofs.Common.{true, false, refl, ap, subst, arith}
 use Rattle.program_defs.specs.declared.script.Script.{Script}
-use Rattle.weave_drive.specs.Progress.{Applies}
+use Rattle.weave_drive.specs.Progress.{AppliesChannel}
 use Rattle.weave_drive.proofs.Applications.{applied-at, applying-end, applying-none, applying-on}
 use Rattle.weave_drive.proofs.Driven.{drives-through}
 use Rattle.weave_drive.proofs.applying.apply_channel.Goals as goal
@@ -26,13 +26,13 @@ returns-in_err-apply-clause-drives c = drives-through 0 c.args.core.now c.loop-m
 pub loop-moved-smaller : goal.loop-moved-smaller
 loop-moved-smaller c =
     (applied-at c.args.shard c.args.gate c.args.core.now c.loop-moved.core c.apply.new.core true c.loop-moved.invariant.drives
-    (subst (Applies c.loop-moved.core.script.gates c.args.shard c.args.gate c.loop-moved.core.state c.apply.new.core.state) c.if-branch.true c.in_ok-apply.ensures.applies)).fewer refl
+    (subst (AppliesChannel c.loop-moved.core.script.gates c.args.shard c.args.gate c.loop-moved.core.state c.apply.new.core.state) c.if-branch.true c.in_ok-apply.ensures.applies)).fewer refl
 
 pub loop-moved-preserved : goal.loop-moved-preserved
 loop-moved-preserved c =
     applying-on c.args.core.now.script.gates c.args.shard c.args.gate c.args.core.now c.loop-moved.core c.apply.new.core c.loop-moved.moved c.loop-moved.invariant c.apply.ensures.drives
     (applied-at c.args.shard c.args.gate c.args.core.now c.loop-moved.core c.apply.new.core true c.loop-moved.invariant.drives
-    (subst (Applies c.loop-moved.core.script.gates c.args.shard c.args.gate c.loop-moved.core.state c.apply.new.core.state) c.if-branch.true c.in_ok-apply.ensures.applies))
+    (subst (AppliesChannel c.loop-moved.core.script.gates c.args.shard c.args.gate c.loop-moved.core.state c.apply.new.core.state) c.if-branch.true c.in_ok-apply.ensures.applies))
 
 pub returns-clause-drives : goal.returns-clause-drives
 returns-clause-drives c = drives-through 0 c.args.core.now c.loop-moved.core c.apply.new.core c.loop-moved.invariant.drives c.apply.ensures.drives
@@ -41,4 +41,4 @@ pub returns-clause-applies : goal.returns-clause-applies
 returns-clause-applies c =
     applying-end c.args.core.now.script.gates c.args.shard c.args.gate c.args.core.now c.loop-moved.core c.apply.new.core c.loop-moved.moved c.loop-moved.invariant
     (applied-at c.args.shard c.args.gate c.args.core.now c.loop-moved.core c.apply.new.core false c.loop-moved.invariant.drives
-    (subst (Applies c.loop-moved.core.script.gates c.args.shard c.args.gate c.loop-moved.core.state c.apply.new.core.state) c.if-branch.false c.in_ok-apply.ensures.applies))
+    (subst (AppliesChannel c.loop-moved.core.script.gates c.args.shard c.args.gate c.loop-moved.core.state c.apply.new.core.state) c.if-branch.false c.in_ok-apply.ensures.applies))

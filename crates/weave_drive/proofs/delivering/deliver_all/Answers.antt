@@ -1,6 +1,6 @@
-use Rattle.std.proofs.Common.{true, false, ap, subst, arith}
+use Rattle.std.proofs.Common.{ap, subst, arith}
 use Rattle.program_defs.specs.declared.script.Script.{Script}
-use Rattle.weave_drive.specs.Progress.{Delivers}
+use Rattle.weave_drive.specs.Progress.{DeliversMessage}
 use Rattle.weave_drive.proofs.Deliveries.{delivering-all, delivering-less, delivering-next, delivering-none}
 use Rattle.weave_drive.proofs.Driven.{drives-through}
 use Rattle.weave_drive.proofs.Going.{step-on}
@@ -35,14 +35,14 @@ returns-in_err-number-clause-drives c = drives-through 0 c.args.core.now c.loop-
 pub loop-number-smaller : goal.loop-number-smaller
 loop-number-smaller c =
     delivering-less c.loop-number.core.state.account c.deliver.new.core.state.account c.args.gate c.args.shard c.loop-number.number _ c.in_ok-number.ensures c.loop-number.invariant.some
-    (subst (Delivers c.args.gate c.args.shard c.loop-number.number c.loop-number.core.state.account c.deliver.new.core.state.account) c.if-branch.true c.in_ok-deliver.ensures.delivers)
+    (subst (DeliversMessage c.args.gate c.args.shard c.loop-number.number c.loop-number.core.state.account c.deliver.new.core.state.account) c.if-branch.true c.in_ok-deliver.ensures.delivers)
 
 pub loop-number-preserved : goal.loop-number-preserved
 loop-number-preserved c =
     delivering-next c.args.core.now c.loop-number.core c.deliver.new.core c.args.gate c.args.shard c.loop-number.number _ c.in_ok-number.ensures
     (step-on 0 0 c.the_crates_below_keep_their_laws.ensures c.args.core.now c.loop-number.core c.deliver.new.core c.script.ensures.limits c.script.ensures.core c.loop-number.invariant.drives c.deliver.ensures.drives)
     c.loop-number.invariant c.deliver.ensures.drives
-    (subst (Delivers c.args.gate c.args.shard c.loop-number.number c.loop-number.core.state.account c.deliver.new.core.state.account) c.if-branch.true c.in_ok-deliver.ensures.delivers)
+    (subst (DeliversMessage c.args.gate c.args.shard c.loop-number.number c.loop-number.core.state.account c.deliver.new.core.state.account) c.if-branch.true c.in_ok-deliver.ensures.delivers)
 
 pub returns-clause-drives : goal.returns-clause-drives
 returns-clause-drives c = drives-through 0 c.args.core.now c.loop-number.core c.deliver.new.core c.loop-number.invariant.drives c.deliver.ensures.drives
@@ -52,4 +52,4 @@ returns-clause-delivers c =
     delivering-all c.args.core.now c.loop-number.core c.deliver.new.core c.args.gate c.args.shard c.loop-number.number
     (step-on 0 0 c.the_crates_below_keep_their_laws.ensures c.args.core.now c.loop-number.core c.deliver.new.core c.script.ensures.limits c.script.ensures.core c.loop-number.invariant.drives c.deliver.ensures.drives)
     c.loop-number.invariant
-    (subst (Delivers c.args.gate c.args.shard c.loop-number.number c.loop-number.core.state.account c.deliver.new.core.state.account) c.if-branch.false c.in_ok-deliver.ensures.delivers)
+    (subst (DeliversMessage c.args.gate c.args.shard c.loop-number.number c.loop-number.core.state.account c.deliver.new.core.state.account) c.if-branch.false c.in_ok-deliver.ensures.delivers)

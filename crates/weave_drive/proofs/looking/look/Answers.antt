@@ -1,6 +1,6 @@
 use Rattle.std.proofs.Common.{true, false, refl, sym, subst}
 use Rattle.program_defs.specs.declared.script.Script.{Script}
-use Rattle.weave_drive.specs.Progress.{IsReading, Visits}
+use Rattle.weave_drive.specs.Progress.{IsReading, ReadsOnward}
 use Rattle.weave_drive.proofs.Driven.{drives-none, drives-on, drives-through}
 use Rattle.weave_drive.proofs.Quiet.{drives-quiet}
 use Rattle.weave_drive.proofs.Reading.{still-reading, visits-at}
@@ -25,7 +25,7 @@ returns-in_err-visit-clause-drives c = drives-through 0 c.args.core.now c.loop.c
 pub loop-smaller : goal.loop-smaller
 loop-smaller c =
     (visits-at c.args.request c.args.home c.args.core.now c.loop.core c.visit.new.core true c.loop.invariant
-    (subst (Visits c.loop.core.script c.args.request c.args.home c.loop.core.state.account c.visit.new.core.state.account) c.if-branch.true c.in_ok-visit.ensures.visits)).less refl
+    (subst (ReadsOnward c.loop.core.script c.args.request c.args.home c.loop.core.state.account c.visit.new.core.state.account) c.if-branch.true c.in_ok-visit.ensures.visits)).less refl
 
 pub loop-preserved : goal.loop-preserved
 loop-preserved c = drives-through 0 c.args.core.now c.loop.core c.visit.new.core c.loop.invariant c.visit.ensures.drives
@@ -36,4 +36,4 @@ returns-clause-drives c = drives-through 0 c.args.core.now c.loop.core c.visit.n
 pub returns-clause-whole : goal.returns-clause-whole
 returns-clause-whole c =
     (visits-at c.args.request c.args.home c.args.core.now c.loop.core c.visit.new.core false c.loop.invariant
-    (subst (Visits c.loop.core.script c.args.request c.args.home c.loop.core.state.account c.visit.new.core.state.account) c.if-branch.false c.in_ok-visit.ensures.visits)).whole refl
+    (subst (ReadsOnward c.loop.core.script c.args.request c.args.home c.loop.core.state.account c.visit.new.core.state.account) c.if-branch.false c.in_ok-visit.ensures.visits)).whole refl

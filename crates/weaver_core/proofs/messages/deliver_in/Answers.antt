@@ -2,7 +2,7 @@ use Rattle.std.proofs.Common.{Some, refl, sym, ap, subst, ◌∙◌}
 use Rattle.std.specs.Prelude.{option_copied}
 use Rattle.shard_queue.specs.declared.inbox.Arrival.{Arrival}
 use Rattle.weave_entries.specs.ShardRules.{IsTakable}
-use Rattle.weaver_core.specs.Messages.{Arrives}
+use Rattle.weaver_core.specs.Messages.{ArrivesAtShard}
 use Rattle.weaver_core.proofs.messages.deliver_in.Goals as goal
 
 pub returns-in_default-clause-delivers : goal.returns-in_default-clause-delivers
@@ -20,7 +20,7 @@ returns-in-Ok-Kept-clause-delivers c =
     record {
       message = c.in_ok-copied.copied;
       is_sent = sent ∙ ap Some (sym c.in_ok-copied.ensures);
-      arrives = subst (λ (arrival : Arrival). Arrives c.args.shards.now c.arrive.new.self c.args.shard c.args.gate c.args.number c.in_ok-copied.copied arrival) c.in-Ok-Kept.field-0-is c.in-Ok-Kept.ensures.arrives;
+      arrives = subst (λ (arrival : Arrival). ArrivesAtShard c.args.shards.now c.arrive.new.self c.args.shard c.args.gate c.args.number c.in_ok-copied.copied arrival) c.in-Ok-Kept.field-0-is c.in-Ok-Kept.ensures.arrives;
     }
 
 pub returns-in-Ok-Repeat-clause-delivers : goal.returns-in-Ok-Repeat-clause-delivers
@@ -29,5 +29,5 @@ returns-in-Ok-Repeat-clause-delivers c =
     record {
       message = c.in_ok-copied.copied;
       is_sent = sent ∙ ap Some (sym c.in_ok-copied.ensures);
-      arrives = subst (λ (arrival : Arrival). Arrives c.args.shards.now c.arrive.new.self c.args.shard c.args.gate c.args.number c.in_ok-copied.copied arrival) c.in-Ok-Repeat.field-0-is c.in-Ok-Repeat.ensures.arrives;
+      arrives = subst (λ (arrival : Arrival). ArrivesAtShard c.args.shards.now c.arrive.new.self c.args.shard c.args.gate c.args.number c.in_ok-copied.copied arrival) c.in-Ok-Repeat.field-0-is c.in-Ok-Repeat.ensures.arrives;
     }

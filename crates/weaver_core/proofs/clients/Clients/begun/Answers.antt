@@ -2,7 +2,7 @@ use Rattle.std.proofs.Common.{◌<◌, ◌≤◌, ℕ, [], length, sym, ap, subs
 use Rattle.std.specs.Prelude.{slice_index_or, slice_set}
 use Rattle.weave_entries.specs.SessionReplay.{FitsSession, SessionState, session_of}
 use Rattle.weave_entries.specs.declared.session_log.SessionDeed.TheVariants.{Begun}
-use Rattle.weaver_core.specs.Clients.{AddsAt, ClientTable, log_of, requests_in, session_at, spare_of}
+use Rattle.weaver_core.specs.Clients.{AddsToSession, ClientTable, log_of, requests_in, session_at, spare_of}
 use Rattle.weaver_core.proofs.AtClients.{adds-at, still-numbered, table_of, values-rest}
 use Rattle.weaver_core.proofs.Tables.{image-at, read-at, within-image}
 use Rattle.weaver_core.proofs.clients.Clients.begun.Goals as goal
@@ -54,7 +54,7 @@ returns-clause-begun c =
     let before = c.index_mut-client.result.now in
     let within = within-image log_of clients s (subst (λ (v : ClientTable). s < length v.logs) (sym c.self.view_is) c.requires.there) in
     let at = read-at clients s before within c.index_mut-client.ensures.value in
-    subst (λ (v : ClientTable). AddsAt v (table_of (slice_set clients s c.begun.new.self)) s (Begun c.args.request c.args.stamp)) c.self.view_is (adds-at clients s before c.begun.new.self within at (Begun c.args.request c.args.stamp) c.begun.ensures.begun)
+    subst (λ (v : ClientTable). AddsToSession v (table_of (slice_set clients s c.begun.new.self)) s (Begun c.args.request c.args.stamp)) c.self.view_is (adds-at clients s before c.begun.new.self within at (Begun c.args.request c.args.stamp) c.begun.ensures.begun)
 
 pub returns-clause-values : goal.returns-clause-values
 returns-clause-values c =

@@ -1,9 +1,10 @@
 use Rattle.std.proofs.Common.{◌<◌, ◌≤◌, ℕ, length, sym, subst}
 use Rattle.std.specs.Prelude.{slice_set}
+use Rattle.shard_node.proofs.Places.{get_set_here}
 use Rattle.weaver_core.specs.Clients.{AreSameClients, ClientTable, log_of, spare_of}
 use Rattle.weaver_core.proofs.AtClients.{clients-rest, numbered-same, table_of}
 use Rattle.weaver_core.proofs.Results.{on_ok_map}
-use Rattle.weaver_core.proofs.Tables.{image-at, read-at, set-here, within-image}
+use Rattle.weaver_core.proofs.Tables.{image-at, read-at, within-image}
 use Rattle.weaver_core.proofs.clients.Clients.reserve.Goals as goal
 
 pub invariant_of-self : goal.invariant_of-self
@@ -30,4 +31,4 @@ returns-clause-room c =
     let s = c.args.session in
     let after = c.reserve.new.self in
     let within = within-image log_of clients s (subst (λ (v : ClientTable). s < length v.logs) (sym c.self.view_is) c.requires) in
-    on_ok_map c.reserve.result _ _ (λ room. subst (λ (n : ℕ). 1 ≤ n) (sym (image-at spare_of (slice_set clients s after) s after (set-here clients s after within) 0)) room) c.reserve.ensures.room
+    on_ok_map c.reserve.result _ _ (λ room. subst (λ (n : ℕ). 1 ≤ n) (sym (image-at spare_of (slice_set clients s after) s after (get_set_here clients s after within) 0)) room) c.reserve.ensures.room

@@ -11,7 +11,7 @@ use Rattle.gatekeeper.specs.declared.fault.GateFault.TheVariants.{Busy}
 use Rattle.weave_entries.specs.declared.gate_log.GateEntry.{GateEntry}
 use Rattle.weave_entries.specs.GateReplay.{begun_stamp, clock_of, flight_of}
 use Rattle.step_rules.specs.Entries.{begin_deed}
-use Rattle.weaver_core.specs.GateTable.{AddsAt, GateTable, log_at, log_of}
+use Rattle.weaver_core.specs.GateTable.{AddsToGate, GateTable, log_at, log_of}
 use Rattle.weaver_core.proofs.AtGates.{adds-at, in-order-after, in-order-still, table-rests, table_of, unchanged}
 use Rattle.weaver_core.proofs.Results.{either_way, if_ok_map, on_err_map}
 use Rattle.weaver_core.proofs.Tables.{image-at, read-at, within-image}
@@ -66,7 +66,7 @@ returns-clause-entry c =
     let within = within-image log_of gates g (subst (λ (v : GateTable). g < length v.logs) (sym c.self.view_is) c.requires) in
     let at = read-at gates g before within c.index_mut-gate.ensures.value in
     if_ok_map c.stamp_at.result _ _
-    (λ (stamp : Stamp) adds. subst (λ (v : GateTable). AddsAt v (table_of shards (slice_set gates g after)) g 0 (begin_deed c.args.request stamp c.args.work.now)) c.self.view_is
+    (λ (stamp : Stamp) adds. subst (λ (v : GateTable). AddsToGate v (table_of shards (slice_set gates g after)) g 0 (begin_deed c.args.request stamp c.args.work.now)) c.self.view_is
     (adds-at shards gates g before after within at 0 (begin_deed c.args.request stamp c.args.work.now) adds))
     c.stamp_at.ensures.entry
 

@@ -5,7 +5,7 @@ use Rattle.gatekeeper.specs.Gates.{Adds, GateView}
 use Rattle.weave_entries.specs.declared.gate_log.GateDeed.TheVariants.{Finished}
 use Rattle.weave_entries.specs.declared.gate_log.GateEntry.{GateEntry}
 use Rattle.weave_entries.specs.GateReplay.{is_begun, running_of}
-use Rattle.weaver_core.specs.GateTable.{AddsAt, GateTable, log_at, log_of}
+use Rattle.weaver_core.specs.GateTable.{AddsToGate, GateTable, log_at, log_of}
 use Rattle.weaver_core.proofs.AtGates.{adds-at, in-order-after, in-order-still, table-rests, table_of, unchanged}
 use Rattle.weaver_core.proofs.Results.{on_either, on_err_map, on_ok_map}
 use Rattle.weaver_core.proofs.Tables.{image-at, read-at, within-image}
@@ -44,7 +44,7 @@ returns-clause-entry c =
     let within = within-image log_of gates g (subst (λ (v : GateTable). g < length v.logs) (sym c.self.view_is) c.requires.there) in
     let at = read-at gates g before within c.index_mut-gate.ensures.value in
     on_ok_map c.finish_at.result (Adds before after c.args.author (Finished c.args.request)) _
-    (λ adds. subst (λ (v : GateTable). AddsAt v (table_of shards (slice_set gates g after)) g c.args.author (Finished c.args.request)) c.self.view_is (adds-at shards gates g before after within at c.args.author (Finished c.args.request) adds))
+    (λ adds. subst (λ (v : GateTable). AddsToGate v (table_of shards (slice_set gates g after)) g c.args.author (Finished c.args.request)) c.self.view_is (adds-at shards gates g before after within at c.args.author (Finished c.args.request) adds))
     c.finish_at.ensures.entry
 
 pub returns-clause-refused : goal.returns-clause-refused

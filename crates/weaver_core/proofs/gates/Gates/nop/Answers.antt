@@ -5,7 +5,7 @@ use Rattle.gatekeeper.specs.Gates.{Adds, GateView}
 use Rattle.gatekeeper.specs.declared.fault.GateFault.TheVariants.{Busy}
 use Rattle.weave_entries.specs.declared.gate_log.GateDeed.{GateDeed}
 use Rattle.weave_entries.specs.GateReplay.{flight_of}
-use Rattle.weaver_core.specs.GateTable.{AddsAt, GateTable, log_at, log_of}
+use Rattle.weaver_core.specs.GateTable.{AddsToGate, GateTable, log_at, log_of}
 use Rattle.weaver_core.specs.Messages.{nop_deed}
 use Rattle.weaver_core.proofs.AtGates.{adds-at, in-order-after, in-order-still, table-rests, table_of, unchanged}
 use Rattle.weaver_core.proofs.Results.{on_either, on_err_map, on_ok_map}
@@ -49,7 +49,7 @@ returns-clause-entry c =
     let log : before.log ≡ log_at (table_of shards gates) g = sym (image-at log_of gates g before at []) in
     let deed : nop_deed before.home c.args.shard before.log ≡ nop_deed g c.args.shard (log_at (table_of shards gates) g) = λ i. nop_deed (home i) c.args.shard (log i) in
     on_ok_map c.nop_at.result (Adds before after 0 (nop_deed before.home c.args.shard before.log)) _
-    (λ adds. subst (λ (v : GateTable). AddsAt v (table_of shards (slice_set gates g after)) g 0 (nop_deed g c.args.shard (log_at v g))) c.self.view_is
+    (λ adds. subst (λ (v : GateTable). AddsToGate v (table_of shards (slice_set gates g after)) g 0 (nop_deed g c.args.shard (log_at v g))) c.self.view_is
     (adds-at shards gates g before after within at 0 _ (subst (λ (d : GateDeed). Adds before after 0 d) deed adds)))
     c.nop_at.ensures.entry
 

@@ -5,7 +5,7 @@ use Rattle.gatekeeper.specs.Gates.{Adds}
 use Rattle.gatekeeper.specs.declared.fault.GateFault.TheVariants.{Old}
 use Rattle.weave_entries.specs.declared.gate_log.GateDeed.TheVariants.{Raised}
 use Rattle.weave_entries.specs.GateReplay.{clock_of}
-use Rattle.weaver_core.specs.GateTable.{AddsAt, GateTable, IsSameGate, log_at, log_of}
+use Rattle.weaver_core.specs.GateTable.{AddsToGate, GateTable, IsSameGate, log_at, log_of}
 use Rattle.weaver_core.proofs.AtGates.{adds-at, in-order-after, in-order-still, table-rests, table_of}
 use Rattle.weaver_core.proofs.Results.{on_either, on_err_map, on_ok_map}
 use Rattle.weaver_core.proofs.Tables.{image-at, read-at, within-image}
@@ -34,7 +34,7 @@ returns-clause-raised c =
     let within = within-image log_of gates g (subst (λ (v : GateTable). g < length v.logs) (sym c.self.view_is) c.requires) in
     let at = read-at gates g before within c.index_mut-gate.ensures.value in
     on_ok_map c.raise_at.result (Adds before after 0 (Raised c.args.epoch)) _
-    (λ adds. subst (λ (v : GateTable). AddsAt v (table_of shards (slice_set gates g after)) g 0 (Raised c.args.epoch)) c.self.view_is (adds-at shards gates g before after within at 0 (Raised c.args.epoch) adds))
+    (λ adds. subst (λ (v : GateTable). AddsToGate v (table_of shards (slice_set gates g after)) g 0 (Raised c.args.epoch)) c.self.view_is (adds-at shards gates g before after within at 0 (Raised c.args.epoch) adds))
     c.raise_at.ensures.raised
 
 pub returns-clause-refused : goal.returns-clause-refused

@@ -6,7 +6,7 @@ use Rattle.weave_entries.specs.declared.gate_log.GateEntry.{GateEntry}
 use Rattle.weave_entries.specs.declared.gate_log.GateDeed.TheVariants.{Sent}
 use Rattle.weave_entries.specs.GateReplay.{Begun, flight_of}
 use Rattle.weave_entries.specs.Sending.{messages_of}
-use Rattle.weaver_core.specs.GateTable.{AddsAt, GateTable, log_at, log_of}
+use Rattle.weaver_core.specs.GateTable.{AddsToGate, GateTable, log_at, log_of}
 use Rattle.weaver_core.proofs.AtGates.{in-order-after, in-order-still, sends-at, table-rests, table_of, unchanged}
 use Rattle.weaver_core.proofs.Results.{on_either, on_err_map, on_ok_map}
 use Rattle.weaver_core.proofs.Tables.{image-at, read-at, within-image}
@@ -46,7 +46,7 @@ returns-clause-entry c =
     let at = read-at gates g before within c.index_mut-gate.ensures.value in
     on_ok_map c.send_at.result (SendsFlight before after c.args.author c.args.ops.now c.args.verdict.now) _
     (λ sends. subst (λ (v : GateTable). (flight : Begun) → flight_of (log_at v g) ≡ Some flight
-    → AddsAt v (table_of shards (slice_set gates g after)) g c.args.author (Sent flight.request (messages_of v.shards (log_at v g) flight c.args.ops.now c.args.verdict.now))) c.self.view_is
+    → AddsToGate v (table_of shards (slice_set gates g after)) g c.args.author (Sent flight.request (messages_of v.shards (log_at v g) flight c.args.ops.now c.args.verdict.now))) c.self.view_is
     (sends-at shards gates g before after within at c.self.invariant c.args.author c.args.ops.now c.args.verdict.now sends))
     c.send_at.ensures.entry
 

@@ -3,7 +3,7 @@ use Rattle.program_defs.specs.declared.script.Step.TheVariants.{Begin}
 use Rattle.report_rules.specs.declared.report.StepAnswer.{StepAnswer}
 use Rattle.weaver_core.specs.Beginning.{Begins}
 use Rattle.weaver_core.specs.Clients.{AreSameClients}
-use Rattle.weaver_core.specs.Cores.{MachinesDo, MachinesView, MayDo, machines_of}
+use Rattle.weaver_core.specs.Cores.{MachinesDo, MachinesView, CanBeGiven, machines_of}
 use Rattle.weaver_core.proofs.BeginDone.{BeginLaws, begin-done, begin-values, ready}
 use Rattle.weaver_core.proofs.Resting.{some-request}
 use Rattle.weaver_core.proofs.Results.{either_way, if_ok_map, on_err_both}
@@ -13,12 +13,12 @@ pub begin_in-requires : goal.begin_in-requires
 begin_in-requires c =
     let m = c.self.inside in
     let script = c.args.script.now in
-    let may = subst (λ (v : MachinesView). MayDo script v (Begin c.args.request)) (sym c.self.view_is) c.requires in
+    let may = subst (λ (v : MachinesView). CanBeGiven script v (Begin c.args.request)) (sym c.self.view_is) c.requires in
     let laws : BeginLaws = record {
+      requests = record { rise = c.requests_of_a_session_rise.ensures.rise; among = c.requests_of_a_session_rise.ensures.among };
       last = c.stamps_are_begun.ensures.last;
       begun = c.clocks_are_known.ensures.begun;
       may_be_heard = c.clocks_are_known.ensures.may_be_heard;
-      among = c.requests_of_a_session_rise.ensures.among;
     } in
     record {
       there = some-request script c.args.request may.there;
@@ -30,7 +30,7 @@ returns-clause-done c =
     let m = c.self.inside in
     let script = c.args.script.now in
     let r = c.args.request in
-    let may = subst (λ (v : MachinesView). MayDo script v (Begin r)) (sym c.self.view_is) c.requires in
+    let may = subst (λ (v : MachinesView). CanBeGiven script v (Begin r)) (sym c.self.view_is) c.requires in
     let new = c.begin_in.new.gates in
     let is = c.begin_in.new.clients in
     if_ok_map c.begin_in.result (Begins script m.gates new m.clients is r) _
@@ -51,7 +51,7 @@ returns-clause-values c =
     let m = c.self.inside in
     let script = c.args.script.now in
     let r = c.args.request in
-    let may = subst (λ (v : MachinesView). MayDo script v (Begin r)) (sym c.self.view_is) c.requires in
+    let may = subst (λ (v : MachinesView). CanBeGiven script v (Begin r)) (sym c.self.view_is) c.requires in
     let new = c.begin_in.new.gates in
     let is = c.begin_in.new.clients in
     either_way c.begin_in.result (Begins script m.gates new m.clients is r) (AreSameClients m.clients is) _

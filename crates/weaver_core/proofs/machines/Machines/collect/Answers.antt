@@ -1,7 +1,7 @@
 use Rattle.std.proofs.Common.{◌∙◌, sym, subst}
 use Rattle.program_defs.specs.declared.script.Step.TheVariants.{Collect}
 use Rattle.report_rules.specs.declared.report.StepAnswer.TheVariants.{Ok}
-use Rattle.weaver_core.specs.Cores.{MachinesDo, MachinesView, MayDo, machines_of}
+use Rattle.weaver_core.specs.Cores.{MachinesDo, MachinesView, CanBeGiven, machines_of}
 use Rattle.weaver_core.proofs.MessagesDone.{collect-done, shard-there}
 use Rattle.weaver_core.proofs.Resting.{same-shards}
 use Rattle.weaver_core.proofs.Results.{on_err_known}
@@ -13,7 +13,7 @@ collect-requires c =
     let m = c.self.inside in
     let script = c.args.script.now in
     let s = c.args.shard in
-    let may = subst (λ (v : MachinesView). MayDo script v (Collect s)) (sym c.self.view_is) c.requires in
+    let may = subst (λ (v : MachinesView). CanBeGiven script v (Collect s)) (sym c.self.view_is) c.requires in
     shard-there script m.gates m.store m.oracle m.shards m.clients m.notices.items may.are s may.there
 
 pub returns-clause-done : goal.returns-clause-done
@@ -22,7 +22,7 @@ returns-clause-done c =
     let script = c.args.script.now in
     let s = c.args.shard in
     let new = c.collect.new.self in
-    let may = subst (λ (v : MachinesView). MayDo script v (Collect s)) (sym c.self.view_is) c.requires in
+    let may = subst (λ (v : MachinesView). CanBeGiven script v (Collect s)) (sym c.self.view_is) c.requires in
     subst (λ (v : MachinesView). MachinesDo script (Collect s) v (machines_of m.gates m.store m.oracle new m.clients m.notices.items) Ok) c.self.view_is
     (collect-done script m.gates m.store m.oracle m.shards m.clients m.notices.items may.are new s c.in_ok-collect.ensures.collected)
 

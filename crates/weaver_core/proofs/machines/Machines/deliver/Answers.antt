@@ -2,8 +2,8 @@ use Rattle.std.proofs.Common.{◌≡◌, ◌<◌, ◌^◌, ◌-◌, ◌∙◌, l
 use Rattle.program_defs.specs.declared.script.Step.TheVariants.{Deliver}
 use Rattle.report_rules.specs.declared.report.StepAnswer.{StepAnswer}
 use Rattle.weave_entries.specs.StoreReplay.{commits_of}
-use Rattle.weaver_core.specs.Cores.{MachinesDo, MachinesView, MayDo, machines_of}
-use Rattle.weaver_core.specs.Messages.{Delivers}
+use Rattle.weaver_core.specs.Cores.{MachinesDo, MachinesView, CanBeGiven, machines_of}
+use Rattle.weaver_core.specs.Messages.{DeliversToShard}
 use Rattle.weaver_core.proofs.MessagesDone.{can-be-taken, deliver-done, shard-there}
 use Rattle.weaver_core.proofs.Resting.{gate-there, same-shards, sender-there}
 use Rattle.weaver_core.proofs.Results.{if_ok_map, on_err_map}
@@ -15,7 +15,7 @@ deliver_in-requires c =
     let script = c.args.script.now in
     let g = c.args.gate in
     let s = c.args.shard in
-    let may = subst (λ (v : MachinesView). MayDo script v (Deliver g s c.args.number)) (sym c.self.view_is) c.requires in
+    let may = subst (λ (v : MachinesView). CanBeGiven script v (Deliver g s c.args.number)) (sym c.self.view_is) c.requires in
     let made = c.commits-commits.ensures.count in
     let small = c.commits-commits.ensures.small in
     let few : length (commits_of m.store) < 2 ^ 64 - 1 = omega (arith, made, small) in
@@ -35,7 +35,7 @@ returns-clause-done c =
     let s = c.args.shard in
     let n = c.args.number in
     let new = c.deliver_in.new.shards in
-    if_ok_map c.deliver_in.result (Delivers m.gates m.shards new g s n) _
+    if_ok_map c.deliver_in.result (DeliversToShard m.gates m.shards new g s n) _
     (λ (a : StepAnswer) did. subst (λ (v : MachinesView). MachinesDo script (Deliver g s n) v (machines_of m.gates m.store m.oracle new m.clients m.notices.items) a) c.self.view_is
     (deliver-done script m.gates m.store m.oracle m.shards m.clients m.notices.items new g s n a did))
     c.deliver_in.ensures.delivers

@@ -7,11 +7,11 @@ use Rattle.program_defs.specs.declared.script.Work.TheVariants.{Look}
 use Rattle.report_rules.specs.Lookups.{request_at}
 use Rattle.report_rules.specs.declared.report.StepAnswer.{StepAnswer}
 use Rattle.weaver_core.specs.Cores.{AreOf, MachinesDo, MachinesView, machines_of}
-use Rattle.weaver_core.specs.Finishing.{AreSameParts, Finishes}
+use Rattle.weaver_core.specs.Finishing.{AreSameParts, FinishesInSession}
 use Rattle.weaver_core.specs.GateTable.{GateTable}
 use Rattle.weaver_core.specs.Splitting.{AreAllByLog, RepliesToProgram}
 use Rattle.weaver_core.specs.Walks.{IsLook}
-use Rattle.weaver_core.proofs.CanVisit.{RunLaws}
+use Rattle.weaver_core.proofs.CitedLaws.{RunLaws}
 use Rattle.weaver_core.proofs.FinishDone.{can-be-finished, finish-done, finish-values}
 use Rattle.weaver_core.proofs.Resting.{found, same-sessions}
 use Rattle.weaver_core.proofs.Results.{if_ok_map, on_err_map}
@@ -30,7 +30,7 @@ finish_in-requires c =
     let at = found script r asked (ap is_some c.requires.look.look.request_is) (c.index-as_slice-request.is ∙ ap (λ (requests : List Request). get_or requests r asked) c.as_slice.ensures) in
     let are = subst (AreOf script) (sym c.self.view_is) c.requires.are in
     let all = subst (λ (v : MachinesView). AreAllByLog script v.state.account v.values) (sym c.self.view_is) c.requires.values in
-    let run : RunLaws = record { once = c.requests_end_or_go_on.ensures.once; running = c.what_has_not_ended_goes_on.ensures.running } in
+    let run : RunLaws = record { once = c.requests_end_or_go_on.ensures.once; running = c.what_has_not_ended_goes_on.ensures.running; flight = c.what_has_not_ended_goes_on.ensures.flight } in
     can-be-finished script m.gates m.store m.oracle m.shards m.clients m.notices.items are r asked at c.requires.look.program (its-work script r asked c.requires.look at) c.what_stays.ensures.stay run all
 
 pub returns-clause-done : goal.returns-clause-done
@@ -42,10 +42,10 @@ returns-clause-done c =
     let at = found script r asked (ap is_some c.requires.look.look.request_is) (c.index-as_slice-request.is ∙ ap (λ (requests : List Request). get_or requests r asked) c.as_slice.ensures) in
     let are = subst (AreOf script) (sym c.self.view_is) c.requires.are in
     let all = subst (λ (v : MachinesView). AreAllByLog script v.state.account v.values) (sym c.self.view_is) c.requires.values in
-    let run : RunLaws = record { once = c.requests_end_or_go_on.ensures.once; running = c.what_has_not_ended_goes_on.ensures.running } in
+    let run : RunLaws = record { once = c.requests_end_or_go_on.ensures.once; running = c.what_has_not_ended_goes_on.ensures.running; flight = c.what_has_not_ended_goes_on.ensures.flight } in
     let new = c.finish_in.new.gates in
     let is = c.finish_in.new.clients in
-    if_ok_map c.finish_in.result (Finishes m.gates new m.clients is asked.gate asked.session r) _
+    if_ok_map c.finish_in.result (FinishesInSession m.gates new m.clients is asked.gate asked.session r) _
     (λ (a : StepAnswer) did. subst (λ (v : MachinesView). MachinesDo script (Reply r) v (machines_of new m.store m.oracle m.shards is m.notices.items) a) c.self.view_is
     (finish-done script m.gates m.store m.oracle m.shards m.clients m.notices.items are r asked at c.requires.look.program (its-work script r asked c.requires.look at) c.what_stays.ensures.stay run all
     new is c.order_of_reads_is_free.ensures.next a did))
@@ -60,10 +60,10 @@ returns-clause-values c =
     let at = found script r asked (ap is_some c.requires.look.look.request_is) (c.index-as_slice-request.is ∙ ap (λ (requests : List Request). get_or requests r asked) c.as_slice.ensures) in
     let are = subst (AreOf script) (sym c.self.view_is) c.requires.are in
     let all = subst (λ (v : MachinesView). AreAllByLog script v.state.account v.values) (sym c.self.view_is) c.requires.values in
-    let run : RunLaws = record { once = c.requests_end_or_go_on.ensures.once; running = c.what_has_not_ended_goes_on.ensures.running } in
+    let run : RunLaws = record { once = c.requests_end_or_go_on.ensures.once; running = c.what_has_not_ended_goes_on.ensures.running; flight = c.what_has_not_ended_goes_on.ensures.flight } in
     let new = c.finish_in.new.gates in
     let is = c.finish_in.new.clients in
-    if_ok_map c.finish_in.result (Finishes m.gates new m.clients is asked.gate asked.session r) _
+    if_ok_map c.finish_in.result (FinishesInSession m.gates new m.clients is asked.gate asked.session r) _
     (λ (a : StepAnswer) did. subst (λ (v : MachinesView). RepliesToProgram script r v (machines_of new m.store m.oracle m.shards is m.notices.items) a) c.self.view_is
     (finish-values script m.gates m.store m.oracle m.shards m.clients m.notices.items are r asked at c.requires.look.program (its-work script r asked c.requires.look at) c.what_stays.ensures.stay run all
     new is c.order_of_reads_is_free.ensures.next a did))

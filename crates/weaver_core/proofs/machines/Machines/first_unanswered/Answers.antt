@@ -4,7 +4,8 @@ use Rattle.report_rules.specs.Lookups.{request_at}
 use Rattle.step_rules.specs.Requests.{has_reply}
 use Rattle.weaver_core.specs.Clients.{IsFirstUnanswered}
 use Rattle.weaver_core.specs.Cores.{AreOf, MachinesView}
-use Rattle.weaver_core.proofs.FirstUnanswered.{RequestLaws, none-replied, replied-before}
+use Rattle.weaver_core.proofs.FirstUnanswered.{none-replied, replied-before}
+use Rattle.weaver_core.proofs.CitedLaws.{RequestLaws}
 use Rattle.weaver_core.proofs.Turns.{SessionLaws}
 use Rattle.weaver_core.proofs.machines.Machines.first_unanswered.Goals as goal
 

@@ -3,7 +3,7 @@ use Rattle.vector_stamp.specs.declared.clock.Clock.{Clock}
 use Rattle.program_defs.specs.declared.script.Step.TheVariants.{Hear}
 use Rattle.report_rules.specs.declared.report.StepAnswer.{StepAnswer}
 use Rattle.weaver_core.specs.Clocking.{Hears}
-use Rattle.weaver_core.specs.Cores.{MachinesDo, MachinesView, MayDo, machines_of}
+use Rattle.weaver_core.specs.Cores.{MachinesDo, MachinesView, CanBeGiven, machines_of}
 use Rattle.weaver_core.proofs.ClockDone.{hear-done}
 use Rattle.weaver_core.proofs.Resting.{gate-there, same-gates}
 use Rattle.weaver_core.proofs.Results.{if_ok_map, on_err_map}
@@ -11,7 +11,7 @@ use Rattle.weaver_core.proofs.machines.Machines.hear.Goals as goal
 
 pub hear_in-requires : goal.hear_in-requires
 hear_in-requires c =
-    let may = subst (λ (v : MachinesView). MayDo c.args.script.now v (Hear c.args.gate c.args.notice)) (sym c.self.view_is) c.requires in
+    let may = subst (λ (v : MachinesView). CanBeGiven c.args.script.now v (Hear c.args.gate c.args.notice)) (sym c.self.view_is) c.requires in
     gate-there c.args.script.now _ c.args.gate may.are.frame may.there.0
 
 pub returns-clause-done : goal.returns-clause-done

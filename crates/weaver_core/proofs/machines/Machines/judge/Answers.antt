@@ -1,7 +1,7 @@
 use Rattle.std.proofs.Common.{◌≡◌, ◌∙◌, sym, subst}
 use Rattle.program_defs.specs.declared.script.Step.TheVariants.{Judge}
 use Rattle.report_rules.specs.declared.report.StepAnswer.{StepAnswer}
-use Rattle.weaver_core.specs.Cores.{MachinesDo, MachinesView, MayDo, machines_of}
+use Rattle.weaver_core.specs.Cores.{MachinesDo, MachinesView, CanBeGiven, machines_of}
 use Rattle.weaver_core.specs.Judging.{JudgesFlight}
 use Rattle.weaver_core.proofs.JudgeDone.{JudgeLaws, can-be-judged, judge-done}
 use Rattle.weaver_core.proofs.Resting.{gate-there}
@@ -13,19 +13,14 @@ judge_in-requires c =
     let m = c.self.inside in
     let script = c.args.script.now in
     let g = c.args.gate in
-    let may = subst (λ (v : MachinesView). MayDo script v (Judge g)) (sym c.self.view_is) c.requires in
+    let may = subst (λ (v : MachinesView). CanBeGiven script v (Judge g)) (sym c.self.view_is) c.requires in
     let laws : JudgeLaws = record {
-      coherent = c.begun_stamps_are_coherent.ensures.coherent;
-      differ = c.begun_stamps_are_coherent.ensures.differ;
-      begun = c.judgements_are_of_requests.ensures.begun;
-      once = c.requests_end_or_go_on.ensures.once;
+      stamps = record { coherent = c.begun_stamps_are_coherent.ensures.coherent; differ = c.begun_stamps_are_coherent.ensures.differ; begun = c.judgements_are_of_requests.ensures.begun };
+      asked = record { paired = c.stamps_are_begun.ensures.paired; part = c.parts_and_unions_are_coherent.ensures.part; no_others = c.ends_are_of_pairs.ensures.no_others };
+      run = record { once = c.requests_end_or_go_on.ensures.once; running = c.what_has_not_ended_goes_on.ensures.running; flight = c.what_has_not_ended_goes_on.ensures.flight };
       flights = c.requests_end_or_go_on.ensures.flights;
       judged = c.stamps_are_begun.ensures.judged;
-      paired = c.stamps_are_begun.ensures.paired;
-      flight = c.what_has_not_ended_goes_on.ensures.flight;
-      part = c.parts_and_unions_are_coherent.ensures.part;
       kept = c.what_is_asked_is_kept.ensures.kept;
-      no_others = c.ends_are_of_pairs.ensures.no_others;
     } in
     record {
       there = gate-there script _ g may.are.frame may.there;
@@ -37,7 +32,7 @@ returns-clause-done c =
     let m = c.self.inside in
     let script = c.args.script.now in
     let g = c.args.gate in
-    let may = subst (λ (v : MachinesView). MayDo script v (Judge g)) (sym c.self.view_is) c.requires in
+    let may = subst (λ (v : MachinesView). CanBeGiven script v (Judge g)) (sym c.self.view_is) c.requires in
     let store = c.judge_in.new.store in
     let oracle = c.judge_in.new.oracle in
     if_ok_map c.judge_in.result (JudgesFlight script m.gates m.store store m.oracle oracle g) _

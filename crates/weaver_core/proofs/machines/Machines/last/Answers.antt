@@ -1,8 +1,8 @@
 use Rattle.std.proofs.Common.{[], ap, ◌∙◌}
 use Rattle.step_rules.specs.Requests.{last_begun}
+use Rattle.weave_account.proofs.InSession.{last-any}
 use Rattle.weaver_core.specs.Cores.{MachinesView}
 use Rattle.weaver_core.specs.Clients.{log_at, requests_at}
-use Rattle.weaver_core.proofs.Turns.{last-any}
 use Rattle.weaver_core.proofs.machines.Machines.last.Goals as goal
 
 pub returns : goal.returns

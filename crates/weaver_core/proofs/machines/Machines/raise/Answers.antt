@@ -2,7 +2,7 @@ use Rattle.std.proofs.Common.{◌≡◌, ◌∙◌, sym, subst}
 use Rattle.program_defs.specs.declared.script.Step.TheVariants.{Epoch}
 use Rattle.report_rules.specs.declared.report.StepAnswer.{StepAnswer}
 use Rattle.weaver_core.specs.Clocking.{Raises}
-use Rattle.weaver_core.specs.Cores.{MachinesDo, MachinesView, MayDo, machines_of}
+use Rattle.weaver_core.specs.Cores.{MachinesDo, MachinesView, CanBeGiven, machines_of}
 use Rattle.weaver_core.proofs.ClockDone.{raise-done}
 use Rattle.weaver_core.proofs.Resting.{gate-there, same-gates}
 use Rattle.weaver_core.proofs.Results.{if_ok_map, on_err_map}
@@ -10,7 +10,7 @@ use Rattle.weaver_core.proofs.machines.Machines.raise.Goals as goal
 
 pub raise_in-requires : goal.raise_in-requires
 raise_in-requires c =
-    let may = subst (λ (v : MachinesView). MayDo c.args.script.now v (Epoch c.args.gate c.args.epoch)) (sym c.self.view_is) c.requires in
+    let may = subst (λ (v : MachinesView). CanBeGiven c.args.script.now v (Epoch c.args.gate c.args.epoch)) (sym c.self.view_is) c.requires in
     gate-there c.args.script.now _ c.args.gate may.are.frame may.there.0
 
 pub returns-clause-done : goal.returns-clause-done

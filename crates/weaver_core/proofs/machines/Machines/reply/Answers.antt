@@ -2,7 +2,7 @@ use Rattle.std.proofs.Common.{◌∙◌, sym, subst}
 use Rattle.program_defs.specs.declared.script.Step.TheVariants.{Reply}
 use Rattle.report_rules.specs.declared.report.StepAnswer.{StepAnswer}
 use Rattle.weaver_core.specs.Clients.{AreSameClients}
-use Rattle.weaver_core.specs.Cores.{MachinesDo, MachinesView, MayDo, RepliesToChange, machines_of}
+use Rattle.weaver_core.specs.Cores.{MachinesDo, MachinesView, CanBeGiven, RepliesToChange, machines_of}
 use Rattle.weaver_core.specs.Replying.{Replies}
 use Rattle.weaver_core.proofs.ReplyDone.{ReplyLaws, reply-done, reply-values, there}
 use Rattle.weaver_core.proofs.Resting.{same-sessions, some-request}
@@ -13,8 +13,8 @@ pub reply_in-requires : goal.reply_in-requires
 reply_in-requires c =
     let m = c.self.inside in
     let script = c.args.script.now in
-    let may = subst (λ (v : MachinesView). MayDo script v (Reply c.args.request)) (sym c.self.view_is) c.requires in
-    let laws : ReplyLaws = record { sent = c.requests_end_or_go_on.ensures.sent; among = c.requests_of_a_session_rise.ensures.among } in
+    let may = subst (λ (v : MachinesView). CanBeGiven script v (Reply c.args.request)) (sym c.self.view_is) c.requires in
+    let laws : ReplyLaws = record { requests = record { rise = c.requests_of_a_session_rise.ensures.rise; among = c.requests_of_a_session_rise.ensures.among }; sent = c.requests_end_or_go_on.ensures.sent } in
     record {
       there = some-request script c.args.request may.there;
       ready = there script m.gates m.store m.oracle m.shards m.clients m.notices.items may.are laws c.args.request;
@@ -25,8 +25,8 @@ returns-clause-done c =
     let m = c.self.inside in
     let script = c.args.script.now in
     let r = c.args.request in
-    let may = subst (λ (v : MachinesView). MayDo script v (Reply r)) (sym c.self.view_is) c.requires in
-    let laws : ReplyLaws = record { sent = c.requests_end_or_go_on.ensures.sent; among = c.requests_of_a_session_rise.ensures.among } in
+    let may = subst (λ (v : MachinesView). CanBeGiven script v (Reply r)) (sym c.self.view_is) c.requires in
+    let laws : ReplyLaws = record { requests = record { rise = c.requests_of_a_session_rise.ensures.rise; among = c.requests_of_a_session_rise.ensures.among }; sent = c.requests_end_or_go_on.ensures.sent } in
     let is = c.reply_in.new.clients in
     if_ok_map c.reply_in.result (Replies script m.gates m.store m.clients is r) _
     (λ (a : StepAnswer) did. subst (λ (v : MachinesView). MachinesDo script (Reply r) v (machines_of m.gates m.store m.oracle m.shards is m.notices.items) a) c.self.view_is
@@ -43,8 +43,8 @@ returns-clause-values c =
     let m = c.self.inside in
     let script = c.args.script.now in
     let r = c.args.request in
-    let may = subst (λ (v : MachinesView). MayDo script v (Reply r)) (sym c.self.view_is) c.requires in
-    let laws : ReplyLaws = record { sent = c.requests_end_or_go_on.ensures.sent; among = c.requests_of_a_session_rise.ensures.among } in
+    let may = subst (λ (v : MachinesView). CanBeGiven script v (Reply r)) (sym c.self.view_is) c.requires in
+    let laws : ReplyLaws = record { requests = record { rise = c.requests_of_a_session_rise.ensures.rise; among = c.requests_of_a_session_rise.ensures.among }; sent = c.requests_end_or_go_on.ensures.sent } in
     let is = c.reply_in.new.clients in
     if_ok_map c.reply_in.result (Replies script m.gates m.store m.clients is r) _
     (λ (a : StepAnswer) did. subst (λ (v : MachinesView). RepliesToChange script r v (machines_of m.gates m.store m.oracle m.shards is m.notices.items) a) c.self.view_is

@@ -2,7 +2,7 @@ use Rattle.std.proofs.Common.{◌∙◌, ◌++◌, ◌∷◌, [], List, sym, ap,
 use Rattle.vector_stamp.specs.declared.clock.Clock.{Clock}
 use Rattle.program_defs.specs.declared.script.Step.TheVariants.{Say}
 use Rattle.report_rules.specs.declared.report.StepAnswer.TheVariants.{Ok}
-use Rattle.weaver_core.specs.Cores.{MachinesDo, MachinesView, MayDo, machines_of}
+use Rattle.weaver_core.specs.Cores.{MachinesDo, MachinesView, CanBeGiven, machines_of}
 use Rattle.weaver_core.proofs.ClockDone.{say-done}
 use Rattle.weaver_core.proofs.Resting.{gate-there}
 use Rattle.weaver_core.proofs.Results.{on_err_known}
@@ -11,7 +11,7 @@ use Rattle.weaver_core.proofs.machines.Machines.say.Goals as goal
 -- the gatekeeper is there
 pub say-clock-requires : goal.say-clock-requires
 say-clock-requires c =
-    let may = subst (λ (v : MachinesView). MayDo c.args.script.now v (Say c.args.gate)) (sym c.self.view_is) c.requires in
+    let may = subst (λ (v : MachinesView). CanBeGiven c.args.script.now v (Say c.args.gate)) (sym c.self.view_is) c.requires in
     gate-there c.args.script.now _ c.args.gate may.are.frame may.there
 
 -- a capacity is not in the view

@@ -18,12 +18,9 @@ report_of-requires c =
     let m = c.self.inside in
     let script = c.args.script.now in
     let laws : ReportLaws = record {
-      coherent = c.begun_stamps_are_coherent.ensures.coherent;
-      differ = c.begun_stamps_are_coherent.ensures.differ;
+      stamps = record { coherent = c.begun_stamps_are_coherent.ensures.coherent; differ = c.begun_stamps_are_coherent.ensures.differ; begun = c.judgements_are_of_requests.ensures.begun };
+      commits = record { work = c.judgements_are_of_requests.ensures.work; whole = c.updates_are_commits.ensures.whole };
       settled = c.stamps_are_begun.ensures.settled;
-      work = c.judgements_are_of_requests.ensures.work;
-      begun = c.judgements_are_of_requests.ensures.begun;
-      whole = c.updates_are_commits.ensures.whole;
       same_stamps = c.equality_is_decided.ensures.stamps;
       placed = c.placed_pairs_are_the_pairs.ensures;
     } in
@@ -52,12 +49,9 @@ returns-clause-matches c =
     let m = c.self.inside in
     let script = c.args.script.now in
     let laws : ReportLaws = record {
-      coherent = c.begun_stamps_are_coherent.ensures.coherent;
-      differ = c.begun_stamps_are_coherent.ensures.differ;
+      stamps = record { coherent = c.begun_stamps_are_coherent.ensures.coherent; differ = c.begun_stamps_are_coherent.ensures.differ; begun = c.judgements_are_of_requests.ensures.begun };
+      commits = record { work = c.judgements_are_of_requests.ensures.work; whole = c.updates_are_commits.ensures.whole };
       settled = c.stamps_are_begun.ensures.settled;
-      work = c.judgements_are_of_requests.ensures.work;
-      begun = c.judgements_are_of_requests.ensures.begun;
-      whole = c.updates_are_commits.ensures.whole;
       same_stamps = c.equality_is_decided.ensures.stamps;
       placed = c.placed_pairs_are_the_pairs.ensures;
     } in

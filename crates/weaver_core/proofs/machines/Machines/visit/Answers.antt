@@ -6,9 +6,10 @@ use Rattle.program_defs.specs.declared.script.Script.{Script}
 use Rattle.program_defs.specs.declared.script.Step.TheVariants.{Visit}
 use Rattle.report_rules.specs.declared.report.StepAnswer.{StepAnswer}
 use Rattle.weaver_core.specs.Cores.{AreOf, MachinesDo, MachinesView, machines_of}
-use Rattle.weaver_core.specs.Visiting.{AreSameLogs, Visits}
+use Rattle.weaver_core.specs.Visiting.{AreSameLogs, VisitsForProgram}
 use Rattle.weaver_core.specs.Walks.{IsRunningIn}
-use Rattle.weaver_core.proofs.CanVisit.{CanVisitLaws, RunLaws, can-be-visited}
+use Rattle.weaver_core.proofs.CanVisit.{CanVisitLaws, can-be-visited}
+use Rattle.weaver_core.proofs.CitedLaws.{RunLaws}
 use Rattle.weaver_core.proofs.VisitDone.{visit-done, visit-stamp}
 use Rattle.weaver_core.proofs.VisitAfter.{account-after, request-below, runs-after, runs-if-same}
 use Rattle.weaver_core.proofs.Results.{either_way, if_ok_map, on_err_map}
@@ -22,18 +23,13 @@ visit_next-requires c =
     let are = subst (AreOf script) (sym c.self.view_is) c.requires.are in
     let runs = subst (λ (v : MachinesView). IsRunningIn script v.state.account c.args.request running) (sym c.self.view_is) c.requires.runs in
     let laws : CanVisitLaws = record {
-      coherent = c.begun_stamps_are_coherent.ensures.coherent;
-      differ = c.begun_stamps_are_coherent.ensures.differ;
-      work = c.judgements_are_of_requests.ensures.work;
-      begun = c.judgements_are_of_requests.ensures.begun;
+      stamps = record { coherent = c.begun_stamps_are_coherent.ensures.coherent; differ = c.begun_stamps_are_coherent.ensures.differ; begun = c.judgements_are_of_requests.ensures.begun };
+      commits = record { work = c.judgements_are_of_requests.ensures.work; whole = c.updates_are_commits.ensures.whole };
+      asked = record { paired = c.stamps_are_begun.ensures.paired; part = c.parts_and_unions_are_coherent.ensures.part; no_others = c.ends_are_of_pairs.ensures.no_others };
       updates = c.stamps_are_begun.ensures.updates;
-      paired = c.stamps_are_begun.ensures.paired;
-      part = c.parts_and_unions_are_coherent.ensures.part;
-      no_others = c.ends_are_of_pairs.ensures.no_others;
-      whole = c.updates_are_commits.ensures.whole;
       kept = c.collections_leave_what_programs_see.ensures.kept;
     } in
-    let run : RunLaws = record { once = c.requests_end_or_go_on.ensures.once; running = c.what_has_not_ended_goes_on.ensures.running } in
+    let run : RunLaws = record { once = c.requests_end_or_go_on.ensures.once; running = c.what_has_not_ended_goes_on.ensures.running; flight = c.what_has_not_ended_goes_on.ensures.flight } in
     record {
       some = are.limits.some_shard;
       many = are.core.account.shards.as_many;
@@ -52,7 +48,7 @@ returns-clause-done c =
     let new = c.visit_next.new.shards in
     let oracle = c.visit_next.new.oracle in
     let now = c.visit_next.new.running in
-    if_ok_map c.visit_next.result (Visits script.shards m.shards new m.oracle oracle running now) _
+    if_ok_map c.visit_next.result (VisitsForProgram script.shards m.shards new m.oracle oracle running now) _
     (λ (a : StepAnswer) did. subst (λ (v : MachinesView). MachinesDo script (Visit r) v (machines_of m.gates m.store oracle new m.clients m.notices.items) a) c.self.view_is
     (visit-done script m.gates m.store m.oracle m.shards m.clients m.notices.items are r running runs c.order_of_reads_is_free.ensures.next c.visit_next.ensures.asks are.frame.senders new oracle now a did))
     c.visit_next.ensures.visits
@@ -82,7 +78,7 @@ returns-clause-runs c =
     let now = c.visit_next.new.running in
     let asks = c.visit_next.ensures.asks in
     let free = c.order_of_reads_is_free.ensures.next in
-    either_way c.visit_next.result (Visits script.shards m.shards new m.oracle oracle running now) (AreSameLogs m.shards new m.oracle oracle running now) _
+    either_way c.visit_next.result (VisitsForProgram script.shards m.shards new m.oracle oracle running now) (AreSameLogs m.shards new m.oracle oracle running now) _
     (λ (a : StepAnswer) did.
     let done = visit-done script m.gates m.store m.oracle m.shards m.clients m.notices.items are r running runs free asks are.frame.senders new oracle now a did in
     let after = account-after c.what_stays.ensures.core script old (machines_of m.gates m.store oracle new m.clients m.notices.items) (Visit r) are (request-below script r runs.look.request runs.look.request_is) a done in
@@ -98,7 +94,7 @@ returns-clause-same c =
     let new = c.visit_next.new.shards in
     let oracle = c.visit_next.new.oracle in
     let now = c.visit_next.new.running in
-    either_way c.visit_next.result (Visits script.shards m.shards new m.oracle oracle running now) (AreSameLogs m.shards new m.oracle oracle running now) _
+    either_way c.visit_next.result (VisitsForProgram script.shards m.shards new m.oracle oracle running now) (AreSameLogs m.shards new m.oracle oracle running now) _
     (λ (a : StepAnswer) did. visit-stamp script.shards m.shards new m.oracle oracle running now a did)
     (λ same. same.program.stamp_is)
     c.visit_next.ensures.visits c.visit_next.ensures.refused

@@ -2,7 +2,7 @@ use Rattle.std.proofs.Common.{◌≡◌, ◌<◌, length, sym, ap, subst, ◌∙
 use Rattle.std.specs.Prelude.{slice_set}
 use Rattle.shard_queue.specs.declared.inbox.Arrival.{Arrival}
 use Rattle.weave_entries.specs.declared.shard_log.ShardDeed.TheVariants.{Arrived}
-use Rattle.weaver_core.specs.Messages.{Arrives}
+use Rattle.weaver_core.specs.Messages.{ArrivesAtShard}
 use Rattle.weaver_core.specs.ShardTable.{ShardTable, log_of}
 use Rattle.weaver_core.proofs.AtShards.{alike-if-arrives, arrives-at, still-in-order, table-rests, table_of}
 use Rattle.weaver_core.proofs.Results.{if_ok_three, on_err_map}
@@ -40,7 +40,7 @@ returns-clause-arrives c =
     let within = within-image log_of shards s (subst (λ (v : ShardTable). s < length v.logs) (sym c.self.view_is) c.requires.there) in
     let at = read-at shards s before within c.index_mut-shard.ensures.value in
     if_ok_three c.arrive.result _ _ _ _
-    (λ (arrival : Arrival) is kept repeat. subst (λ (v : ShardTable). Arrives v (table_of gates (slice_set shards s after)) s c.args.gate c.args.number c.args.message arrival) c.self.view_is
+    (λ (arrival : Arrival) is kept repeat. subst (λ (v : ShardTable). ArrivesAtShard v (table_of gates (slice_set shards s after)) s c.args.gate c.args.number c.args.message arrival) c.self.view_is
     (arrives-at gates shards s before after within at c.args.gate c.args.number c.args.message arrival is kept repeat))
     c.arrive.ensures.answer c.arrive.ensures.kept c.arrive.ensures.repeat
 

@@ -3,7 +3,7 @@ use Rattle.std.specs.Prelude.{slice_set}
 use Rattle.shard_node.specs.Shards.{AddsEntry}
 use Rattle.weave_entries.specs.declared.shard_log.ShardDeed.TheVariants.{Collected}
 use Rattle.weave_entries.specs.ShardReplay.{bound_of}
-use Rattle.weaver_core.specs.ShardTable.{AddsAt, ShardTable, log_at, log_of}
+use Rattle.weaver_core.specs.ShardTable.{AddsToShard, ShardTable, log_at, log_of}
 use Rattle.weaver_core.proofs.AtShards.{adds-at, alike-if-adds, alike-if-same, log-is, still-in-order, table-rests, table_of}
 use Rattle.weaver_core.proofs.Results.{on_either, on_err_map, on_ok_map}
 use Rattle.weaver_core.proofs.Tables.{read-at, within-image}
@@ -33,7 +33,7 @@ returns-clause-collected c =
     let deed : Collected (bound_of before.gates before.log) ≡ Collected (bound_of gates (log_at (table_of gates shards) s)) =
     λ i. Collected (bound_of (c.self.invariant.each_gates s before at i) (log-is gates shards s before before within at i)) in
     on_ok_map c.collect.result (AddsEntry before after 0 (Collected (bound_of before.gates before.log))) _
-    (λ adds. subst (λ (v : ShardTable). AddsAt v (table_of gates (slice_set shards s after)) s (Collected (bound_of v.gates (log_at v s)))) c.self.view_is
+    (λ adds. subst (λ (v : ShardTable). AddsToShard v (table_of gates (slice_set shards s after)) s (Collected (bound_of v.gates (log_at v s)))) c.self.view_is
     (adds-at gates shards s before after within at (Collected (bound_of gates (log_at (table_of gates shards) s))) (subst (AddsEntry before after 0) deed adds)))
     c.collect.ensures.entry
 
