@@ -122,7 +122,7 @@ const PATH_BEFORE_DELETION: &str =
     "weaver 1 2 2\ntx t0 0 0\ncreate v\nlink v e w\ncreate w\nend\ntx t1 1 1\ncreate v\nend\ntx t2 0 1\nset w k x\nend\nprog p 1 0 path v w 3\ntx t4 0 0\ndelete w\nend\ntx t5 2 1\nset v k x\nend\ntx t6 0 1\nget v\nend\nprog q 3 0 around v 2\n";
 
 // Two shards, v on the first and w on the second. A transaction is refused. A program begins before w is deleted, and
-// goes on while messages are brought by both hands, one of them twice and one before its turn. At the end a transaction
+// goes on while messages are brought by both hands, two of them twice and one before its turn. At the end a transaction
 // is in flight at the second gatekeeper, and a program waits for it.
 const PATH_BEFORE_DELETION_CALLS: [Row; 52] = [
     (0, Call::Transact(0), "0:0:1,0 committed 1"),

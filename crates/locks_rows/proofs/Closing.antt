@@ -3,14 +3,14 @@ use Rattle.std.proofs.Common.{ℕ, ◌<◌, List, length, map, sym, subst, Conta
 use Rattle.std.specs.List.{All}
 use Rattle.weaver_locks.specs.declared.shared.Shared.{Shared}
 use Rattle.weaver_locks.specs.Hands.{hand_number, IsHand}
+use Rattle.weaver_locks.proofs.Lists.{all-images, has-images, map_twice}
 use Rattle.locks_rows.specs.declared.worker.Player.{Player}
 use Rattle.locks_rows.specs.Workers.{ArePlayers, hand_in}
-use Rattle.locks_rows.proofs.Table.{all-images, has-images, mapped-twice}
 
 module _ (shared : Shared) (players : List Player) (are : ArePlayers shared players) where
   pub each-hand : All (IsHand shared) (map hand_in players)
   each-hand = all-images (IsHand shared) hand_in players (λ k p low. (are k p low).is.worker.hand)
 
   pub all-hands : (n : ℕ) → n < length players → Contains (map hand_number (map hand_in players)) n
-  all-hands n low = subst (λ (l : List ℕ). Contains l n) (sym (mapped-twice hand_number hand_in players))
+  all-hands n low = subst (λ (l : List ℕ). Contains l n) (sym (map_twice hand_number hand_in players))
       (has-images (λ (p : Player). hand_number (hand_in p)) players (λ k p there. (are k p there).number_is) n low)

@@ -1,8 +1,6 @@
 -- What a worker keeps stays true in its hand's next hold.
 use Rattle.std.proofs.Common.{◌≡◌, ◌≢◌, ℕ, suc, ◌+◌, ◌<◌, ◌≤◌, List, [], ◌∷◌, length, Contains, inl, inr, refl, sym, ap, subst, arith}
-use Rattle.std.specs.Prelude.{Option, None, Some, Result}
-use Rattle.std.specs.Option.{ForSome}
-use Rattle.std.proofs.lemmas.Option.{none-some, same_Some}
+use Rattle.std.specs.Prelude.{None, Some, Result}
 use Rattle.proof_base.proofs.Members.{has_head, has_flat}
 use Rattle.vector_stamp.specs.declared.clock.Clock.{Clock}
 use Rattle.vector_stamp.specs.declared.clock.Stamp.{Stamp}
@@ -26,6 +24,7 @@ use Rattle.weaver_locks.specs.ShardHolds.{WasAtShard}
 use Rattle.weaver_locks.specs.StoreHolds.{WasAtStore}
 use Rattle.locks_rows.specs.declared.worker.Walk.{Walk}
 use Rattle.locks_rows.specs.declared.worker.Worker.{Worker}
+use Rattle.weaver_locks.proofs.Options.{for-some, just, nothing-there}
 use Rattle.locks_rows.specs.Going.{WorkersLaws}
 use Rattle.locks_rows.specs.Workers.{IsWorker, MadeBut, MayVisit}
 use Rattle.locks_rows.proofs.Made.{BeginBelow, Quiet, finish-below, made-elsewhere, made-gate, made-there, one-unfinished, begins-unfinished, finish-unfinished, quiet-unfinished, still-unfinished, FinishBelow, program-below, quiet-below, still-new, tx-below}
@@ -36,19 +35,6 @@ pub record WentOn (shared : Shared) (old new : Hand) (added : List GateEntry) : 
   pub number : hand_number new ≡ hand_number old
   pub more : IsWithin (seen_by old) (seen_by new)
   pub made : MadeBut old new added
-
-pub nothing-there : {A : Type 0} (P : A → Type 0) → (let none : Option A = None in ForSome none P)
-nothing-there P x is = absurd (none-some x is)
-
-pub for-some : {A : Type 0} (P Q : A → Type 0) (o : Option A) → ((x : A) → P x → Q x) → ForSome o P → ForSome o Q
-for-some P Q o on had x is = on x (had x is)
-
-pub just : {A : Type 0} (P : A → Type 0) (x : A) → P x → ForSome (Some x) P
-just P x holds y is = subst P (same_Some x y is) holds
-
--- the last stamp, if it was asked for
-pub asked-last : (P : Stamp → Type 0) (asked last : Option Stamp) → ForSome asked (λ stamp. last ≡ Some stamp) → ForSome last P → ForSome asked P
-asked-last P asked last same holds x is = holds x (same x is)
 
 module _ (laws : WorkersLaws) (shared : Shared) (old new : Hand) (added : List GateEntry) (on : WentOn shared old new added) where
   pub known-on : (clock : Clock) → IsKnown (seen_by old) clock → IsKnown (seen_by new) clock
@@ -185,7 +171,7 @@ module _ (laws : WorkersLaws) (shared : Shared) (old new : Hand) (added : List G
 pub runs-now : WorkersLaws → (shared : Shared) (hand : Hand) → IsHand shared hand → (home r : ℕ) (stamp : Stamp) → MayVisit hand home r stamp
     → Contains (running_of (gate_log (seen_by hand) home)) (record { author = hand_number hand; request = r; stamp = stamp })
 runs-now laws shared hand is home r stamp may = laws.runs (gate_log (seen_by hand) home) (hand_number hand) r stamp may.begun
-    (λ entry there by. may.goes_on entry (made-gate laws shared hand is home entry there by))
+    (λ entry there by. may.goes_on entry (made-gate shared hand is home entry there by))
 
 -- Holds
 

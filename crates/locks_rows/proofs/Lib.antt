@@ -6,4 +6,3 @@ pub mod Opening
 pub mod Read
 pub mod Sending
 pub mod SentRun
-pub mod Table

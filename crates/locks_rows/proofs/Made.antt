@@ -1,60 +1,31 @@
 -- What a hand made at gatekeepers, and what it has not made.
-use Rattle.std.proofs.Common.{◌≡◌, ◌≢◌, ◌⊎◌, ℕ, ◌<◌, ◌≤◌, ◌==◌, zero, suc, List, [], ◌∷◌, ◌++◌, length, map, get_or, set, Contains, inl, inr, refl, sym, ap, ◌∙◌, subst, arith, eq-eqb}
+use Rattle.std.proofs.Common.{eqb, ◌≡◌, eqb, ◌≢◌, ◌⊎◌, ℕ, ◌<◌, ◌≤◌, zero, suc, List, [], ◌∷◌, ◌++◌, get_or, set, Contains, inl, inr, refl, sym, ap, ◌∙◌, subst, arith, eq-eqb}
 use Rattle.std.specs.Prelude.{Result, Ok, Err}
-use Rattle.std.proofs.lemmas.Bool.{cases_lt}
-use Rattle.std.proofs.lemmas.List.{get_or_past, get_or-map, length-map}
 use Rattle.std.proofs.lemmas.List.Elements.{Contains-append_cases}
-use Rattle.proof_base.proofs.Members.{flat_has, has_filter, has_flat, has_map, has_none, map_has, only}
+use Rattle.proof_base.proofs.Members.{flat_has, has_filter, has_flat, has_none, only}
 use Rattle.weave_entries.specs.declared.gate_log.GateDeed.{GateDeed}
 use Rattle.weave_entries.specs.declared.gate_log.GateDeed.TheVariants.{BeganTx, BeganProgram, Sent, Nop, Heard, Finished}
 use Rattle.weave_entries.specs.declared.gate_log.GateEntry.{GateEntry}
 use Rattle.weave_entries.specs.GateReplay.{Begun, begun_by}
 use Rattle.weave_account.specs.declared.account.Account.{Account}
 use Rattle.weave_account.specs.Account.{gate_log}
-use Rattle.seen_logs.specs.Entries.{gate_entries, gate_entry}
-use Rattle.chronicle.specs.declared.pass.Pass.{Pass}
-use Rattle.chronicle.specs.Passes.{number_of, own, seen}
-use Rattle.lock_row.proofs.Lists.{one_of}
 use Rattle.weaver_locks.specs.declared.hand.Hand.{Hand}
 use Rattle.weaver_locks.specs.declared.shared.Shared.{Shared}
 use Rattle.weaver_locks.specs.Following.{HasNotBegun}
 use Rattle.weaver_locks.specs.GateHolds.{gate_entries_of, gate_entry_by}
 use Rattle.weaver_locks.specs.Hands.{hand_number, made_by, seen_by, with_gate_entries, IsHand}
-use Rattle.locks_rows.specs.Going.{WorkersLaws}
+use Rattle.weaver_locks.proofs.EachLog.{own-gate}
 use Rattle.locks_rows.specs.Workers.{HasNotFinished, MadeBut}
 
 -- an entry with the hand's number that was seen at a gatekeeper is one that the hand made
-pub made-gate : WorkersLaws → (shared : Shared) (hand : Hand) → IsHand shared hand → (home : ℕ) (entry : GateEntry)
+pub made-gate : (shared : Shared) (hand : Hand) → IsHand shared hand → (home : ℕ) (entry : GateEntry)
     → Contains (gate_log (seen_by hand) home) entry → entry.author ≡ hand_number hand → Contains (gate_log (made_by hand) home) entry
-made-gate laws shared hand is home entry there author_is =
-    let gates = hand.gates.items in
-    let seen_at = laws.at_gate (map seen gates) (seen hand.store) (seen hand.oracle) (map seen hand.shards.items) home in
-    let made_at = laws.at_gate (map own gates) (own hand.store) (own hand.oracle) (map own hand.shards.items) home in
-    elim (cases_lt home (length gates)) [
-      | inl low ↦
-          let p : Pass GateDeed = get_or gates home (one_of gates home low) in
-          let a : get_or (map seen gates) home [] ≡ seen p = get_or-map seen gates home (one_of gates home low) [] low in
-          let b : get_or (map own gates) home [] ≡ own p = get_or-map own gates home (one_of gates home low) [] low in
-          let number : number_of p ≡ hand_number hand = is.gate_numbers home (one_of gates home low) low in
-          let pair = map_has gate_entry (seen p) entry (subst (λ l. Contains l entry) (seen_at ∙ ap gate_entries a) there) in
-          let mine : (pair.0).0 ≡ number_of p = ap (λ (e : GateEntry). e.author) pair.2 ∙ author_is ∙ sym number in
-          let kept = has_filter (λ e. e.0 == number_of p) (seen p) pair.0 pair.1 (eq-eqb (pair.0).0 (number_of p) mine) in
-          let here = subst (Contains (gate_entries (own p))) pair.2 (has_map gate_entry (own p) pair.0 kept) in
-          subst (λ l. Contains l entry) (sym (made_at ∙ ap gate_entries b)) here
-      | inr past ↦
-          let a : get_or (map seen gates) home [] ≡ [] = get_or_past (map seen gates) home [] (omega (arith, length-map gates seen, past)) in
-          absurd (has_none entry (subst (λ l. Contains l entry) (seen_at ∙ ap gate_entries a) there))
-    ]
+made-gate shared hand is home entry there author_is =
+    subst (λ (l : List GateEntry). Contains l entry) (sym (own-gate shared hand is home))
+    (has_filter (λ (e : GateEntry). eqb e.author (hand_number hand)) (gate_log (seen_by hand) home) entry there
+    (eq-eqb entry.author (hand_number hand) author_is))
 
 -- what is in a changed list at a place was there, or was put there
-set-has : {A : Type 0} (xss : List (List A)) (place k : ℕ) (ys : List A) (x : A) → Contains (get_or (set xss place ys) k []) x
-    → Contains (get_or xss k []) x ⊎ Contains ys x
-set-has [] place k ys x h = inl h
-set-has (xs ∷ xss) zero zero ys x h = inr h
-set-has (xs ∷ xss) zero (suc k) ys x h = inl h
-set-has (xs ∷ xss) (suc place) zero ys x h = inl h
-set-has (xs ∷ xss) (suc place) (suc k) ys x h = set-has xss place k ys x h
-
 set-more : {A : Type 0} (xss : List (List A)) (place k : ℕ) (ys : List A) (x : A)
     → Contains (get_or (set xss place (get_or xss place [] ++ ys)) k []) x → Contains (get_or xss k []) x ⊎ Contains ys x
 set-more [] place k ys x h = inl h

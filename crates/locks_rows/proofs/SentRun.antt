@@ -26,7 +26,7 @@ use Rattle.chronicle.specs.Passes.{noted}
 use Rattle.shard_node.specs.Shards.{ShardView}
 use Rattle.shard_lock.specs.declared.notes.ShardNotes.{ShardNotes}
 use Rattle.shard_lock.specs.Notes.{IsKept, at_place, seen_of}
-use Rattle.locks_rows.specs.Dropping.{IsSent, begin_entry, deleted, empty, empty_entry, judge_entry, judged_log, logs_noted, made, part_of, run, send_entry, sent_log, stamp_of_count, verdict_of, vertex}
+use Rattle.locks_rows.specs.Dropping.{IsSentToShard, begin_entry, deleted, empty, empty_entry, judge_entry, judged_log, logs_noted, made, part_of, run, send_entry, sent_log, stamp_of_count, verdict_of, vertex}
 
 -- what a shard without entries has seen
 abbrev new : Account
@@ -105,7 +105,7 @@ takable before op small = (
   All-cons (λ (part : Part). part.before < 18446744073709551615) (part_of before op) [] small (All-nil _),
 )
 
-pub made-sent : IsSent 1 made
+pub made-sent : IsSentToShard 1 made
 made-sent = record {
   from_one = omega arith;
   takable = record { apart = (takable 0 (Create vertex) (omega arith)).0; small = (takable 0 (Create vertex) (omega arith)).1 };
@@ -125,7 +125,7 @@ made-sent = record {
   };
 }
 
-pub deleted-sent : IsSent 2 deleted
+pub deleted-sent : IsSentToShard 2 deleted
 deleted-sent = record {
   from_one = omega arith;
   takable = record { apart = (takable 1 (Delete vertex) (omega arith)).0; small = (takable 1 (Delete vertex) (omega arith)).1 };
@@ -145,7 +145,7 @@ deleted-sent = record {
   };
 }
 
-pub empty-sent : IsSent 3 empty
+pub empty-sent : IsSentToShard 3 empty
 empty-sent = record {
   from_one = omega arith;
   takable = record { apart = pairs_none (λ (one other : Part). one.vertex ≢ other.vertex); small = All-nil _ };

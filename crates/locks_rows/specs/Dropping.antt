@@ -91,7 +91,7 @@ abbrev pub run : Account
 run = record { gates = sent_log ∷ []; store = judged_log; oracle = []; shards = []; sessions = [] }
 
 -- this is the message with this number that was sent to the shard
-pub record IsSent (number : ℕ) (message : Message) : Type 0 where
+pub record IsSentToShard (number : ℕ) (message : Message) : Type 0 where
   pub from_one : 1 ≤ number
   pub takable : IsTakable message
   pub seen : ArrivesAsSeen run 1 0 0 number message

@@ -1,11 +1,10 @@
 -- What a hand's next calls rely on, once its earlier calls have shown it.
-use Rattle.std.specs.Prelude.{◌≡◌, ◌≢◌, ◌≤◌, ◌<◌, ◌⊎◌, ℕ, List, [], length, slice_index_or, Contains, None, ⊤}
+use Rattle.std.specs.Prelude.{◌≡◌, ◌≢◌, ◌≤◌, ◌<◌, ◌⊎◌, ℕ, List, length, slice_index_or, Contains, None, ⊤}
 use Rattle.std.specs.Option.{ForSome}
 use Rattle.vector_stamp.specs.declared.clock.Stamp.{Stamp}
 use Rattle.weave_entries.specs.declared.gate_log.GateDeed.TheVariants.{Finished}
 use Rattle.weave_entries.specs.declared.gate_log.GateEntry.{GateEntry}
 use Rattle.weave_entries.specs.GateReplay.{programs_of}
-use Rattle.shard_node.specs.Shards.{ShardView}
 use Rattle.weave_account.specs.Account.{gate_log}
 use Rattle.weave_account.specs.Clocks.{IsKnown}
 use Rattle.seen_logs.specs.References.{ArrivesAsSeen, EndsAsSeen}
@@ -48,27 +47,28 @@ pub record MayHaveJudged (hand : Hand) (flight : Flight) : Type 0 where
   pub flies : IsInFlight hand flight.gate flight.request flight.stamp
 
 -- the hand may do this next
-abbrev pub MayDo : Shared → Hand → Step → Type 0
-MayDo shared hand Any = ⊤
-MayDo shared hand (Judge flight) = MayHaveJudged hand flight
-MayDo shared hand (Send judged) = MaySend (seen_by hand) (hand_number hand) judged.gate judged.ops.items judged.verdict
-MayDo shared hand (TakeIn fetched) =
+abbrev pub MayTakeStep : Shared → Hand → Step → Type 0
+MayTakeStep shared hand Any = ⊤
+MayTakeStep shared hand (Judge flight) = MayHaveJudged hand flight
+MayTakeStep shared hand (Send judged) =
+    MaySend (seen_by hand) (hand_number hand) judged.gate judged.ops.items judged.verdict
+MayTakeStep shared hand (TakeIn fetched) =
     ArrivesAsSeen (seen_by hand) (shard_count shared) fetched.shard fetched.gate fetched.number fetched.message
 
 -- the player is ready for its step
 pub record IsPlayer (shared : Shared) (player : Player) : Type 0 where
   pub worker : IsWorker shared player.worker
-  pub step : MayDo shared player.worker.hand player.step
+  pub step : MayTakeStep shared player.worker.hand player.step
 
 -- so it is, and its hand has this number
-pub record IsNumbered (shared : Shared) (number : ℕ) (player : Player) : Type 0 where
+pub record IsNumberedPlayer (shared : Shared) (number : ℕ) (player : Player) : Type 0 where
   pub is : IsPlayer shared player
   pub number_is : hand_number player.worker.hand ≡ number
 
 -- the players are those with the numbers from 0
 abbrev pub ArePlayers : Shared → List Player → Type 0
 ArePlayers shared players =
-    (k : ℕ) (p : Player) → k < length players → IsNumbered shared k (slice_index_or players k p)
+    (k : ℕ) (p : Player) → k < length players → IsNumberedPlayer shared k (slice_index_or players k p)
 
 -- the player of a hand that has done nothing
 abbrev pub player_of : Hand → Player
@@ -80,10 +80,6 @@ player_of hand = record {
 -- and back
 abbrev pub hand_in : Player → Hand
 hand_in player = player.worker.hand
-
--- a shard before its first entry
-abbrev pub IsNewShard : ℕ → ℕ → ShardView → Type 0
-IsNewShard number gates shard = shard ≡ record { number = number; gates = gates; log = [] }
 
 -- the hand made nothing at gatekeepers but these entries
 abbrev pub MadeBut : Hand → Hand → List GateEntry → Type 0

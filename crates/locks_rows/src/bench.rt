@@ -2,10 +2,10 @@
 ghost use Rattle.std.specs.Prelude.{◌≡◌, ◌≤◌, ◌<◌, ℕ, All, length, map, slice_index_or, vec_len};
 ghost use Rattle.gatekeeper.specs.Gates.{GateView, IsNew};
 ghost use Rattle.shard_node.specs.Shards.{ShardView};
+ghost use Rattle.weaver_locks.specs.Closing.{IsNewShard};
 ghost use Rattle.weaver_locks.specs.Locks.{gate_count, hands_of, shard_count};
-ghost use Rattle.locks_rows.specs.Workers.{ArePlayers, IsNewShard, hand_in, player_of};
+ghost use Rattle.locks_rows.specs.Workers.{ArePlayers, hand_in, player_of};
 
-use crate::calls::workers_keep_their_laws;
 use crate::played::play;
 use crate::values::{Call, Row};
 use crate::worker::{Player, Step, Worker};
@@ -104,7 +104,6 @@ pub fn open(
     ensures count { vec_len result.1 ≡ hands_of result.0 }
 {
     new_machines_may_start();
-    workers_keep_their_laws();
     let made = Shared::new(
         alloc,
         new_gates(rt, alloc, gates, shards),

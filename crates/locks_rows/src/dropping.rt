@@ -1,7 +1,7 @@
 //! A shard with notes drops old versions as it does without them.
 ghost use Rattle.std.specs.Prelude.{◌≡◌, [], ◌∷◌, Some};
 ghost use Rattle.chronicle.specs.Passes.{noted};
-ghost use Rattle.locks_rows.specs.Dropping.{clock_of_count, deleted, empty, made, message_of, stamp_of_count, vertex, HasSeenRun, IsSent};
+ghost use Rattle.locks_rows.specs.Dropping.{clock_of_count, deleted, empty, made, message_of, stamp_of_count, vertex, HasSeenRun, IsSentToShard};
 
 use crate::log_texts::text_of_shard;
 use chronicle::{Chronicle, Machine, Note};
@@ -162,7 +162,7 @@ fn third_message(alloc: Global) -> Message
 // The message with this number arrives, and is processed.
 fn take(rt: &impl Abort, alloc: Global, shard: &mut NotedShard, number: u64, message: Message)
     requires run { HasSeenRun shard.old }
-    requires sent { IsSent number message }
+    requires sent { IsSentToShard number message }
     ensures { HasSeenRun shard.new }
 {
     let arrived = shard.arrive(alloc, 5, 0, number, message);

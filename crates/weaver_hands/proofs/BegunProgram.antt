@@ -27,11 +27,11 @@ use Rattle.weaver_locks.specs.GateHolds.{gate_entry_by}
 use Rattle.weaver_locks.specs.HandLaws.{HandLaws}
 use Rattle.weaver_locks.specs.Hands.{hand_number, made_by, seen_by, IsHand}
 use Rattle.weaver_locks.specs.Locks.{start_of}
+use Rattle.weaver_locks.proofs.EachLog.{own-gate}
 use Rattle.weaver_hands.specs.Leaving.{LeavesAlone}
 use Rattle.weaver_hands.specs.Programs.{own_reads, IsRunning}
 use Rattle.weaver_hands.specs.Transactions.{Starts}
-use Rattle.weaver_hands.proofs.Calls.{start-alone}
-use Rattle.weaver_hands.proofs.OwnEntries.{own-gate}
+use Rattle.weaver_hands.proofs.Calls.{program-other, start-alone}
 use Rattle.weaver_hands.proofs.Running.{own-same}
 
 -- two lists with one more at the end were the same
@@ -53,9 +53,6 @@ program-author author (Nop shard number stamp low) begun h = absurd (has_none be
 program-author author (Heard clock) begun h = absurd (has_none begun h)
 program-author author (Raised epoch) begun h = absurd (has_none begun h)
 program-author author (Finished r) begun h = absurd (has_none begun h)
-
-program-other : (request r : ℕ) (stamp : Stamp) → BeganProgram request stamp ≢ Finished r
-program-other request r stamp is = cc
 
 no-reads : AreSameReads [] []
 no-reads = record { vertices = λ v. refl; states = λ v. refl }
@@ -101,7 +98,7 @@ module _ (hands : HandLaws) (laws : LowerLaws) (shared : Shared) (old new : Hand
       unpushed (filter p did.before) (gate_log (made_by old) gate) entry entry
       (sym whole ∙ ap (filter p) (sym did.begins.left)
       ∙ ap (λ n. filter (λ (e : GateEntry). eqb e.author n) log) (sym did.begins.number)
-      ∙ own-gate hands shared new is_new gate ∙ made)
+      ∙ sym (own-gate shared new is_new gate) ∙ made)
 
   not-finished : (e : GateEntry) → Contains log e → e.author ≡ hand_number new → e.deed ≢ Finished request
   not-finished e h mine deed =

@@ -37,7 +37,8 @@ use Rattle.weaver_hands.proofs.Alone.{Later, alone-at-gate, alone-at-shard, alon
 tx-other : (request r : ℕ) (stamp : Stamp) → BeganTx request stamp ≢ Finished r
 tx-other request r stamp is = cc
 
-program-other : (request r : ℕ) (stamp : Stamp) → BeganProgram request stamp ≢ Finished r
+-- a begin of a program is no finish
+pub program-other : (request r : ℕ) (stamp : Stamp) → BeganProgram request stamp ≢ Finished r
 program-other request r stamp is = cc
 
 sent-other : (request r : ℕ) (messages : List Addressed) → Sent request messages ≢ Finished r

@@ -1,6 +1,5 @@
 mod Sets
 mod OwnReads
-mod OwnEntries
 mod Alone
 mod Calls
 mod Arrived

@@ -23,15 +23,16 @@ map-alike f g [] same = refl
 map-alike f g (x ∷ xs) same =
     ap (λ y. y ∷ map f xs) (same x (has_head x xs)) ∙ ap (λ ys. g x ∷ ys) (map-alike f g xs (λ y h. same y (has_tail x xs y h)))
 
+-- the visits of an entry
+abbrev pub given : ShardEntry → List Visit
+given entry = visit_by entry.author entry.deed
+
 module _ (number r : ℕ) where
   abbrev of-request : Visit → Bool
   of-request visit = visit.request == r
 
   abbrev of-author : ShardEntry → Bool
   of-author entry = entry.author == number
-
-  abbrev given : ShardEntry → List Visit
-  given entry = visit_by entry.author entry.deed
 
   -- an author's visit for the request is one of the log's
   own-there : (log : List ShardEntry) (visit : Visit) → Contains (visits_by r (entries_of_author number log)) visit → Contains (visits_by r log) visit

@@ -13,14 +13,12 @@ use Rattle.graph_ops.specs.Operations.{State}
 use Rattle.weave_entries.specs.declared.shard_log.ShardDeed.{ShardDeed}
 use Rattle.weave_entries.specs.declared.shard_log.ShardDeed.TheVariants.{Arrived, Applied, Visited, Collected}
 use Rattle.weave_entries.specs.declared.shard_log.ShardEntry.{ShardEntry}
-use Rattle.weave_entries.specs.Logs.{AtEachEntry}
 use Rattle.weave_entries.specs.GateReplay.{programs_of}
 use Rattle.weave_entries.specs.ShardReplay.{Visit, visit_by, visits_of}
-use Rattle.weave_account.specs.declared.account.Account.{Account}
 use Rattle.weave_account.specs.Account.{gate_log, shard_log}
 use Rattle.weave_account.specs.GoesOn.{visits_by}
 use Rattle.seen_logs.specs.LowerLaws.{LowerLaws}
-use Rattle.seen_logs.specs.Seen.{IsOwn, IsWithin, VisitsItsOwn, VisitsOwnPrograms, since, visit_entry}
+use Rattle.seen_logs.specs.Seen.{IsWithin, VisitsItsOwn, VisitsOwnPrograms, since, visit_entry}
 use Rattle.weaver_core.specs.declared.walks.Running.{Running}
 use Rattle.weaver_locks.specs.declared.hand.Hand.{Hand}
 use Rattle.weaver_locks.specs.declared.shared.Shared.{Shared}
@@ -28,6 +26,7 @@ use Rattle.weaver_locks.specs.HandLaws.{HandLaws}
 use Rattle.weaver_locks.specs.Hands.{hand_number, seen_by, IsHand}
 use Rattle.weaver_locks.specs.Locks.{start_of}
 use Rattle.weaver_locks.specs.ShardHolds.{VisitsIn}
+use Rattle.weaver_locks.proofs.OwnVisits.{VisitsStay}
 use Rattle.weaver_hands.specs.declared.fault.HandFault.{HandFault}
 use Rattle.weaver_hands.specs.declared.fault.HandFault.TheVariants.{Busy, NotYet, Empty, Waits, Memory}
 use Rattle.weaver_hands.specs.Leaving.{MakesNoVisit}
@@ -35,14 +34,6 @@ use Rattle.weaver_hands.specs.Programs.{entries_of_author, IsRunning, VisitsAs}
 use Rattle.weaver_hands.proofs.Alone.{none-at-shard, unvisited-if-none}
 use Rattle.weaver_hands.proofs.Calls.{visit-alone}
 use Rattle.weaver_hands.proofs.Running.{begun-on, more-here, now-made, same-elsewhere, shard-there, visit, was-made}
-
--- the law of the logs that were seen
-abbrev pub VisitsStay : Type 0
-VisitsStay = (number : ℕ) (start seen next : Account) → IsWithin start seen → IsWithin seen next
-    → VisitsOwnPrograms number start seen
-    → ((shard : ℕ) → AtEachEntry (λ before (entry : ShardEntry).
-    IsOwn number (shard_log seen shard) before entry.author → VisitsItsOwn number start next entry.deed) (shard_log next shard))
-    → VisitsOwnPrograms number start next
 
 -- what two lists have after the same beginning
 rest-is : {A : Type 0} (xs ys zs : List A) → xs ++ ys ≡ xs ++ zs → ys ≡ zs

@@ -4,7 +4,6 @@ use Rattle.std.specs.List.{list_any}
 use Rattle.std.proofs.lemmas.Bool.{and_from}
 use Rattle.std.proofs.lemmas.List.{append-nil}
 use Rattle.proof_base.proofs.Members.{any_from, flat_has, has_flat}
-use Rattle.vector_stamp.specs.declared.clock.Stamp.{Stamp}
 use Rattle.weave_entries.specs.declared.gate_log.GateEntry.{GateEntry}
 use Rattle.weave_entries.specs.declared.gate_log.GateDeed.TheVariants.{Finished}
 use Rattle.weave_entries.specs.GateReplay.{Begun, is_begun, program_by, programs_of, running_of}
@@ -25,6 +24,7 @@ use Rattle.weaver_locks.specs.Locks.{start_of}
 use Rattle.weaver_locks.proofs.Following.{made-gate, seen-gate}
 use Rattle.weaver_hands.specs.Programs.{IsRunning}
 use Rattle.weaver_hands.proofs.Alone.{none-at-gate}
+use Rattle.weaver_hands.proofs.Running.{RunUntilFinished}
 
 -- what is not refused for its reason is refused out of memory alone
 pub memory-left : (A : Type 0) (fault : GateFault) (test : Bool) → test ≡ false → IsRefusedWhere {A = A} Idle test (Err fault) → fault ≡ Memory
@@ -34,11 +34,7 @@ memory-left A Old test fails refused = absurd (let other : Idle ≡ Old = refuse
 memory-left A Idle test fails refused = absurd (let clash : true ≡ false = sym refused.1 ∙ fails in cc)
 
 -- a program that is running is not refused as one that isn't
-pub never-idle : HandLaws → ((log : List GateEntry) (author request : ℕ) (stamp : Stamp)
-    → Contains (programs_of log) (record { author = author; request = request; stamp = stamp })
-    → ((entry : GateEntry) → Contains log entry → entry.author ≡ author → entry.deed ≢ Finished request)
-    → Contains (running_of log) (record { author = author; request = request; stamp = stamp }))
-    → (shared : Shared) (old new : Hand) → IsHand shared old → IsHand shared new → (running : Running) → IsRunning shared old running
+pub never-idle : HandLaws → RunUntilFinished → (shared : Shared) (old new : Hand) → IsHand shared old → IsHand shared new → (running : Running) → IsRunning shared old running
     → (before : List GateEntry) → WasAtGate (length shared.shards.items) old new running.stamp.home before [] → (fault : GateFault)
     → IsRefusedWhere {A = Unit {0}} Idle (not (list_any (is_begun (hand_number old) running.request) (running_of before))) (Err fault) → fault ≡ Memory
 never-idle hands law shared old new is_old is_new running runs before was fault refused =

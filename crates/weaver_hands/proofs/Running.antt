@@ -43,10 +43,10 @@ use Rattle.weaver_locks.specs.HandLaws.{HandLaws}
 use Rattle.weaver_locks.specs.Hands.{hand_number, made_by, seen_by, IsHand}
 use Rattle.weaver_locks.specs.Locks.{start_of}
 use Rattle.weaver_locks.specs.ShardHolds.{shard_entry_by, VisitsIn}
+use Rattle.weaver_locks.proofs.EachLog.{own-shard}
 use Rattle.weaver_locks.proofs.Following.{made-gate, seen-gate}
 use Rattle.weaver_hands.specs.Leaving.{LeavesAlone, MakesNoVisit}
 use Rattle.weaver_hands.specs.Programs.{entries_of_author, own_reads, own_reads_in, GainsRead, IsRunning}
-use Rattle.weaver_hands.proofs.OwnEntries.{own-shard}
 use Rattle.weaver_hands.proofs.OwnReads.{all-still, reads-more, reads-still}
 use Rattle.weaver_hands.proofs.Sets.{one-more, set-other, HasOneMore}
 
@@ -67,10 +67,10 @@ module _ (hands : HandLaws) (laws : LowerLaws) (shared : Shared) (old new : Hand
   pub now-made : (r shard : ℕ) → visits_by r (entries_of_author n (shard_log (seen_by new) shard)) ≡ visits_by r (shard_log (made_by new) shard)
   now-made r shard =
       ap (λ m. visits_by r (entries_of_author m (shard_log (seen_by new) shard))) (sym number)
-      ∙ ap (visits_by r) (own-shard hands shared new is_new shard)
+      ∙ ap (visits_by r) (sym (own-shard shared new is_new shard))
 
   pub was-made : (r shard : ℕ) → visits_by r (shard_log (made_by old) shard) ≡ visits_by r (entries_of_author n (shard_log (seen_by old) shard))
-  was-made r shard = sym (ap (visits_by r) (own-shard hands shared old is_old shard))
+  was-made r shard = ap (visits_by r) (own-shard shared old is_old shard)
 
   -- a begin that was seen stays
   pub begun-on : GatesGoOn (seen_by old) (seen_by new) → (home request : ℕ) (stamp : Stamp)
@@ -214,12 +214,15 @@ module _ (hands : HandLaws) (laws : LowerLaws) (shared : Shared) (old new : Hand
 
 -- For a visit
 
--- a program of the hand that is running is so in what the hand has seen of its gatekeeper
-pub runs-here : ((log : List GateEntry) (author request : ℕ) (stamp : Stamp)
+-- the law of programs: one that was begun runs until its author has finished it
+abbrev pub RunUntilFinished : Type 0
+RunUntilFinished = (log : List GateEntry) (author request : ℕ) (stamp : Stamp)
     → Contains (programs_of log) (record { author = author; request = request; stamp = stamp })
     → ((entry : GateEntry) → Contains log entry → entry.author ≡ author → entry.deed ≢ Finished request)
-    → Contains (running_of log) (record { author = author; request = request; stamp = stamp }))
-    → (shared : Shared) (hand : Hand) (running : Running) → IsRunning shared hand running
+    → Contains (running_of log) (record { author = author; request = request; stamp = stamp })
+
+-- a program of the hand that is running is so in what the hand has seen of its gatekeeper
+pub runs-here : RunUntilFinished → (shared : Shared) (hand : Hand) (running : Running) → IsRunning shared hand running
     → (home : ℕ) × Contains (running_of (gate_log (seen_by hand) home)) (record { author = hand_number hand; request = running.request; stamp = running.stamp })
 runs-here law shared hand running was =
     let home = running.stamp.home in

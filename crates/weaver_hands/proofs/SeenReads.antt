@@ -17,7 +17,7 @@ use Rattle.seen_logs.proofs.Updates.{read-in}
 use Rattle.weaver_locks.specs.declared.hand.Hand.{Hand}
 use Rattle.weaver_locks.specs.Hands.{hand_number, seen_by}
 use Rattle.weaver_hands.specs.Programs.{entries_of_author, own_reads, own_reads_in}
-use Rattle.weaver_hands.proofs.OwnReads.{own-among}
+use Rattle.weaver_hands.proofs.OwnReads.{given, own-among}
 
 -- a list without members is empty
 no-members : {A : Type 0} (xs : List A) → ((x : A) → Contains xs x → ⊥) → xs ≡ []
@@ -43,9 +43,6 @@ nothing hand r none =
 module _ (n r : ℕ) where
   abbrev for-it : Visit → Bool
   for-it visit = visit.request == r
-
-  abbrev given : ShardEntry → List Visit
-  given entry = visit_by entry.author entry.deed
 
   -- if all visits for a request are of one author, they are that author's
   same-visits : (log : List ShardEntry) → ((visit : Visit) → Contains (visits_by r log) visit → visit.author ≡ n)

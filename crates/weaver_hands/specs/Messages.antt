@@ -1,5 +1,6 @@
 -- What hands' calls on messages have done.
-use Rattle.std.specs.Prelude.{◌≡◌, ◌∷◌, ◌+◌, ℕ, Bool, true, false, List, [], None, Some, is_some, if◌then◌else◌, Result, Ok, Err}
+use Rattle.std.specs.Prelude.{◌≡◌, ◌∷◌, ◌+◌, ℕ, Bool, true, false, if◌then◌else◌}
+use Rattle.std.specs.Prelude.{List, [], None, Some, is_some, Result, Ok, Err}
 use Rattle.weave_data.specs.declared.name.Name.{Name}
 use Rattle.shard_queue.specs.Sent.{sent_as}
 use Rattle.weave_entries.specs.declared.gate_log.GateEntry.{GateEntry}
@@ -83,7 +84,7 @@ PullsAs shards old new gate shard number (Err (Waits vertex)) = ⊥
 
 -- The head of the gatekeeper's channel was processed in one hold of the shard: each of its counts was the number of
 -- updates applied there.
-pub record Applies (shards : ℕ) (old new : Hand) (shard gate : ℕ) : Type 0 where
+pub record AppliesChannelHead (shards : ℕ) (old new : Hand) (shard gate : ℕ) : Type 0 where
   pub before : List ShardEntry
   pub head : Message
   pub head_is : head_of gate before ≡ Some head
@@ -107,7 +108,7 @@ pub record FoundWaiting (shards : ℕ) (old new : Hand) (shard gate : ℕ) (vert
 
 -- what `apply` answers
 abbrev pub AppliesAs : ℕ → Hand → Hand → ℕ → ℕ → Result (Unit {0}) HandFault → Type 0
-AppliesAs shards old new shard gate (Ok done) = Applies shards old new shard gate
+AppliesAs shards old new shard gate (Ok done) = AppliesChannelHead shards old new shard gate
 AppliesAs shards old new shard gate (Err Empty) = FoundEmpty shards old new shard gate
 AppliesAs shards old new shard gate (Err (Waits vertex)) = FoundWaiting shards old new shard gate vertex
 AppliesAs shards old new shard gate (Err Memory) = MadeNone old new

@@ -1,5 +1,6 @@
 -- What a hand's visits and the finish of a program have done, and when a program is running.
-use Rattle.std.specs.Prelude.{◌≡◌, ◌≢◌, ◌∷◌, ◌++◌, ◌==◌, ℕ, List, [], map, filter, take, Contains, None, Some, Result, Ok, Err}
+use Rattle.std.specs.Prelude.{◌≡◌, ◌≢◌, ◌∷◌, ◌++◌, ◌==◌, ℕ, List, [], map, filter, take, Contains}
+use Rattle.std.specs.Prelude.{None, Some, Result, Ok, Err}
 use Rattle.std.specs.List.{flat_map}
 use Rattle.weave_data.specs.declared.name.Name.{Name}
 use Rattle.weave_data.specs.Names.{shard_of}

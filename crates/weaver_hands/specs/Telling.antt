@@ -31,7 +31,7 @@ TellsAs shards old new from to (Err Empty) = ⊥
 TellsAs shards old new from to (Err (Waits vertex)) = ⊥
 
 -- An empty message was sent in one hold.
-pub record SendsNop (shards : ℕ) (old new : Hand) (gate shard : ℕ) : Type 0 where
+pub record SendsEmptyMessage (shards : ℕ) (old new : Hand) (gate shard : ℕ) : Type 0 where
   pub before : List GateEntry
   pub was : (let stamp = next_stamp gate (clock_of gate before) in
       WasAtGate shards old new gate before (gate_entry_by old
@@ -39,7 +39,7 @@ pub record SendsNop (shards : ℕ) (old new : Hand) (gate shard : ℕ) : Type 0 
 
 -- what `nop` answers
 abbrev pub NopsAs : ℕ → Hand → Hand → ℕ → ℕ → Result (Unit {0}) HandFault → Type 0
-NopsAs shards old new gate shard (Ok done) = SendsNop shards old new gate shard
+NopsAs shards old new gate shard (Ok done) = SendsEmptyMessage shards old new gate shard
 NopsAs shards old new gate shard (Err Busy) = FoundBusy shards old new gate
 NopsAs shards old new gate shard (Err Memory) = MadeNone old new
 NopsAs shards old new gate shard (Err (NotYet other at)) = ⊥

@@ -1,5 +1,5 @@
 -- What a hand made in each log, and which entries with its number others have seen: for the laws on own entries.
-use Rattle.std.proofs.Common.{◌≡◌, ℕ, zero, suc, eqb, eq-eqb, List, [], ◌∷◌, map, get_or, sym, ap, ◌∙◌, refl, subst}
+use Rattle.std.proofs.Common.{◌≡◌, ℕ, eqb, eq-eqb, List, [], map, get_or, sym, ap, ◌∙◌, refl, subst}
 use Rattle.std.specs.List.{Contains, filter}
 use Rattle.std.proofs.lemmas.List.Elements.{Contains-append_left}
 use Rattle.proof_base.proofs.Members.{has_filter}
@@ -15,13 +15,12 @@ use Rattle.weaver_locks.specs.declared.hand.Hand.{Hand}
 use Rattle.weaver_locks.specs.declared.shared.Shared.{Shared}
 use Rattle.weaver_locks.specs.Closing.{entries_by}
 use Rattle.weaver_locks.specs.Hands.{hand_number, made_by, seen_by, IsHand}
+use Rattle.weaver_locks.proofs.Lists.{list_at}
 use Rattle.weaver_locks.proofs.OwnLogs.{made_of_seen}
 
 -- what is made of each list of a row, at a place
 pub row-at : {A : Type 0} (f : List A → List A) → f [] ≡ [] → (row : List (List A)) (k : ℕ) → get_or (map f row) k [] ≡ f (get_or row k [])
-row-at f none [] k = sym none
-row-at f none (xs ∷ row) zero = refl
-row-at f none (xs ∷ row) (suc k) = row-at f none row k
+row-at f none row k = list_at f none row k
 
 -- the entries of a log with this author, at each place
 module _ (number : ℕ) (account : Account) where

@@ -36,6 +36,7 @@ use Rattle.weaver_locks.specs.HandLaws.{HandLaws}
 use Rattle.weaver_locks.specs.Hands.{IsHand, hand_number, seen_by}
 use Rattle.weaver_locks.specs.InGate.{HasFound, IsInGate, SeesElsewhere, without_oracle}
 use Rattle.weaver_locks.specs.Onward.{OnlySees}
+use Rattle.weaver_locks.proofs.FrameParts.{first_of}
 
 -- what a log that was seen begins
 pub log_found : HandLaws → (old : Hand) (gate : ℕ) (before : List GateEntry) → gate < length old.gates.items → HasFound old gate before
@@ -125,10 +126,6 @@ entered_by shared old gate q d held found machine a locks gates low low_old at_l
       number = λ p. number ∙ ap (λ (y : Pass GateDeed). number_of y) (pass_at p);
     }
 
-abbrev head_of : List (List ℕ) → List ℕ
-head_of [] = []
-head_of (x ∷ xs) = x
-
 module _ (laws : HandLaws) (shared : Shared) (old : Hand) (gate : ℕ) (low : gate < length shared.gates.items) (hand : IsHand shared old)
     (q : Pass GateDeed) where
   low_old : gate < length old.gates.items
@@ -207,7 +204,7 @@ module _ (laws : HandLaws) (shared : Shared) (old : Hand) (gate : ℕ) (low : ga
 
     number_at : (k : ℕ) → get_or (m.gate.home ∷ m.gate.gates ∷ m.gate.shards ∷ []) k 0
         ≡ get_or (gate ∷ length shared.gates.items ∷ length shared.shards.items ∷ []) k 0
-    number_at k = ap (λ (f : Frame). get_or (head_of f) k 0) framed_as
+    number_at k = ap (λ (f : Frame). get_or (first_of f) k 0) framed_as
 
     home_is : m.gate.home ≡ gate
     home_is = number_at 0

@@ -346,7 +346,7 @@ may-send laws rules shared old new gate request stamp ops verdict is_old is_new 
 -- What was not begun
 
 -- what is in a changed list at a place was there, or was put there
-set-has : {A : Type 0} (xss : List (List A)) (place k : ℕ) (ys : List A) (x : A) → Contains (get_or (set xss place ys) k []) x
+pub set-has : {A : Type 0} (xss : List (List A)) (place k : ℕ) (ys : List A) (x : A) → Contains (get_or (set xss place ys) k []) x
     → Contains (get_or xss k []) x ⊎ Contains ys x
 set-has [] place k ys x h = inl h
 set-has (xs ∷ xss) zero zero ys x h = inr h

@@ -44,3 +44,7 @@ pub mod Fitting
 pub mod NewHands
 pub mod Crossing
 pub mod Hearing
+pub mod FrameParts
+pub mod NewMachines
+pub mod Options
+pub mod RowAsked

@@ -1,8 +1,10 @@
 -- Lists, place by place.
-use Rattle.std.proofs.Common.{◌≡◌, ℕ, zero, suc, ◌+◌, ◌<◌, drop, List, [], ◌∷◌, ◌++◌, length, map, get_or, cond, Bool, true, false, refl, sym, ap, ◌∙◌, subst, arith, append_assoc, length-append}
+use Rattle.std.proofs.Common.{◌≡◌, ℕ, zero, suc, ◌+◌, ◌<◌, drop, List, [], ◌∷◌, ◌++◌, length, map, get_or, set, cond, Bool, true, false, inl, inr, refl, sym, ap, ◌∙◌, subst, arith, append_assoc, length-append}
 use Rattle.std.specs.List.{All, Any, Contains, filter}
-use Rattle.std.proofs.lemmas.List.{append-nil, nil_from_length, get_or-map, get_or_default, length-map, map_push}
-use Rattle.std.proofs.lemmas.List.Elements.{All-contains, Contains-append_right}
+use Rattle.std.proofs.lemmas.Bool.{cases_lt}
+use Rattle.std.proofs.lemmas.List.{append-nil, get_or_append_left, get_or_push, nil_from_length, get_or-map, get_or_default, length-map, map_push}
+use Rattle.std.proofs.lemmas.List.Elements.{All-contains, All-map, Contains-append_right, Contains-get_or}
+use Rattle.proof_base.proofs.Members.{has_map}
 use Rattle.lock_row.proofs.Lists.{one_of}
 
 module _ {A : Type 0} where
@@ -42,6 +44,39 @@ module _ {A B : Type 0} (P : B → Type 0) (f : A → B) (xs : List A) where
       let d : A = one_of xs a.0 low in
       let x : A = get_or xs a.0 d in
       (a.0, x, low, get_or_default xs a.0 x d low, subst P (sym a.3 ∙ get_or-map f xs a.0 d a.1 low) a.4)
+
+-- a fact on each place of a list holds with one element more
+pub pushed : {A : Type 0} (P : ℕ → A → Type 0) (xs ys : List A) (x : A) (n m : ℕ) → ys ≡ xs ++ x ∷ [] → n ≡ length xs → m ≡ n + 1
+    → ((k : ℕ) (d : A) → k < n → P k (get_or xs k d)) → P n x → (k : ℕ) (d : A) → k < m → P k (get_or ys k d)
+pushed P xs ys x n m more long next had new k d low =
+    subst (λ zs. P k (get_or zs k d)) (sym more) (elim (cases_lt k n) [
+      | inl before ↦ subst (P k) (sym (get_or_append_left xs (x ∷ []) d k (omega (arith, before, long)))) (had k d before)
+      | inr past ↦
+          let at : k ≡ length xs = omega (arith, past, low, next, long) in
+          subst (λ (j : ℕ). P j (get_or (xs ++ x ∷ []) k d)) (long ∙ sym at) (subst (P n) (sym (get_or_push xs x d k (sym at))) new)
+    ])
+
+-- a fact on each place of a list stays if one element changes
+pub set-at : {A : Type 0} (P : ℕ → A → Type 0) (xs : List A) (i : ℕ) (x : A) → ((k : ℕ) (d : A) → k < length xs → P k (get_or xs k d)) → P i x
+    → (k : ℕ) (d : A) → k < length (set xs i x) → P k (get_or (set xs i x) k d)
+set-at P [] i x had new k d low = absurd (omega arith)
+set-at P (y ∷ xs) zero x had new zero d low = new
+set-at P (y ∷ xs) zero x had new (suc k) d low = had (suc k) d (omega (arith, low))
+set-at P (y ∷ xs) (suc i) x had new zero d low = had zero d (omega arith)
+set-at P (y ∷ xs) (suc i) x had new (suc k) d low =
+    set-at (λ (j : ℕ). P (suc j)) xs i x (λ j e less. had (suc j) e (omega (arith, less))) new k d (omega (arith, low))
+
+-- what is said of each place of a list is said of the images
+pub all-images : {A B : Type 0} (Q : B → Type 0) (f : A → B) (xs : List A) → ((k : ℕ) (d : A) → k < length xs → Q (f (get_or xs k d)))
+    → All Q (map f xs)
+all-images Q f xs had = All-map Q f xs (λ k d low. had k d low)
+
+-- each number below the length is the image of a place
+pub has-images : {A : Type 0} (f : A → ℕ) (xs : List A) → ((k : ℕ) (d : A) → k < length xs → f (get_or xs k d) ≡ k) → (n : ℕ) → n < length xs
+    → Contains (map f xs) n
+has-images f xs each n low =
+    let d = one_of xs n low in
+    subst (Contains (map f xs)) (each n d low) (has_map f xs (get_or xs n d) (Contains-get_or xs n d low))
 
 -- images of images
 pub map_twice : {A B C : Type 0} (g : B → C) (f : A → B) (xs : List A) → map g (map f xs) ≡ map (λ x. g (f x)) xs

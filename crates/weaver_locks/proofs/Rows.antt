@@ -2,7 +2,7 @@
 use Rattle.std.proofs.Common.{◌≡◌, ◌≢◌, ℕ, zero, suc, ◌<◌, ◌≤◌, List, [], ◌∷◌, ◌++◌, length, map, get_or, set, inl, inr, refl, sym, ap, ◌∙◌, subst, arith}
 use Rattle.std.specs.Prelude.{All}
 use Rattle.std.proofs.lemmas.Bool.{cases_lt}
-use Rattle.std.proofs.lemmas.List.{append-nil, get_or_default}
+use Rattle.std.proofs.lemmas.List.{append-nil, append_assoc, get_or_default}
 use mathlib.Core.List.{IsPrefix}
 use Rattle.weave_account.specs.GoesOn.{IsBeginningOf}
 use Rattle.chronicle.specs.declared.chronicle.Chronicle.{Chronicle}
@@ -73,11 +73,7 @@ pub nothing_more : {A : Type 0} (l : List A) → IsBeginningOf l l
 nothing_more l = ([], sym (append-nil l))
 
 pub begins_more : {A : Type 0} (a b c : List A) → IsPrefix a b → IsPrefix b c → IsPrefix a c
-begins_more {A} a b c p q = (p.0 ++ q.0, joined a p.0 q.0 ∙ (ap (λ (l : List A). l ++ q.0) p.1 ∙ q.1))
-  where
-    joined : (x y z : List A) → x ++ (y ++ z) ≡ (x ++ y) ++ z
-    joined [] y z = refl
-    joined (e ∷ x) y z = ap (λ (l : List A). e ∷ l) (joined x y z)
+begins_more {A} a b c p q = (p.0 ++ q.0, sym (append_assoc a p.0 q.0) ∙ (ap (λ (l : List A). l ++ q.0) p.1 ∙ q.1))
 
 module _ {M E : Type 0} (locks : List (Chronicle M E)) (before after : List (Pass E)) (on : AllGoOn locks before after)
     (count : length before ≡ length locks) where

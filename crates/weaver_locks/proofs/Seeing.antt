@@ -1,6 +1,6 @@
 -- What the passes of a hand have seen, as an account.
-use Rattle.std.proofs.Common.{◌≡◌, ◌≢◌, ℕ, zero, suc, List, [], ◌∷◌, ◌++◌, map, get_or, refl, sym, ap, ◌∙◌, subst}
-use Rattle.std.proofs.lemmas.List.{map-append}
+use Rattle.std.proofs.Common.{◌≡◌, ◌≢◌, ℕ, zero, suc, List, [], ◌∷◌, ◌++◌, map, get_or, refl, ap, ◌∙◌, subst}
+use Rattle.std.proofs.lemmas.List.{append_assoc, map-append}
 use Rattle.weave_entries.specs.declared.gate_log.GateEntry.{GateEntry}
 use Rattle.weave_entries.specs.declared.gate_log.GateDeed.{GateDeed}
 use Rattle.weave_entries.specs.declared.oracle_log.OracleEntry.{OracleEntry}
@@ -64,11 +64,7 @@ placed_there (suc number) (suc k) own other = placed_there number k own (λ e. o
 
 -- what begins a list begins each that it begins
 pub begins_longer : {A : Type 0} (a b more : List A) → IsBeginningOf a b → IsBeginningOf a (b ++ more)
-begins_longer {A} a b more on = (on.0 ++ more, ap (λ (l : List A). l ++ more) on.1 ∙ sym (joined a on.0 more))
-  where
-    joined : (x y z : List A) → x ++ (y ++ z) ≡ (x ++ y) ++ z
-    joined [] y z = refl
-    joined (e ∷ x) y z = ap (λ (l : List A). e ∷ l) (joined x y z)
+begins_longer {A} a b more on = (on.0 ++ more, ap (λ (l : List A). l ++ more) on.1 ∙ append_assoc a on.0 more)
 
 pub mapped_more : {A B : Type 0} (f : A → B) (a b : List A) → IsBeginningOf a b → IsBeginningOf (map f a) (map f b)
 mapped_more {A} {B} f a b on = (map f on.0, ap (λ (l : List A). map f l) on.1 ∙ map-append f a on.0)

@@ -1,5 +1,5 @@
 -- What a visit asks of the hold of a shard.
-use Rattle.std.proofs.Common.{◌≡◌, ℕ, ◌<◌, ◌≤◌, List, [], ◌∷◌, length, get_or, Contains, refl, sym, ap, ◌∙◌, subst}
+use Rattle.std.proofs.Common.{◌≡◌, ℕ, ◌<◌, List, [], ◌∷◌, length, get_or, Contains, refl, sym, ap, ◌∙◌, subst}
 use Rattle.weave_data.specs.declared.name.Name.{Name}
 use Rattle.weave_data.specs.Names.{shard_of}
 use Rattle.vector_stamp.specs.declared.clock.Stamp.{Stamp}
@@ -17,7 +17,7 @@ use Rattle.chronicle.specs.Frames.{Frame}
 use Rattle.chronicle.specs.Holds.{machine_of}
 use Rattle.chronicle.specs.Locks.{lock_of, name_of}
 use Rattle.chronicle.specs.Passes.{lock_noted}
-use Rattle.lock_row.specs.Rows.{AreReady, names_of}
+use Rattle.lock_row.specs.Rows.{names_of}
 use Rattle.lock_row.proofs.Lists.{one_of}
 use Rattle.gate_lock.specs.declared.noted.NotedGate.{NotedGate}
 use Rattle.oracle_lock.specs.Seen.{AreGateLogs, gates_noted, gates_seen, of_gates}
@@ -29,17 +29,9 @@ use Rattle.weaver_locks.specs.Hands.{hand_number, IsHand, seen_by}
 use Rattle.weaver_locks.specs.HoldLaws.{HoldLaws}
 use Rattle.weaver_locks.specs.InShard.{IsInShard}
 use Rattle.weaver_locks.proofs.Beside.{named}
-use Rattle.weaver_locks.proofs.Rows.{nothing_more, row_ready}
+use Rattle.weaver_locks.proofs.FrameParts.{rest_of, second_of}
+use Rattle.weaver_locks.proofs.Rows.{nothing_more}
 use Rattle.weaver_locks.proofs.Running.{running_now}
-
-abbrev second_of : Frame → List ℕ
-second_of [] = []
-second_of (x ∷ []) = []
-second_of (x ∷ y ∷ xs) = y
-
-abbrev rest_of : Frame → Frame
-rest_of [] = []
-rest_of (x ∷ xs) = xs
 
 module _ (shared : Shared) (old now : Hand) (shard : ℕ) (held : Held NotedShard ShardDeed) (hand : IsHand shared old)
     (low : shard < length shared.shards.items) (i : IsInShard shared old now shard held) (s : NotedView) (s_is : s ≡ machine_of held)
@@ -60,14 +52,6 @@ module _ (shared : Shared) (old now : Hand) (shard : ℕ) (held : Held NotedShar
       ap (λ (v : NotedView). lock_noted v.notes.oracle) s_is
       ∙ ap (λ (f : Frame). second_of (rest_of f)) (i.frame ∙ (ap (λ l. l.frame) (i.lock c) ∙ shared.framed.shard_frames shard c low))
 
-  pub as_many : length passes ≡ length locks
-  as_many = ap (λ (l : List (Pass GateDeed)). length l) passes_is
-      ∙ (i.gates.count ∙ (hand.gates ∙ ap (λ (l : List (Chronicle NotedGate GateDeed)). length l) (sym locks_is)))
-
-  pub all_ready : AreReady locks passes
-  all_ready = subst (λ (z : List (Chronicle NotedGate GateDeed) × List (Pass GateDeed)). AreReady z.0 z.1) (λ j. (sym locks_is j, sym passes_is j))
-      (row_ready shared.gates.items old.gates.items now.gates.items i.gates hand.gates)
-
   pub notes_are : gates_noted s.notes.gates.items ≡ gates_seen now.gates.items
   notes_are = ap (λ (v : NotedView). gates_noted v.notes.gates.items) s_is ∙ ap (λ (a : Account). a.gates) i.same
 
@@ -81,9 +65,6 @@ module _ (shared : Shared) (old now : Hand) (shard : ℕ) (held : Held NotedShar
 
   pub gate_count : s.shard.gates ≡ length locks
   gate_count = ap (λ (v : NotedView). v.shard.gates) s_is ∙ (i.gate_count ∙ ap (λ (l : List (Chronicle NotedGate GateDeed)). length l) (sym locks_is))
-
-  pub few_locks : length locks ≤ 8
-  few_locks = subst (λ (l : List (Chronicle NotedGate GateDeed)). length l ≤ 8) (sym locks_is) shared.framed.few_gates
 
   pub kept_here : (vertex : Name) → shard_of vertex (length shared.shards.items) ≡ shard → shard_of vertex s.shards ≡ s.shard.number
   kept_here vertex is = ap (shard_of vertex) shard_count ∙ (is ∙ sym (ap (λ (v : NotedView). v.shard.number) s_is ∙ i.place))

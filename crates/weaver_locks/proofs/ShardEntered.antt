@@ -32,6 +32,7 @@ use Rattle.weaver_locks.specs.declared.hand.Hand.{Hand}
 use Rattle.weaver_locks.specs.declared.shared.Shared.{Shared}
 use Rattle.weaver_locks.specs.Hands.{hand_number, IsHand}
 use Rattle.weaver_locks.specs.InShard.{IsInShard}
+use Rattle.weaver_locks.proofs.FrameParts.{first_of, rest_of}
 use Rattle.weaver_locks.proofs.Rows.{all_met_on, met_on}
 use Rattle.weaver_locks.proofs.Seeing.{gates_named}
 
@@ -45,14 +46,6 @@ none_placed (suc number) (suc k) = none_placed number k
 no_entries : (gates : ℕ) → IsShardLog gates []
 no_entries gates [] entry after at = let n : length {A = ShardEntry} [] ≡ length (entry ∷ after) = ap (λ (l : List ShardEntry). length l) at in absurd (omega (arith, n))
 no_entries gates (x ∷ before) entry after at = let n : length {A = ShardEntry} [] ≡ length (x ∷ (before ++ entry ∷ after)) = ap (λ (l : List ShardEntry). length l) at in absurd (omega (arith, n))
-
-abbrev first_of : Frame → List ℕ
-first_of [] = []
-first_of (x ∷ xs) = x
-
-abbrev rest_of : Frame → Frame
-rest_of [] = []
-rest_of (x ∷ xs) = xs
 
 -- what the frame says of the shard in the lock
 record IsAt (shared : Shared) (shard : ℕ) (m : NotedView) : Type 0 where

@@ -65,6 +65,7 @@ use Rattle.weaver_locks.proofs.Logged.{beyond, cut_pairs, records_on}
 use Rattle.weaver_locks.proofs.Rows.{all_met_on, begins_more, go_on_twice, image_at, nothing_more}
 use Rattle.weaver_locks.proofs.Seeing.{gates_named, oracles_back, placed_here, same_gates, shard_at, shards_back}
 use Rattle.weaver_locks.proofs.ShardDone.{follows, GoesBy, goes_by_none, goes_by_one}
+use Rattle.weaver_locks.proofs.StoreCommitted.{call_by}
 
 -- the entry of a visit
 abbrev visited : ℕ → ℕ → Stamp → Name → List ShardEntry → List OracleEntry → Visit
@@ -81,11 +82,6 @@ made_by_hand : {A F : Type 0} (old : Hand) (request : ℕ) (stamp : Stamp) (vert
     (r : Result A F) (e : ShardEntry) → Contains (visit_entries old request stamp vertex before settled r) e → e.author ≡ hand_number old
 made_by_hand old request stamp vertex before settled (Ok a) e has = ap (λ (x : ShardEntry). x.author) (sym (only _ e has))
 made_by_hand old request stamp vertex before settled (Err f) e has = absurd (has_none e has)
-
-call_by : (n : ℕ) (asked : List Stamp) (stamp : Stamp) (places : List ℕ) (e : OracleEntry)
-    → Contains (map oracle_entry (entries_of_call n asked stamp places)) e → e.author ≡ n
-call_by n asked stamp [] e has = absurd (has_none e has)
-call_by n asked stamp (place ∷ places) e has = ap (λ (x : OracleEntry). x.author) (sym (only _ e has))
 
 asked_by_hand : {A F : Type 0} (old : Hand) (stamp : Stamp) (vertex : Name) (before : List ShardEntry) (settled : List OracleEntry) (r : Result A F)
     (e : OracleEntry) → Contains (asked_entries old stamp vertex before settled r) e → e.author ≡ hand_number old

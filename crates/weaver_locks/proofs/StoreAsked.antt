@@ -1,5 +1,5 @@
 -- What a judgement asks of the hold of the store.
-use Rattle.std.proofs.Common.{◌≡◌, ℕ, ◌≤◌, List, [], ◌∷◌, length, get_or, sym, ap, ◌∙◌, subst}
+use Rattle.std.proofs.Common.{◌≡◌, ℕ, List, [], ◌∷◌, length, get_or, sym, ap, ◌∙◌, subst}
 use Rattle.weave_entries.specs.declared.gate_log.GateDeed.{GateDeed}
 use Rattle.weave_entries.specs.declared.gate_log.GateEntry.{GateEntry}
 use Rattle.weave_entries.specs.declared.store_log.StoreDeed.{StoreDeed}
@@ -11,7 +11,7 @@ use Rattle.chronicle.specs.declared.pass.Pass.{Pass}
 use Rattle.chronicle.specs.Holds.{machine_of}
 use Rattle.chronicle.specs.Locks.{lock_of, name_of}
 use Rattle.chronicle.specs.Passes.{IsReady, lock_noted}
-use Rattle.lock_row.specs.Rows.{AreReady, names_of}
+use Rattle.lock_row.specs.Rows.{names_of}
 use Rattle.gate_lock.specs.declared.noted.NotedGate.{NotedGate}
 use Rattle.oracle_lock.specs.Seen.{AreGateLogs, gates_noted, gates_seen, of_gates}
 use Rattle.store_lock.specs.declared.noted_store.NotedStore.{NotedStore}
@@ -20,7 +20,7 @@ use Rattle.weaver_locks.specs.declared.hand.Hand.{Hand}
 use Rattle.weaver_locks.specs.declared.shared.Shared.{Shared}
 use Rattle.weaver_locks.specs.Hands.{IsHand}
 use Rattle.weaver_locks.specs.InStore.{IsInStore}
-use Rattle.weaver_locks.proofs.Rows.{nothing_more, row_ready}
+use Rattle.weaver_locks.proofs.Rows.{nothing_more}
 
 module _ (shared : Shared) (old now : Hand) (held : Held NotedStore StoreDeed) (hand : IsHand shared old) (i : IsInStore shared old now held)
     (s : StoreView) (s_is : s ≡ machine_of held) (locks : List (Chronicle NotedGate GateDeed)) (locks_is : locks ≡ shared.gates.items)
@@ -37,14 +37,6 @@ module _ (shared : Shared) (old now : Hand) (held : Held NotedStore StoreDeed) (
   pub pass_ready : IsReady (lock_of shared.oracle) now.oracle
   pass_ready = subst (λ (p : Pass OracleDeed). IsReady (lock_of shared.oracle) p) (sym i.oracle) hand.oracle_ready
 
-  pub as_many : length passes ≡ length locks
-  as_many = ap (λ (l : List (Pass GateDeed)). length l) passes_is
-      ∙ (i.gates.count ∙ (hand.gates ∙ ap (λ (l : List (Chronicle NotedGate GateDeed)). length l) (sym locks_is)))
-
-  pub all_ready : AreReady locks passes
-  all_ready = subst (λ (z : List (Chronicle NotedGate GateDeed) × List (Pass GateDeed)). AreReady z.0 z.1) (λ j. (sym locks_is j, sym passes_is j))
-      (row_ready shared.gates.items old.gates.items now.gates.items i.gates hand.gates)
-
   pub gates_legal : AreGateLogs s.shards (gates_seen passes)
   gates_legal = subst (λ (z : ℕ × List (Pass GateDeed)). AreGateLogs z.0 (gates_seen z.1))
       (λ j. (ap (λ (v : StoreView). v.shards) (sym s_is) j, sym passes_is j)) i.legal
@@ -53,6 +45,3 @@ module _ (shared : Shared) (old now : Hand) (held : Held NotedStore StoreDeed) (
   notes_met = subst (λ (l : List (List GateEntry)). GatesGoOn (of_gates (gates_noted s.gates)) (of_gates l))
       (ap (λ (v : StoreView). gates_noted v.gates) s_is ∙ (i.one ∙ ap gates_seen (sym passes_is)))
       (λ home. nothing_more (get_or (gates_noted s.gates) home []))
-
-  pub few_locks : length locks ≤ 8
-  few_locks = subst (λ (l : List (Chronicle NotedGate GateDeed)). length l ≤ 8) (sym locks_is) shared.framed.few_gates

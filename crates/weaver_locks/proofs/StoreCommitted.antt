@@ -57,7 +57,8 @@ judged_by_hand : {F : Type 0} (n request : ℕ) (stamp : Stamp) (ops : List Op) 
 judged_by_hand n request stamp ops before (Ok verdict) e has = ap (λ (x : StoreEntry). x.author) (sym (only _ e has))
 judged_by_hand n request stamp ops before (Err f) e has = absurd (has_none e has)
 
-call_by : (n : ℕ) (asked : List Stamp) (stamp : Stamp) (places : List ℕ) (e : OracleEntry)
+-- the entry of a call is its caller's
+pub call_by : (n : ℕ) (asked : List Stamp) (stamp : Stamp) (places : List ℕ) (e : OracleEntry)
     → Contains (map oracle_entry (entries_of_call n asked stamp places)) e → e.author ≡ n
 call_by n asked stamp [] e has = absurd (has_none e has)
 call_by n asked stamp (place ∷ places) e has = ap (λ (x : OracleEntry). x.author) (sym (only _ e has))

@@ -28,16 +28,9 @@ use Rattle.weaver_locks.specs.declared.hand.Hand.{Hand}
 use Rattle.weaver_locks.specs.declared.shared.Shared.{Shared}
 use Rattle.weaver_locks.specs.Hands.{hand_number, IsHand}
 use Rattle.weaver_locks.specs.InStore.{IsInStore, store_frame_of}
+use Rattle.weaver_locks.proofs.FrameParts.{first_of, rest_of}
 use Rattle.weaver_locks.proofs.Rows.{all_met_on}
 use Rattle.weaver_locks.proofs.Seeing.{gates_named}
-
-abbrev first_of : Frame → List ℕ
-first_of [] = []
-first_of (x ∷ xs) = x
-
-abbrev rest_of : Frame → Frame
-rest_of [] = []
-rest_of (x ∷ xs) = xs
 
 module _ (shared : Shared) (old : Hand) (hand : IsHand shared old) (held : Held NotedStore StoreDeed) (s : StoreView) (s_is : s ≡ machine_of held)
     (framed : store_frame_of (machine_of held) ≡ (lock_of shared.store).frame) where

@@ -34,6 +34,10 @@ pub record AreInOrder (gates : List GateView) (shards : List ShardView) : Type 0
   pub numbers : (k : ℕ) (s : ShardView) → k < length shards → (slice_index_or shards k s).number ≡ k
   pub shard_gates : (k : ℕ) (s : ShardView) → k < length shards → (slice_index_or shards k s).gates ≡ length gates
 
+-- a shard before its first entry, with this number and for that many gatekeepers
+abbrev pub IsNewShard : ℕ → ℕ → ShardView → Type 0
+IsNewShard number gates shard = shard ≡ record { number = number; gates = gates; log = [] }
+
 -- Machines may be put behind locks if they are in order, and their logs are legal and refer to nothing but themselves.
 -- Those of an account do.
 pub record MayStart (gates : List GateView) (store : List StoreEntry) (oracle : List OracleEntry)

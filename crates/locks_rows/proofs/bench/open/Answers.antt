@@ -3,7 +3,8 @@ use Rattle.weave_entries.specs.declared.oracle_log.OracleEntry.{OracleEntry}
 use Rattle.weave_entries.specs.declared.store_log.StoreEntry.{StoreEntry}
 use Rattle.weaver_locks.specs.Closing.{MayStart, logs_of}
 use Rattle.locks_rows.specs.Workers.{ArePlayers}
-use Rattle.locks_rows.proofs.Opening.{in-order, new-players, no-entries, no-gate-log, no-shard-log}
+use Rattle.weaver_locks.proofs.NewMachines.{in-order, no-entries, no-gate-log, no-shard-log}
+use Rattle.locks_rows.proofs.Opening.{new-players}
 use Rattle.locks_rows.proofs.bench.open.Goals as goal
 
 pub new-made-requires-clause-start : goal.new-made-requires-clause-start
@@ -35,7 +36,7 @@ returns-clause-players g c =
     let count = rw c.expect-shared.ensures at c.new-made.ensures.count in
     let dealt = c.expect-shared.result.1 in
     subst (ArePlayers c.expect-shared.result.0) (sym c.players_of-players.ensures)
-    (new-players c.workers_keep_their_laws.ensures c.expect-shared.result.0 dealt.items c.args.hands
+    (new-players c.expect-shared.result.0 dealt.items c.args.hands
     (logs_of gates c.new.result c.new-2.result shards) (sym dealt.ok.0 ∙ count)
     (no-entries gates c.new.result c.new-2.result shards
     (no-gate-log gates shards c.args.gates c.args.shards gate_len shard_len c.new_gates.ensures.new c.new_shards.ensures.new)) hands)

@@ -1,7 +1,8 @@
 use Rattle.std.proofs.Common.{ap, ◌∙◌}
 use Rattle.chronicle.specs.Holds.{machine_of}
 use Rattle.chronicle.specs.Passes.{number_of}
-use Rattle.weaver_locks.proofs.StoreAsked.{all_ready, as_many, few_locks, gates_legal, its_note, notes_met, oracle_framed, pass_ready}
+use Rattle.weaver_locks.proofs.RowAsked.{all_ready, as_many, few_locks}
+use Rattle.weaver_locks.proofs.StoreAsked.{gates_legal, its_note, notes_met, oracle_framed, pass_ready}
 use Rattle.weaver_locks.proofs.StoreCommitted.{done, follows, judged}
 use Rattle.weaver_locks.proofs.StoreNew.{begun_noted, new_stamp}
 use Rattle.weaver_locks.proofs.shared.Shared.commit.Goals as goal
@@ -23,13 +24,13 @@ commit-judged-requires-clause-pass g c =
 
 pub commit-judged-requires-clause-passes : goal.commit-judged-requires-clause-passes
 commit-judged-requires-clause-passes g c =
-    as_many c.args.self.now c.args.hand.now c.enter_store-held.new.hand c.enter_store-held.result c.requires.hand c.enter_store-held.ensures
-    c.state-state.result.now c.state-state.ensures.value c.as_slice.result.now c.as_slice.ensures.value c.as_mut_slice.result.now c.as_mut_slice.ensures.value
+    as_many c.args.self.now c.as_slice.result.now c.as_slice.ensures.value c.args.hand.now c.enter_store-held.new.hand c.requires.hand
+    c.enter_store-held.ensures.gates c.as_mut_slice.result.now c.as_mut_slice.ensures.value
 
 pub commit-judged-requires-clause-all_ready : goal.commit-judged-requires-clause-all_ready
 commit-judged-requires-clause-all_ready g c =
-    all_ready c.args.self.now c.args.hand.now c.enter_store-held.new.hand c.enter_store-held.result c.requires.hand c.enter_store-held.ensures
-    c.state-state.result.now c.state-state.ensures.value c.as_slice.result.now c.as_slice.ensures.value c.as_mut_slice.result.now c.as_mut_slice.ensures.value
+    all_ready c.args.self.now c.as_slice.result.now c.as_slice.ensures.value c.args.hand.now c.enter_store-held.new.hand c.requires.hand
+    c.enter_store-held.ensures.gates c.as_mut_slice.result.now c.as_mut_slice.ensures.value
 
 pub commit-judged-requires-clause-legal : goal.commit-judged-requires-clause-legal
 commit-judged-requires-clause-legal g c =
@@ -43,8 +44,7 @@ commit-judged-requires-clause-met g c =
 
 pub commit-judged-requires-clause-gates : goal.commit-judged-requires-clause-gates
 commit-judged-requires-clause-gates g c =
-    few_locks c.args.self.now c.args.hand.now c.enter_store-held.new.hand c.enter_store-held.result c.requires.hand c.enter_store-held.ensures
-    c.state-state.result.now c.state-state.ensures.value c.as_slice.result.now c.as_slice.ensures.value c.as_mut_slice.result.now c.as_mut_slice.ensures.value
+    few_locks c.args.self.now c.as_slice.result.now c.as_slice.ensures.value
 
 pub commit-judged-requires-clause-new : goal.commit-judged-requires-clause-new
 commit-judged-requires-clause-new g c =

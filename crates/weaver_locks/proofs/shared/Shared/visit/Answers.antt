@@ -10,8 +10,9 @@ use Rattle.chronicle.specs.declared.pass.Pass.{Pass}
 use Rattle.chronicle.specs.Holds.{machine_of}
 use Rattle.chronicle.specs.Passes.{seen}
 use Rattle.weaver_locks.proofs.Beside.{oracle_found}
+use Rattle.weaver_locks.proofs.RowAsked.{all_ready, as_many, few_locks}
 use Rattle.weaver_locks.proofs.Seeing.{oracles_back}
-use Rattle.weaver_locks.proofs.ShardAsked.{all_ready, as_many, few_locks, gate_count, gates_legal, its_note, kept_here, notes_met, oracle_framed, runs_here}
+use Rattle.weaver_locks.proofs.ShardAsked.{gate_count, gates_legal, its_note, kept_here, notes_met, oracle_framed, runs_here}
 use Rattle.weaver_locks.proofs.ShardVisited.{oracle_keeps, oracle_refers_on, oracle_was, visit_done, visit_follows, visited_here}
 use Rattle.weaver_locks.proofs.shared.Shared.visit.Goals as goal
 
@@ -29,15 +30,13 @@ visit-read-requires-clause-note g c =
 
 pub visit-read-requires-clause-passes : goal.visit-read-requires-clause-passes
 visit-read-requires-clause-passes g c =
-    as_many c.args.self.now c.args.hand.now c.enter_shard-held.new.hand c.args.shard c.enter_shard-held.result c.requires.hand
-    c.requires.shard c.enter_shard-held.ensures c.state-state.result.now c.state-state.ensures.value c.as_slice.result.now c.as_slice.ensures.value
-    c.as_mut_slice.result.now c.as_mut_slice.ensures.value
+    as_many c.args.self.now c.as_slice.result.now c.as_slice.ensures.value c.args.hand.now c.enter_shard-held.new.hand c.requires.hand
+    c.enter_shard-held.ensures.gates c.as_mut_slice.result.now c.as_mut_slice.ensures.value
 
 pub visit-read-requires-clause-all_ready : goal.visit-read-requires-clause-all_ready
 visit-read-requires-clause-all_ready g c =
-    all_ready c.args.self.now c.args.hand.now c.enter_shard-held.new.hand c.args.shard c.enter_shard-held.result c.requires.hand
-    c.requires.shard c.enter_shard-held.ensures c.state-state.result.now c.state-state.ensures.value c.as_slice.result.now c.as_slice.ensures.value
-    c.as_mut_slice.result.now c.as_mut_slice.ensures.value
+    all_ready c.args.self.now c.as_slice.result.now c.as_slice.ensures.value c.args.hand.now c.enter_shard-held.new.hand c.requires.hand
+    c.enter_shard-held.ensures.gates c.as_mut_slice.result.now c.as_mut_slice.ensures.value
 
 pub visit-read-requires-clause-legal : goal.visit-read-requires-clause-legal
 visit-read-requires-clause-legal g c =
@@ -59,9 +58,7 @@ visit-read-requires-clause-gates g c =
 
 pub visit-read-requires-clause-few : goal.visit-read-requires-clause-few
 visit-read-requires-clause-few g c =
-    few_locks c.args.self.now c.args.hand.now c.enter_shard-held.new.hand c.args.shard c.enter_shard-held.result c.requires.hand
-    c.requires.shard c.enter_shard-held.ensures c.state-state.result.now c.state-state.ensures.value c.as_slice.result.now c.as_slice.ensures.value
-    c.as_mut_slice.result.now c.as_mut_slice.ensures.value
+    few_locks c.args.self.now c.as_slice.result.now c.as_slice.ensures.value
 
 pub visit-read-requires-clause-kept_here : goal.visit-read-requires-clause-kept_here
 visit-read-requires-clause-kept_here g c =
