@@ -29,7 +29,7 @@ use Rattle.workers_account.specs.Phase.{HasDone, IsPhaseRun, IsPhaseStart}
 use Rattle.workers_account.proofs.GoneOn.{keeps-at-end}
 use Rattle.weave_phase.specs.declared.seats.Seat.{Seat}
 use Rattle.weave_phase.specs.Parts.{AreReadyParts}
-use Rattle.weave_phase.specs.Ran.{AreOpened, AreSeated, HaveRunPhase, IsNewHand}
+use Rattle.weave_phase.specs.Ran.{AreOpened, AreSeated, HaveRunPhase, IsHandAtStart}
 use Rattle.weave_phase.specs.Seats.{client_in, hand_in, AreDealt, ArePutBack, AreTaken, HaveRun}
 use Rattle.weave_phase.specs.StartLaws.{StartLaws}
 use Rattle.weave_phase.proofs.RanSeats.{hands-after, in-or-not, phase-run}
@@ -92,11 +92,11 @@ module _ (laws : StartLaws) (phase : ℕ) (split : Split) (parts : AreReadyParts
       by_log = parts.joined.clients;
     }
 
-    new-hand : (k : ℕ) (hand : Hand) → slice_get hands k ≡ Some hand → IsNewHand shared k hand
+    new-hand : (k : ℕ) (hand : Hand) → slice_get hands k ≡ Some hand → IsHandAtStart shared k hand
     new-hand k hand at =
         let of = opened.each k hand (slice_get_within hands k hand at) in
         let same : slice_index_or hands k hand ≡ hand = get_or_from_slice_get hands k hand hand at in
-        subst (IsNewHand shared k) same (record { is_hand = of.0; number_is = of.1; seen = of.2 ∙ sym opened.begins })
+        subst (IsHandAtStart shared k) same (record { is_hand = of.0; number_is = of.1; seen = of.2 ∙ sym opened.begins })
 
     part-is-hand : {was is : List Client} {hand_of : ℕ → ℕ} (hand from : Hand) → HasDone shared script (phase_end script phase) was is hand_of from hand → IsHand shared hand
     part-is-hand hand from (inl carried) = carried.is_hand

@@ -1,5 +1,5 @@
 -- Lists by their places, and one worker that is seated or unseated.
-use Rattle.std.proofs.Common.{◌≡◌, ◌≢◌, ◌⊎◌, ℕ, zero, suc, ◌+◌, ◌-◌, ◌<◌, ◌≤◌, List, [], ◌∷◌, ◌++◌, AllPairs, drop, length, map, get_or, slice_get, slice_set, Option, None, Some, inl, inr, refl, sym, ap, subst, ◌∙◌, arith}
+use Rattle.std.proofs.Common.{◌≡◌, ◌⊎◌, ℕ, zero, suc, ◌+◌, ◌-◌, ◌<◌, ◌≤◌, List, [], ◌∷◌, ◌++◌, AllPairs, drop, length, map, get_or, slice_get, slice_set, Option, None, Some, inl, inr, refl, sym, ap, subst, ◌∙◌, arith}
 use Rattle.std.proofs.lemmas.Bool.{cases_lt}
 use Rattle.std.proofs.lemmas.List.{append_assoc, drop_more, length-drop}
 use Rattle.std.proofs.lemmas.Option.{get_or_from_slice_get, none-some, same_Some, slice_get_read, slice_get_within}
@@ -9,20 +9,6 @@ use Rattle.weaver_workers.specs.declared.worker.Worker.{Worker}
 use Rattle.weaver_workers.specs.declared.worker.Worker.TheVariants.{ClientWork, GateWork, ShardWork}
 use Rattle.weave_phase.specs.Seating.{IsSeated, IsUnseated}
 use Rattle.weave_phase.specs.Seats.{client_in}
-
-pub get_set_here : {A : Type 0} (xs : List A) (place : ℕ) (x : A) → place < length xs
-    → slice_get (slice_set xs place x) place ≡ Some x
-get_set_here [] place x within = absurd (omega arith)
-get_set_here (y ∷ xs) zero x within = refl
-get_set_here (y ∷ xs) (suc place) x within = get_set_here xs place x (omega arith)
-
-pub get_set_other : {A : Type 0} (xs : List A) (place other : ℕ) (x : A) → other ≢ place
-    → slice_get (slice_set xs place x) other ≡ slice_get xs other
-get_set_other [] place other x differ = refl
-get_set_other (y ∷ xs) zero zero x differ = absurd (differ refl)
-get_set_other (y ∷ xs) zero (suc other) x differ = refl
-get_set_other (y ∷ xs) (suc place) zero x differ = refl
-get_set_other (y ∷ xs) (suc place) (suc other) x differ = get_set_other xs place other x (λ e. differ (ap suc e))
 
 -- with one more at the end, an element was there before or is the new one
 pub push_cases : {A : Type 0} (xs : List A) (x y : A) (j : ℕ) → slice_get (xs ++ x ∷ []) j ≡ Some y

@@ -25,7 +25,7 @@ use Rattle.weaver_workers.specs.Workers.{Works}
 use Rattle.workers_account.specs.Phase.{CarriedOn, FollowedOn, HasDone, IsOfSession, IsPartBy, IsPhaseRun}
 use Rattle.workers_account.proofs.GoneOn.{number-and-more}
 use Rattle.weave_phase.specs.declared.seats.Seat.{Seat}
-use Rattle.weave_phase.specs.Ran.{AreSeated, HaveRunPhase, IsNewHand}
+use Rattle.weave_phase.specs.Ran.{AreSeated, HaveRunPhase, IsHandAtStart}
 use Rattle.weave_phase.specs.Seats.{client_in, hand_in, IsDealt}
 use Rattle.weave_phase.specs.StartLaws.{StartLaws}
 use Rattle.weave_phase.proofs.ReadySeats.{client-keeps, something-at}
@@ -144,7 +144,7 @@ module _ (laws : StartLaws) (shared : Shared) (script : Script) (phase : ℕ) (s
     hand-was : (hand : Hand) × (slice_get hands k ≡ Some hand)
     hand-was = something-at hands k (let in_after = within in let same = ran.ran.many in let dealt = seated.dealt.many in omega (arith, in_after, same, dealt))
 
-    new : IsNewHand shared k hand-was.0
+    new : IsHandAtStart shared k hand-was.0
     new = seated.new k hand-was.0 hand-was.1
 
     of : IsDealt sessions script.gates clients k hand-was.0 (was.0).worker

@@ -29,7 +29,7 @@ use Rattle.workers_account.specs.Phase.{IsPhaseStart}
 use Rattle.workers_account.proofs.Begun.{stamp-began}
 use Rattle.workers_account.proofs.SessionLogs.{in-session, log-at}
 use Rattle.weave_phase.specs.declared.seats.Seat.{Seat}
-use Rattle.weave_phase.specs.Ran.{AreSeated, IsNewHand}
+use Rattle.weave_phase.specs.Ran.{AreSeated, IsHandAtStart}
 use Rattle.weave_phase.specs.Seats.{IsClientsSeat}
 use Rattle.weave_phase.specs.StartLaws.{StartLaws}
 
@@ -101,12 +101,12 @@ module _ (laws : StartLaws) (shared : Shared) (script : Script) (phase : ℕ) (s
         subst (λ (l : List SessionEntry). IsTrue (has_reply_in r l)) (ap (session_log start) of.2 ∙ log-is) (seated.answered.replied r of.0 low of.1)
 
   -- a new hand may go on with a session
-  pub client-keeps : (k : ℕ) (hand : Hand) → IsNewHand shared k hand → (session : ℕ) (client : Client) → slice_get clients session ≡ Some client
+  pub client-keeps : (k : ℕ) (hand : Hand) → IsHandAtStart shared k hand → (session : ℕ) (client : Client) → slice_get clients session ≡ Some client
       → KeepsClient shared script session hand client
   client-keeps k hand new session client at =
       laws.ready script start shared clients hand session client at_start new.is_hand new.seen at (begun-replied session client at)
 
-  ready-client : (k : ℕ) (hand : Hand) → IsNewHand shared k hand → (worker : Worker) → IsClientsSeat sessions clients k hand worker → IsReady shared script phase worker
+  ready-client : (k : ℕ) (hand : Hand) → IsHandAtStart shared k hand → (worker : Worker) → IsClientsSeat sessions clients k hand worker → IsReady shared script phase worker
   ready-client k hand new worker seat =
       subst (IsReady shared script phase) (sym seat.worker_is)
       (let ready : IsReadyClient shared script phase hand seat.client = record {

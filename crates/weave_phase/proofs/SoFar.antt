@@ -12,7 +12,8 @@ use Rattle.weaver_workers.specs.declared.worker.Worker.{Worker}
 use Rattle.weave_phase.specs.declared.seats.Seat.{Seat}
 use Rattle.weave_phase.specs.Seating.{IsSeated, IsUnseated}
 use Rattle.weave_phase.specs.Seats.{client_in, AreDealt, ArePutBack, AreTaken, IsDealt}
-use Rattle.weave_phase.proofs.Placed.{get_set_here, get_set_other, once, push_cases}
+use Rattle.shard_node.proofs.Places.{get_set_here, get_set_other}
+use Rattle.weave_phase.proofs.Placed.{once, push_cases}
 
 -- the session is not one of the first k
 abbrev pub NotBefore : List ℕ → ℕ → ℕ → Type 0

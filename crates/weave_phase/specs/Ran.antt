@@ -16,13 +16,13 @@ use Rattle.weave_phase.specs.declared.seats.Seat.{Seat}
 use Rattle.weave_phase.specs.Seats.{AreDealt, AreTaken, ArePutBack, HaveRun}
 
 -- a hand that came with the locks, with this number, which has seen the start and no more
-pub record IsNewHand (shared : Shared) (number : ℕ) (hand : Hand) : Type 0 where
+pub record IsHandAtStart (shared : Shared) (number : ℕ) (hand : Hand) : Type 0 where
   pub is_hand : IsHand shared hand
   pub number_is : hand_number hand ≡ number
   pub seen : seen_by hand ≡ start_of shared
 
--- The workers are seated: the parts are those of a core in which just the requests of earlier phases were begun and have
--- their replies, and there is a new hand for each of these sessions, each gatekeeper and each shard.
+-- The workers are seated: the parts are those of a core in which just the requests of earlier phases were begun and
+-- have their replies, and there is a new hand for each of these sessions, each gatekeeper and each shard.
 pub record AreSeated (shared : Shared) (script : Script) (phase : ℕ) (start : Account) (clients : List Client)
     (sessions : List ℕ) (hands : List Hand) (seats : List Seat) : Type 0 where
   pub at_start : IsPhaseStart script start shared clients
@@ -31,7 +31,7 @@ pub record AreSeated (shared : Shared) (script : Script) (phase : ℕ) (start : 
   pub few : (session : ℕ) → Contains sessions session → session < 64
   pub many : length hands ≡ length sessions + script.gates + script.shards
   pub of_locks : hands_of shared ≡ length hands
-  pub new : (k : ℕ) (hand : Hand) → slice_get hands k ≡ Some hand → IsNewHand shared k hand
+  pub new : (k : ℕ) (hand : Hand) → slice_get hands k ≡ Some hand → IsHandAtStart shared k hand
   pub dealt : AreDealt sessions script.gates clients hands seats
 
 -- They ran, and each is done. The sessions' clients were taken out of their places for it, and were put back.
@@ -43,8 +43,8 @@ pub record HaveRunPhase (shared : Shared) (script : Script) (phase : ℕ) (sessi
   pub taken : AreTaken sessions (map Some clients) between
   pub back : ArePutBack sessions after between (map Some left)
 
--- The machines of these parts are behind locks, with a new hand for each of these sessions, which rise, each gatekeeper and
--- each shard.
+-- The machines of these parts are behind locks, with a new hand for each of these sessions, which rise, each gatekeeper
+-- and each shard.
 pub record AreOpened (split : Split) (shared : Shared) (hands : List Hand) (sessions : List ℕ) : Type 0 where
   pub rising : AllPairs (λ (a b : ℕ). a < b) sessions
   pub few : (session : ℕ) → Contains sessions session → session < 64

@@ -5,8 +5,8 @@ use Rattle.weaver_core.specs.Cores.{CoreView}
 use Rattle.weaver_core.specs.Splitting.{NoneInFlight}
 use Rattle.workers_account.specs.Pairs.{AddsOpenPairs, GainBelow}
 
--- The core is of the same script. Its logs went on: no transaction is in flight there, requests before `upto` alone were
--- begun, no epoch was raised, and pairs were added to requests without a reply alone.
+-- The core is of the same script. Its logs went on: no transaction is in flight there, requests before `upto` alone
+-- were begun, no epoch was raised, and pairs were added to requests without a reply alone.
 pub record RunsPhase (upto : ℕ) (old new : CoreView) : Type 0 where
   pub script : new.script ≡ old.script
   pub goes_on : GoesOn old.state.account new.state.account

@@ -1,5 +1,5 @@
--- The workers of a phase, each with its hand, in the order of their hands' numbers: those of sessions, of gatekeepers and
--- of shards.
+-- The workers of a phase, each with its hand, in the order of their hands' numbers: those of sessions, of gatekeepers
+-- and of shards.
 use Rattle.std.specs.Prelude.{◌≡◌, ℕ, ◌+◌, ◌-◌, ◌<◌, ◌≤◌, true, List, length, slice_get, Contains, Option, None, Some}
 use Rattle.program_defs.specs.declared.script.Script.{Script}
 use Rattle.weaver_core.specs.declared.client.Client.{Client}
@@ -57,7 +57,8 @@ pub record AreTaken (sessions : List ℕ) (old new : List (Option Client)) : Typ
 
 -- a worker that is done has done its part of the phase
 abbrev pub HasRun : Shared → Script → ℕ → Seat → Seat → Type 0
-HasRun shared script phase old new = new.done ≡ true → (ended : Ended) × Works shared script phase old.worker new.worker ended
+HasRun shared script phase old new = new.done ≡ true
+    → (ended : Ended) × Works shared script phase old.worker new.worker ended
 
 -- so each of them
 pub record HaveRun (shared : Shared) (script : Script) (phase : ℕ) (old new : List Seat) : Type 0 where

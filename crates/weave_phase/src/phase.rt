@@ -1,13 +1,8 @@
 //! A phase of a script, run by workers on threads.
-ghost use Rattle.std.specs.Prelude.{◌≡◌, ℕ, ◌<◌, ◌≤◌, AllPairs, Contains, IfOk, length};
-ghost use Rattle.weave_entries.specs.ShardRules.{IsShardLog};
-ghost use Rattle.weave_entries.specs.StoreRule.{IsStoreLog};
-ghost use Rattle.weave_account.specs.Account.{shard_log};
-ghost use Rattle.weave_account.specs.GoesOn.{GoesOn};
-ghost use Rattle.weaver_core.specs.Splitting.{account_of, CanBeJoined, NoneInFlight};
+ghost use Rattle.std.specs.Prelude.{ℕ, ◌<◌, ◌≤◌, AllPairs, Contains, IfOk, length};
+ghost use Rattle.weaver_core.specs.Splitting.{NoneInFlight};
 ghost use Rattle.weaver_workers.specs.Phases.{phase_end, phase_start};
 ghost use Rattle.weaver_workers.specs.Workers.{HasPhase};
-ghost use Rattle.workers_account.specs.Pairs.{AddsOpenPairs, GainBelow};
 ghost use Rattle.workers_account.specs.Ready.{IsAnsweredUpTo};
 ghost use Rattle.weave_phase.specs.Parts.{AreReadyParts, PartsGoOn};
 ghost use Rattle.weave_phase.specs.RunsPhase.{RunsPhase};

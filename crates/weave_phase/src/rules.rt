@@ -1,5 +1,5 @@
 //! What the machines of a core say of their logs.
-ghost use Rattle.std.specs.Prelude.{◌≡◌, ℕ, ◌<◌, length, slice_index_or};
+ghost use Rattle.std.specs.Prelude.{ℕ, ◌<◌, length, slice_index_or};
 ghost use Rattle.shard_node.specs.Shards.{ShardView};
 ghost use Rattle.weave_entries.specs.ShardRules.{IsShardLog};
 ghost use Rattle.weave_entries.specs.StoreRule.{IsStoreLog};

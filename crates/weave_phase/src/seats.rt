@@ -34,7 +34,8 @@ pub(crate) fn seat_all(
     ensures dealt { IfOk result (λ seats. (clients : List Client) → map Some clients ≡ slots.old.items
         → AreDealt sessions.now gates clients hands.items seats.items) }
     ensures taken { OnOk result (AreTaken sessions.now slots.old.items slots.new.items) }
-    ensures undone { IfOk result (λ seats. (k : ℕ) (seat : Seat) → slice_get seats.items k ≡ Some seat → seat.done ≡ false) }
+    ensures undone { IfOk result (λ seats. (k : ℕ) (seat : Seat) → slice_get seats.items k ≡ Some seat
+        → seat.done ≡ false) }
 {
     let mut seats = Vec::new(alloc);
     for (k, hand) in hands.into_iter().enumerate() {

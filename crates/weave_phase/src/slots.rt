@@ -1,5 +1,5 @@
 //! The clients of a core, each in a place from which it can be taken.
-ghost use Rattle.std.specs.Prelude.{◌≡◌, ℕ, map, IfOk, Some, List, Option, None, slice_get, length};
+ghost use Rattle.std.specs.Prelude.{◌≡◌, ℕ, map, IfOk, Some, Option, slice_get};
 ghost use Rattle.weaver_core.specs.declared.client.Client.{Client};
 
 use std::alloc::{AllocError, Global};

@@ -1,12 +1,12 @@
 -- Where requests begin and end: what has its reply has ended, so it is not in flight.
-use Rattle.std.proofs.Common.{◌≡◌, ℕ, zero, suc, ◌==◌, Bool, List, [], ◌∷◌, get_or, Contains, IsTrue, Some, inl, inr, sym, ap, subst, ◌∙◌}
+use Rattle.std.proofs.Common.{◌≡◌, ℕ, ◌==◌, Bool, List, ◌∷◌, Contains, IsTrue, Some, sym, ap, subst, ◌∙◌}
 use Rattle.std.specs.Prelude.{◌&&◌}
 use Rattle.std.specs.List.{flat_map}
 use Rattle.std.proofs.lemmas.Bool.{and_parts, eqb-true}
 use Rattle.std.proofs.lemmas.List.Concat.{flat_map-append}
-use Rattle.std.proofs.lemmas.List.Elements.{Contains-append_left, Contains-append_right}
+use Rattle.std.proofs.lemmas.List.Elements.{Contains-append_left}
 use Rattle.proof_base.proofs.Images.{flat-has}
-use Rattle.proof_base.proofs.Members.{any_has, cut_at, has_flat, has_head, has_none, has_read, has_tail, only}
+use Rattle.proof_base.proofs.Members.{any_has, cut_at, has_none, only}
 use Rattle.proof_base.proofs.Numbers.{has-in}
 use Rattle.program_defs.specs.declared.script.Request.{Request}
 use Rattle.program_defs.specs.declared.script.Script.{Script}
@@ -20,72 +20,17 @@ use Rattle.weave_entries.specs.declared.gate_log.GateEntry.{GateEntry}
 use Rattle.weave_entries.specs.declared.session_log.SessionDeed.{SessionDeed}
 use Rattle.weave_entries.specs.declared.session_log.SessionDeed.TheVariants as session
 use Rattle.weave_entries.specs.declared.session_log.SessionEntry.{SessionEntry}
-use Rattle.weave_entries.specs.GateReplay.{Begun, begun_by, begun_in, ended_by, ended_in, flight_of, program_by, programs_of, tx_by, txs_of}
-use Rattle.weave_entries.specs.GateRules.{EndsAs}
+use Rattle.weave_entries.specs.GateReplay.{Begun, begun_by, begun_in, ended_by, ended_in, flight_of}
 use Rattle.weave_entries.specs.SessionReplay.{has_reply_in, replied_in, reply_by}
 use Rattle.weave_account.specs.declared.account.Account.{Account}
 use Rattle.weave_account.specs.Account.{all_begun, gate_log, is_ended, session_log}
 use Rattle.weave_account.specs.Gatekeepers.{BeginsAs}
 use Rattle.weave_account.specs.IsAccount.{IsAccount}
 use Rattle.weave_account.specs.Sessions.{RepliesAs}
+use Rattle.weave_account.proofs.Beginning.{all-in, tx-begun}
+use Rattle.weave_account.proofs.PhaseOrder.{ended-deed}
+use Rattle.weave_account.proofs.Replying.{place-of}
 use Rattle.weaver_top.specs.LowerLaws.{LowerLaws}
-
--- Lists of lists
-
--- a list that has something is one of the lists
-list-there : {A : Type 0} (xss : List (List A)) (i : ℕ) (y : A) → Contains (get_or xss i []) y → Contains xss (get_or xss i [])
-list-there [] i y h = absurd (has_none y h)
-list-there (xs ∷ xss) zero y h = has_head xs xss
-list-there (xs ∷ xss) (suc i) y h = has_tail xs xss (get_or xss i []) (list-there xss i y h)
-
--- and each of the lists is at some place
-pub place-of : {A : Type 0} (xss : List (List A)) (xs : List A) → Contains xss xs → (i : ℕ) × (get_or xss i [] ≡ xs)
-place-of [] xs h = absurd (has_none xs h)
-place-of (ys ∷ xss) xs h = elim (has_read ys xss xs h) [
-  | inl same ↦ (0, same)
-  | inr more ↦ (let rest = place-of xss xs more in (suc rest.0, rest.1))
-]
-
--- Begins
-
--- a transaction that was begun was begun
-pub tx-begun : (log : List GateEntry) (begun : Begun) → Contains (txs_of log) begun → Contains (begun_in log) begun
-tx-begun log begun h =
-    let from = flat-has (λ (entry : GateEntry). tx_by entry.author entry.deed) log begun h in
-    has_flat (λ (entry : GateEntry). begun_by entry.author entry.deed) log from.0 begun from.1.0
-    (Contains-append_left (tx_by (from.0).author (from.0).deed) (program_by (from.0).author (from.0).deed) begun from.1.1)
-
--- so was a program
-pub program-begun-in : (log : List GateEntry) (begun : Begun) → Contains (programs_of log) begun → Contains (begun_in log) begun
-program-begun-in log begun h =
-    let from = flat-has (λ (entry : GateEntry). program_by entry.author entry.deed) log begun h in
-    has_flat (λ (entry : GateEntry). begun_by entry.author entry.deed) log from.0 begun from.1.0
-    (Contains-append_right (tx_by (from.0).author (from.0).deed) (program_by (from.0).author (from.0).deed) begun from.1.1)
-
--- what was begun at one gatekeeper was begun
-pub all-in : (account : Account) (home : ℕ) (begun : Begun) → Contains (begun_in (gate_log account home)) begun → Contains (all_begun account) begun
-all-in account home begun h =
-    let entry = flat-has (λ (entry : GateEntry). begun_by entry.author entry.deed) (gate_log account home) begun h in
-    has_flat begun_in account.gates (gate_log account home) begun (list-there account.gates home entry.0 entry.1.0) h
-
--- and what was begun was begun at one of them
-pub at-home : (account : Account) (begun : Begun) → Contains (all_begun account) begun → (home : ℕ) × Contains (begun_in (gate_log account home)) begun
-at-home account begun h =
-    let log = flat-has begun_in account.gates begun h in
-    let home = place-of account.gates log.0 log.1.0 in
-    (home.0, subst (λ l. Contains (begun_in l) begun) (sym home.1) log.1.1)
-
--- Ends
-
--- what a deed ends was begun before
-ended-deed : (before : List GateEntry) (author : ℕ) (deed : GateDeed) (r : ℕ) → Contains (ended_by deed) r → EndsAs before author deed → (b : Begun) × Contains (begun_in before) b × (b.request ≡ r)
-ended-deed before author (Sent q messages) r h ends = (_, tx-begun before _ ends.1, only q r h)
-ended-deed before author (Finished q) r h ends = (_, program-begun-in before _ ends.1, only q r h)
-ended-deed before author (BeganTx q stamp) r h ends = absurd (has_none r h)
-ended-deed before author (BeganProgram q stamp) r h ends = absurd (has_none r h)
-ended-deed before author (Nop to number stamp low) r h ends = absurd (has_none r h)
-ended-deed before author (Heard clock) r h ends = absurd (has_none r h)
-ended-deed before author (Raised epoch) r h ends = absurd (has_none r h)
 
 module _ (laws : LowerLaws) (script : Script) (account : Account) (limits : IsWithinLimits script) (is : IsAccount script account) where
   -- Gatekeepers

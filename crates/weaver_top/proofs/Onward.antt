@@ -12,8 +12,8 @@ use Rattle.program_defs.specs.Limits.{IsWithinLimits}
 use Rattle.weave_entries.specs.declared.session_log.SessionEntry.{SessionEntry}
 use Rattle.weave_entries.specs.SessionReplay.{replied_in, reply_by}
 use Rattle.weave_account.specs.declared.account.Account.{Account}
-use Rattle.weave_account.specs.Account.{gate_log, session_log, shard_log}
-use Rattle.weave_account.specs.GoesOn.{GoesOn, IsBeginningOf}
+use Rattle.weave_account.specs.Account.{gate_log, session_log}
+use Rattle.weave_account.specs.GoesOn.{GoesOn}
 use Rattle.weave_account.specs.IsAccount.{IsAccount}
 use Rattle.step_rules.specs.CoreState.{CoreState}
 use Rattle.step_rules.specs.IsCore.{IsCore, IsStepOf}
@@ -23,33 +23,8 @@ use Rattle.weave_drive.specs.Driving.{AreDriving, DrivesGates, IsDriven}
 use Rattle.workers_account.specs.Pairs.{AddsOpenPairs}
 use Rattle.weaver_top.specs.LowerLaws.{LowerLaws}
 use Rattle.weaver_top.specs.PhaseByPhase.{EndsAt, RunsBelow}
+use Rattle.weaver_top.proofs.GoingOn.{driven-on, goes-further, goes-same, steps-go-on}
 use Rattle.weaver_top.proofs.Unanswered.{step-adds}
-
--- Accounts go on
-
-same-log : {E : Type 0} (log : List E) → IsBeginningOf log log
-same-log log = ([], sym (append-nil log))
-
-longer-log : {E : Type 0} (log middle last : List E) → IsBeginningOf log middle → IsBeginningOf middle last → IsBeginningOf log last
-longer-log log middle last (more, is) (further, are) = (more ++ further, are ∙ ap (λ l. l ++ further) is ∙ append_assoc log more further)
-
-pub goes-same : (account : Account) → GoesOn account account
-goes-same account = record {
-  gates = λ home. same-log (gate_log account home);
-  store = same-log account.store;
-  oracle = same-log account.oracle;
-  shards = λ shard. same-log (shard_log account shard);
-  sessions = λ session. same-log (session_log account session);
-}
-
-pub goes-further : (account middle last : Account) → GoesOn account middle → GoesOn middle last → GoesOn account last
-goes-further account middle last on further = record {
-  gates = λ home. longer-log (gate_log account home) (gate_log middle home) (gate_log last home) (on.gates home) (further.gates home);
-  store = longer-log account.store middle.store last.store on.store further.store;
-  oracle = longer-log account.oracle middle.oracle last.oracle on.oracle further.oracle;
-  shards = λ shard. longer-log (shard_log account shard) (shard_log middle shard) (shard_log last shard) (on.shards shard) (further.shards shard);
-  sessions = λ session. longer-log (session_log account session) (session_log middle session) (session_log last session) (on.sessions session) (further.sessions session);
-}
 
 -- a reply stays
 pub reply-stays : (old new : Account) → GoesOn old new → (r : ℕ) (request : Request) → IsTrue (has_reply old r request) → IsTrue (has_reply new r request)
@@ -139,23 +114,17 @@ module _ (laws : LowerLaws) (script : Script) (limits : IsWithinLimits script) w
     steps-core [] state core are = core
     steps-core (step ∷ steps) state core are = steps-core steps (state_after script state step) are.2 are.3
 
-    steps-on : (steps : List Step) (state : CoreState) → IsCore script state → AreDriving script bound state steps → GoesOn state.account (fold (state_after script) state steps).account
-    steps-on [] state core are = goes-same state.account
-    steps-on (step ∷ steps) state core are =
-        goes-further state.account (state_after script state step).account (fold (state_after script) (state_after script state step) steps).account
-        (laws.goes_on script state step limits are.1 core) (steps-on steps (state_after script state step) are.2 are.3)
-
     steps-add : (steps : List Step) (state : CoreState) → IsCore script state → AreDriving script bound state steps → AddsOpenPairs script state.account (fold (state_after script) state steps).account
     steps-add [] state core are = λ e l h. inl h
     steps-add (step ∷ steps) state core are =
         adds-through state.account (state_after script state step).account (fold (state_after script) (state_after script state step) steps).account
-        (laws.goes_on script state step limits are.1 core) (steps-on steps (state_after script state step) are.2 are.3)
+        (laws.goes_on script state step limits are.1 core) (steps-go-on laws.goes_on script limits bound steps (state_after script state step) are.2 are.3)
         (step-adds laws script limits state step core.account) (steps-add steps (state_after script state step) are.2 are.3)
 
     pub driven-runs : (old new : CoreState) → IsCore script old → IsDriven script bound old new → DrivesGates bound old.account new.account → RunsBelow script bound old.account new.account
     driven-runs old new core driven gates = record {
       is_account = subst (λ (s : CoreState). IsAccount script s.account) (sym driven.is) (steps-core driven.steps old core driven.are).account;
-      goes_on = subst (λ (s : CoreState). GoesOn old.account s.account) (sym driven.is) (steps-on driven.steps old core driven.are);
+      goes_on = driven-on laws.goes_on script limits bound old new core driven;
       gates = gates;
       pairs = subst (λ (s : CoreState). AddsOpenPairs script old.account s.account) (sym driven.is) (steps-add driven.steps old core driven.are);
     }

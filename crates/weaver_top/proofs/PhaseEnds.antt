@@ -28,10 +28,12 @@ use Rattle.weave_account.specs.NoLogs.{no_logs}
 use Rattle.weave_account.specs.Phases.{EndsPhase}
 use Rattle.step_rules.specs.Requests.{has_reply}
 use Rattle.weave_drive.specs.Driving.{AreReplied, DrivesGates, is_driving_deed}
+use Rattle.weave_account.proofs.Replying.{place-of}
+use Rattle.workers_account.proofs.Begun.{has-all as at-home}
 use Rattle.weaver_top.specs.LowerLaws.{LowerLaws}
 use Rattle.weaver_top.specs.PhaseByPhase.{EndsAt, HasEnded, IsRunUpTo, IsWholeRun, RunsBelow}
-use Rattle.weaver_top.proofs.Begun.{at-home, place-of}
-use Rattle.weaver_top.proofs.Onward.{adds-through, goes-further, goes-same, runs-same}
+use Rattle.weaver_top.proofs.GoingOn.{goes-further, goes-same}
+use Rattle.weaver_top.proofs.Onward.{adds-through, runs-same}
 
 -- Ends of phases rise
 

@@ -11,7 +11,7 @@ use Rattle.weaver_top.specs.declared.status.Status.TheVariants.{Refused}
 pub told : (A : Type 0) (why : ScriptFault) (line : ℕ) (cause : Cause) (P : ℕ → Cause → Type 0) → why ≡ fault.Refused line cause → IfRefused {A = A} (Err why) P → P line cause
 told A why line cause P is holds = let Q : ScriptFault → Type 0 = λ why. IfRefused {A = A} (Err why) P in subst Q is holds
 
--- what holds of each answer that refuses with this line holds of one that was made so, where memory wasn't wanting
+-- what holds of each answer that refuses with this line holds of one that was made, if memory did not run out
 pub refused : {E : Type 0} (result : Result Answer E) (line : List ℕ) (P : Answer → Type 0) → IfOk result (λ answer. answer.status ≡ Refused) → IfOk result (λ answer. answer.text.items ≡ line) → ((answer : Answer) → answer.status ≡ Refused → answer.text.items ≡ line → P answer) → IfOk result P
 refused (Ok answer) line P status text all = all answer status text
 refused (Err error) line P status text all = tt

@@ -42,7 +42,8 @@ use Rattle.step_rules.specs.Requests.{has_ended, next_vertex, ops_in}
 use Rattle.step_rules.specs.Trace.{is_ok, state_after}
 use Rattle.weaver_top.specs.LowerLaws.{LowerLaws}
 use Rattle.workers_account.specs.Pairs.{AddsOpenPairs}
-use Rattle.weaver_top.proofs.Begun.{all-in, flight-begun, flight-unanswered, program-begun-in}
+use Rattle.weave_account.proofs.Beginning.{all-in, program-begun as program-begun-in}
+use Rattle.weaver_top.proofs.Begun.{flight-begun, flight-unanswered}
 
 -- What the oracle adds
 

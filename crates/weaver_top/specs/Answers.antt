@@ -71,7 +71,8 @@ pub record IsAnswerTo (command : Command) (input : List ℕ) (answer : Answer) :
   pub tells : TellsAt command answer.status input answer.text.items
   pub ends : IsTrue (can_end command answer.status)
 
--- the answer's text was written, or the writing failed and some of it was written, from its start. No public contract cites this.
+-- the answer's text was written, or the writing failed and some of it was written, from its start.
+-- No public contract cites this.
 abbrev pub Delivers : Answer → Status → Told → Told → Type 0 → Type 0
 Delivers answer status before after Failed =
     ((status ≡ answer.status) × Appends before after answer.text.items)

@@ -25,7 +25,8 @@ load_numbered None size = None
 
 -- the command `load` with its seed and its size: each is `0`, or decimal digits of which the first isn't 0
 abbrev pub load_of : List ℕ → List ℕ → List ℕ → Option Command
-load_of word seed size = if pointwise nat_eq word (codes "load") then load_numbered (number_of seed) (number_of size) else None
+load_of word seed size =
+    if pointwise nat_eq word (codes "load") then load_numbered (number_of seed) (number_of size) else None
 
 -- the command that the words ask for: its name alone, or `load` with a seed and a size
 abbrev pub command_of : List (List ℕ) → Option Command

@@ -16,7 +16,9 @@ use Rattle.weave_script.specs.ScriptLines.{IsTextOf}
 use Rattle.weave_script.specs.Scripts.{steps_of}
 use Rattle.weaver_top.specs.VerdictLines.{yes_line}
 
--- `run`: the input is a valid script, and the text is a right report for it, printed. The report's order is the printed order; of two requests that meet at a vertex one precedes the other, and the script's phases are kept; every request has its final reply, and there are no answers of steps.
+-- `run`: the input is a valid script, and the text is a right report for it, printed. The report's order is the printed
+-- order; of two requests that meet at a vertex one precedes the other, and the script's phases are kept; every request
+-- has its final reply, and there are no answers of steps.
 pub record TellsRightReport (input text : List ℕ) : Type 0 where
   pub input_is_short : length input ≤ 4194304
   pub script : Script
@@ -31,7 +33,11 @@ pub record TellsRightReport (input text : List ℕ) : Type 0 where
   pub no_steps : report.answers ≡ []
   pub text_is_printed : text ≡ report_text script report
 
--- `trace`: the input is a valid script, and the text is the printed report of its steps, one after another from the empty logs. It is the report of the logs that the steps leave, with their answers in order, so stamps, verdicts, pairs and answers are those of the definition of steps. A program is finished in it exactly if a `reply` of it answered `ok`. It is a right report for the script, in the printed order; of two requests that meet at a vertex one precedes the other.
+-- `trace`: the input is a valid script, and the text is the printed report of its steps, one after another from the
+-- empty logs. It is the report of the logs that the steps leave, with their answers in order, so stamps, verdicts,
+-- pairs and answers are those of the definition of steps. A program is finished in it exactly if a `reply` of it
+-- answered `ok`. It is a right report for the script, in the printed order; of two requests that meet at a vertex one
+-- precedes the other.
 pub record TellsTrace (input text : List ℕ) : Type 0 where
   pub input_is_short : length input ≤ 4194304
   pub script : Script
@@ -46,7 +52,8 @@ pub record TellsTrace (input text : List ℕ) : Type 0 where
   pub meetings_are_ordered : MeetingsAreOrdered script report
   pub text_is_printed : text ≡ report_text script report
 
--- `check`: the input is a valid script and then a report for it, the report is right for the script, and the text is `yes`
+-- `check`: the input is a valid script and then a report for it, the report is right for the script, and the text is
+-- `yes`
 pub record TellsYes (input text : List ℕ) : Type 0 where
   pub input_is_short : length input ≤ 4194304
   pub script : Script

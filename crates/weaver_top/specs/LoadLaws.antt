@@ -35,27 +35,34 @@ pub record LoadLaws : Type 0 where
   -- account_is_right
   pub right : (script : Script) (account : Account) (report : Report) → IsWithinLimits script → IsAccount script account
       → IsReportOfAccount script account report → IsRightReport script report
-  pub of_the_script : (script : Script) (account : Account) (report : Report) → IsWithinLimits script → IsAccount script account
+  pub of_the_script : (script : Script) (account : Account) (report : Report) → IsWithinLimits script
+      → IsAccount script account
       → IsReportOfAccount script account report → IsReportOf script report
-  pub in_printed_order : (script : Script) (account : Account) (report : Report) → IsReportOfAccount script account report → IsInPrintedOrder report
-  pub meetings : (script : Script) (account : Account) (report : Report) → IsWithinLimits script → IsAccount script account
+  pub in_printed_order : (script : Script) (account : Account) (report : Report)
+      → IsReportOfAccount script account report → IsInPrintedOrder report
+  pub meetings : (script : Script) (account : Account) (report : Report) → IsWithinLimits script
+      → IsAccount script account
       → IsReportOfAccount script account report → MeetingsAreOrdered script report
   -- account_has_one_report
   pub pairs : (script : Script) (account : Account) (a b : Report) → IsWithinLimits script → IsAccount script account
       → IsReportOfAccount script account a → IsReportOfAccount script account b → a.pairs ≡ b.pairs
   -- begun_stamps_are_coherent
   pub differ : (script : Script) (account : Account) → IsWithinLimits script → IsAccount script account
-      → (a b : Begun) → Contains (all_begun account) a → Contains (all_begun account) b → a.request ≢ b.request → id_of a.stamp ≢ id_of b.stamp
+      → (a b : Begun) → Contains (all_begun account) a → Contains (all_begun account) b → a.request ≢ b.request
+      → id_of a.stamp ≢ id_of b.stamp
   -- facts_stay_true
   pub pairs_stay : (script : Script) (account next : Account) → GoesOn account next → BeginEachOnce next
       → (pair : Pair) (given : Given) → IsPairInAccount account pair given → IsPairInAccount next pair given
   -- plain_answer_is_one
-  pub answers : (graph : PlainGraph) (program : Program) (a b : Answer) → IsPlainAnswer graph program a → IsPlainAnswer graph program b → a ≡ b
+  pub answers : (graph : PlainGraph) (program : Program) (a b : Answer) → IsPlainAnswer graph program a
+      → IsPlainAnswer graph program b → a ≡ b
   -- replied_requests_are_final
   pub final : (script : Script) (account : Account) (report : Report) → IsWithinLimits script → IsAccount script account
       → MatchesAccount script account report
-      → ((r : ℕ) (request : Request) → request_at script r ≡ Some request → IsTrue (has_reply_in r (session_log account request.session)))
+      → ((r : ℕ) (request : Request) → request_at script r ≡ Some request
+      → IsTrue (has_reply_in r (session_log account request.session)))
       → EveryReplyIsFinal report
   -- steps_keep_the_core
-  pub goes_on : (script : Script) (state : CoreState) (step : Step) → IsWithinLimits script → IsStepOf script step → IsCore script state
+  pub goes_on : (script : Script) (state : CoreState) (step : Step) → IsWithinLimits script → IsStepOf script step
+      → IsCore script state
       → GoesOn state.account (state_after script state step).account

@@ -19,18 +19,24 @@ use Rattle.weave_script.specs.Scripts.{steps_of}
 use Rattle.load_maker.specs.Generated.{script_of}
 use Rattle.weaver_top.specs.Summaries.{committed_count, conflict_count, program_count, refused_count, summary_text}
 
--- the second report keeps what the first one says: each stamp, each final state with its answers, and the pairs, which come first in its list
+-- the second report keeps what the first one says: each stamp, each final state with its answers, and the pairs, which
+-- come first in its list
 pub record KeepsReport (first second : Report) : Type 0 where
   pub stamps : (r : ℕ) (stamp : Stamp) → stamp_at first r ≡ Some stamp → stamp_at second r ≡ Some stamp
-  pub states : (r : ℕ) (old new : Reply) → reply_at first r ≡ Some old → reply_at second r ≡ Some new → IsTrue (is_final old.state) → new.state ≡ old.state
+  pub states : (r : ℕ) (old new : Reply) → reply_at first r ≡ Some old → reply_at second r ≡ Some new
+      → IsTrue (is_final old.state) → new.state ≡ old.state
   pub pairs : IsBeginningOf first.pairs second.pairs
 
 -- the report keeps what the report of the script's own steps says, done one after another from the empty logs
 abbrev pub KeepsStepReport : Script → Report → Type 0
 KeepsStepReport script report =
-    (first : Report) → IsReportOfAccount script (trace_of script (steps_of script.steps)).state.account first → KeepsReport first report
+    (first : Report) → IsReportOfAccount script (trace_of script (steps_of script.steps)).state.account first
+    → KeepsReport first report
 
--- `load`: the text is the summary of a report for the script of the seed, which has `size` requests and four times as many steps. The report is right, in the printed order; of two requests that meet at a vertex one precedes the other. Every request has its final reply. It is the report of logs that keep what the logs of the script's own steps say, and it keeps what the report of these steps says. So the four counts add up to the number of requests.
+-- `load`: the text is the summary of a report for the script of the seed, which has `size` requests and four times as
+-- many steps. The report is right, in the printed order; of two requests that meet at a vertex one precedes the other.
+-- Every request has its final reply. It is the report of logs that keep what the logs of the script's own steps say,
+-- and it keeps what the report of these steps says. So the four counts add up to the number of requests.
 pub record TellsLoad (seed size : ℕ) (text : List ℕ) : Type 0 where
   pub requests : length (script_of seed size).requests ≡ size
   pub steps : length (steps_of (script_of seed size).steps) ≡ 4 * size
@@ -42,9 +48,11 @@ pub record TellsLoad (seed size : ℕ) (text : List ℕ) : Type 0 where
   pub every_reply_is_final : EveryReplyIsFinal report
   pub logs : Account
   pub by_logs : IsReportOfAccount (script_of seed size) logs report
-  pub logs_stay : ReportStays (script_of seed size) (trace_of (script_of seed size) (steps_of (script_of seed size).steps)).state.account logs
+  pub logs_stay : ReportStays (script_of seed size)
+      (trace_of (script_of seed size) (steps_of (script_of seed size).steps)).state.account logs
   pub steps_are_kept : KeepsStepReport (script_of seed size) report
-  pub counts_add_up : committed_count report + conflict_count report + refused_count report + program_count report ≡ size
+  pub counts_add_up : committed_count report + conflict_count report + refused_count report + program_count report
+      ≡ size
   pub text_is_summary : text ≡ summary_text seed size (4 * size) report
 
 -- such a text was put at the end of what was written

@@ -22,21 +22,26 @@ use Rattle.step_rules.specs.Trace.{state_after}
 pub record LowerLaws : Type 0 where
   -- requests_end, what_has_not_ended_goes_on
   pub ends : (home shards : ℕ) (log : List GateEntry) → IsGateLog home shards log → EndsWhatItBegan log
-  pub in_flight : (home shards : ℕ) (log : List GateEntry) → IsGateLog home shards log → BeginsEachOnce log → (tx : Begun)
+  pub in_flight : (home shards : ℕ) (log : List GateEntry) → IsGateLog home shards log → BeginsEachOnce log
+      → (tx : Begun)
       → (flight_of log ≡ Some tx) ↔ (Contains (txs_of log) tx × ¬ Contains (ended_in log) tx.request)
   -- requests_end_or_go_on
-  pub once : (script : Script) (account : Account) → IsWithinLimits script → IsAccount script account → (home : ℕ) → BeginsEachOnce (gate_log account home)
+  pub once : (script : Script) (account : Account) → IsWithinLimits script → IsAccount script account → (home : ℕ)
+      → BeginsEachOnce (gate_log account home)
   -- begun_stamps_are_coherent
   pub differ : (script : Script) (account : Account) → IsWithinLimits script → IsAccount script account → (a b : Begun)
-      → Contains (all_begun account) a → Contains (all_begun account) b → a.request ≢ b.request → id_of a.stamp ≢ id_of b.stamp
+      → Contains (all_begun account) a → Contains (all_begun account) b → a.request ≢ b.request
+      → id_of a.stamp ≢ id_of b.stamp
   -- facts_stay_true
-  pub begun : (script : Script) (account next : Account) → GoesOn account next → (begun : Begun) → Contains (all_begun account) begun → Contains (all_begun next) begun
+  pub begun : (script : Script) (account next : Account) → GoesOn account next → (begun : Begun)
+      → Contains (all_begun account) begun → Contains (all_begun next) begun
   -- finished_exactly_if_replied
   pub finished : (script : Script) (account : Account) → IsWithinLimits script → IsAccount script account
       → (r : ℕ) (request : Request) → request_at script r ≡ Some request → IsTrue (is_look request.work)
       → IsTrue (is_ended account r) ↔ IsTrue (has_reply_in r (session_log account request.session))
   -- steps_keep_the_core
-  pub goes_on : (script : Script) (state : CoreState) (step : Step) → IsWithinLimits script → IsStepOf script step → IsCore script state
+  pub goes_on : (script : Script) (state : CoreState) (step : Step) → IsWithinLimits script → IsStepOf script step
+      → IsCore script state
       → GoesOn state.account (state_after script state step).account
   -- start_is_a_core
   pub start : (script : Script) → IsCore script (start_state script)

@@ -1,4 +1,4 @@
--- A run by phases, a part at a time: what each part leaves, and how far the run has come. No public contract cites this.
+-- A run by phases, a part at a time: what each leaves, and how far the run has come. No public contract cites this.
 use Rattle.std.specs.Prelude.{◌≡◌, ℕ, ◌<◌, ◌≤◌, length, Contains, IsTrue, Some, slice_get}
 use Rattle.program_defs.specs.declared.script.Request.{Request}
 use Rattle.program_defs.specs.declared.script.Script.{Script}
@@ -38,7 +38,8 @@ pub record EndsAt (script : Script) (bound : ℕ) (old new : Account) : Type 0 w
 pub record HasEnded (script : Script) (phase : ℕ) (logs account : Account) : Type 0 where
   pub is_account : IsAccount script logs
   pub goes_on : GoesOn logs account
-  pub replied : (r : ℕ) (request : Request) → request_at script r ≡ Some request → phase_of script r ≤ phase → IsTrue (has_reply logs r request)
+  pub replied : (r : ℕ) (request : Request) → request_at script r ≡ Some request → phase_of script r ≤ phase
+      → IsTrue (has_reply logs r request)
   pub begun : (begun : Begun) → Contains (all_begun logs) begun → phase_of script begun.request ≤ phase
   pub epochs : (epoch : ℕ) → ¬ IsTrue (is_raised logs epoch)
   pub pairs : AddsOpenPairs script logs account
@@ -50,7 +51,8 @@ pub record IsRunUpTo (script : Script) (phases bound : ℕ) (account : Account) 
   pub replied : AreReplied script bound account
   pub others : (phase end : ℕ) → phases ≤ phase → slice_get script.phases phase ≡ Some end → bound ≤ end
   pub within : bound ≤ length script.requests
-  pub deeds : (home : ℕ) (entry : GateEntry) → Contains (gate_log account home) entry → IsTrue (is_driving_deed bound entry.deed)
+  pub deeds : (home : ℕ) (entry : GateEntry) → Contains (gate_log account home) entry
+      → IsTrue (is_driving_deed bound entry.deed)
   pub ended : (phase : ℕ) → phase < phases → (logs : Account) × HasEnded script phase logs account
 
 -- the account is that of a whole run: phase by phase, and each request has its reply

@@ -27,7 +27,8 @@ yes_line = codes "yes" ++ 10 ∷ []
 abbrev pub no_line : Clause → ℕ → List ℕ
 no_line clause place = codes "no " ++ clause_text clause ++ codes " " ++ decimal place ++ 10 ∷ []
 
--- the input is a valid script and then a report for it that isn't right, and the text names the first clause that breaks and the first place at which it does
+-- the input is a valid script and then a report for it that isn't right, and the text names the first clause that
+-- breaks and the first place at which it does
 pub record TellsNo (input text : List ℕ) : Type 0 where
   pub input_is_short : length input ≤ 4194304
   pub script : Script

@@ -10,7 +10,8 @@ ghost use Rattle.weaver_top.specs.Loads.{WritesLoad, WritesLoadPrefix};
 ghost use Rattle.weaver_top.specs.Refusals.{CanBeTaken, TellsRefusal, check_input, run_input, trace_input};
 ghost use Rattle.weaver_top.specs.VerdictLines.{TellsNo};
 
-use crate::answer::{Answer, answer_to, too_long};
+use crate::answer::{Answer, too_long};
+use crate::answering::answer_to;
 use crate::command::{Command, command_of, reads_input};
 use crate::status::Status;
 use std::alloc::Global;

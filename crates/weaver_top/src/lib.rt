@@ -11,6 +11,7 @@
 #![tactic(auto)]
 
 mod answer;
+mod answering;
 mod check_command;
 mod command;
 mod execution;

@@ -1,5 +1,5 @@
 //! What `load` writes.
-ghost use Rattle.std.specs.Prelude.{◌≡◌, ◌≤◌, ◌*◌, ℕ, List, length, IfOk};
+ghost use Rattle.std.specs.Prelude.{◌≡◌, ◌≤◌, ◌*◌, ℕ, List, IfOk};
 ghost use Rattle.load_maker.specs.Generated.{script_of};
 ghost use Rattle.report_rules.specs.RightReport.{IsRightReport};
 ghost use Rattle.weave_script.specs.Scripts.{IsScript};

@@ -1,5 +1,5 @@
 //! A script run by workers on threads, phase by phase.
-ghost use Rattle.std.specs.Prelude.{◌≡◌, ◌≤◌, ◌<◌, ◌+◌, ℕ, length, IfOk};
+ghost use Rattle.std.specs.Prelude.{◌≡◌, ◌≤◌, ◌<◌, ◌+◌, length, IfOk};
 ghost use Rattle.step_rules.specs.CoreState.{start_state};
 ghost use Rattle.weave_script.specs.Scripts.{IsScript, RiseTo};
 ghost use Rattle.weaver_workers.specs.Phases.{phase_end, phase_start};

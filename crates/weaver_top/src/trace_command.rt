@@ -1,5 +1,5 @@
 //! What `trace` answers to an input.
-ghost use Rattle.std.specs.Prelude.{◌≡◌, ◌≤◌, ◌<◌, ℕ, List, length, slice_get, Some, IfOk, OnOk};
+ghost use Rattle.std.specs.Prelude.{◌≡◌, ◌≤◌, ◌<◌, ℕ, List, length, Some, IfOk, OnOk};
 ghost use Rattle.std.specs.List.{AllByRecursion};
 ghost use Rattle.step_rules.specs.CoreState.{start_state};
 ghost use Rattle.step_rules.specs.IsCore.{IsStepOf};

@@ -15,14 +15,11 @@ use Rattle.weave_entries.specs.SessionReplay.{has_reply_in, replied_count, sessi
 use Rattle.weave_account.specs.Sessions.{requests_of_session}
 use Rattle.weaver_core.specs.declared.client.Client.{Client}
 use Rattle.weaver_core.specs.Clients.{log_of, requests_in, unanswered_in, IsClientOf, IsInTurn}
+use Rattle.weaver_core.proofs.Turns.{place-of}
 use Rattle.weaver_workers.specs.ClientWork.{HasReplies}
 use Rattle.weaver_workers.specs.KeepLaws.{KeepLaws}
 use Rattle.weaver_workers.specs.Turning.{below_in}
 use Rattle.weaver_workers.proofs.Rows.{greater}
-
--- the place of an element
-place-of : {A : Type 0} (xs : List A) (x : A) → Contains xs x → (i : ℕ) × (slice_get xs i ≡ Some x)
-place-of xs x has = (has.0, slice_get-get_or xs has.0 x has.1 ∙ ap Some has.2)
 
 -- an element among the first ones
 in-take : {A : Type 0} (n : ℕ) (xs : List A) (i : ℕ) (x : A) → i < n → slice_get xs i ≡ Some x → Contains (take n xs) x
@@ -103,6 +100,11 @@ below-parts upto r (Some q) is = at (nat_lt q upto) refl is
     at : (b : Bool) → nat_lt q upto ≡ b → (if b then Some q else None) ≡ Some r → (Some q ≡ Some r) × (r < upto)
     at false test is = absurd (none-some r is)
     at true test is = (is, subst (λ (x : ℕ). x < upto) (same_Some q r is) (ltb-true q upto test))
+
+-- the request that is given below `upto` is the session's first one without a reply
+pub given-below : (upto r : ℕ) (client : Client) (given : Option ℕ) → given ≡ below_in upto client → given ≡ Some r
+    → (unanswered_in (requests_in client) (log_of client) ≡ Some r) × (r < upto)
+given-below upto r client given given-is is = below-parts upto r (unanswered_in (requests_in client) (log_of client)) (sym given-is ∙ is)
 
 -- a session's requests are among the script's
 pub in-script : (script : Script) (number r : ℕ) → Contains (requests_of_session script number) r → r < length script.requests

@@ -9,15 +9,15 @@ use Rattle.weaver_core.specs.declared.client.Client.{Client}
 use Rattle.weaver_core.specs.declared.walks.Running.{Running}
 use Rattle.weaver_core.specs.Clients.{log_of, requests_in, unanswered_in}
 use Rattle.weaver_locks.specs.declared.shared.Shared.{Shared}
-use Rattle.weaver_workers.specs.ClientWork.{Does, Goes, IsSameWalk, RunsBelow, Stand}
+use Rattle.weaver_workers.specs.ClientWork.{Does, Goes, IsSameWalk, RunsRequestBelow, Stand}
 use Rattle.weaver_workers.specs.Keeping.{KeepsClient}
 
 -- none runs
-none-below : (upto : ℕ) (client : Client) → client.running ≡ None → RunsBelow upto client
+none-below : (upto : ℕ) (client : Client) → client.running ≡ None → RunsRequestBelow upto client
 none-below upto client none one at = absurd (none-some one (sym none ∙ at))
 
 -- this one does
-one-below : (upto : ℕ) (client : Client) (one : Running) → client.running ≡ Some one → one.request < upto → RunsBelow upto client
+one-below : (upto : ℕ) (client : Client) (one : Running) → client.running ≡ Some one → one.request < upto → RunsRequestBelow upto client
 one-below upto client one is low other at = subst (λ (r : Running). r.request < upto) (same_Some one other (sym is ∙ at)) low
 
 -- the same one goes on
@@ -31,7 +31,7 @@ same-below upto (Some was) (Some is) same below one at =
 
 module _ (shared : Shared) (script : Script) (number upto : ℕ) where
   -- after one thing done
-  does-below : (old new : Stand) → Does shared script number upto old new → RunsBelow upto old.client → RunsBelow upto new.client
+  does-below : (old new : Stand) → Does shared script number upto old new → RunsRequestBelow upto old.client → RunsRequestBelow upto new.client
   does-below old new (inl change) below = none-below upto new.client change.running
   does-below old new (inr (inl start)) below = one-below upto new.client _ start.running start.next.below
   does-below old new (inr (inr (inl visit))) below =
@@ -41,14 +41,14 @@ module _ (shared : Shared) (script : Script) (number upto : ℕ) where
   does-below old new (inr (inr (inr (inr carry)))) below = same-below upto old.client.running new.client.running carry.running below
 
   -- and after one after another
-  pub goes-below : (path : List Stand) (old new : Stand) → Goes shared script number upto old path new → RunsBelow upto old.client
-      → RunsBelow upto new.client
-  goes-below [] old new went below = subst (λ (s : Stand). RunsBelow upto s.client) went below
+  pub goes-below : (path : List Stand) (old new : Stand) → Goes shared script number upto old path new → RunsRequestBelow upto old.client
+      → RunsRequestBelow upto new.client
+  goes-below [] old new went below = subst (λ (s : Stand). RunsRequestBelow upto s.client) went below
   goes-below (next ∷ path) old new went below = goes-below path next new went.1 (does-below old next went.0.0 below)
 
   -- what runs is the first request without a reply
   pub first-below : (at : Stand) → KeepsClient shared script number at.hand at.client → (r : ℕ)
-      → unanswered_in (requests_in at.client) (log_of at.client) ≡ Some r → r < upto → RunsBelow upto at.client
+      → unanswered_in (requests_in at.client) (log_of at.client) ≡ Some r → r < upto → RunsRequestBelow upto at.client
   first-below at keeps r first low one is =
       let session = at.client.session in
       let runs = keeps.running one is in

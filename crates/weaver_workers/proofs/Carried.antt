@@ -9,8 +9,7 @@ use Rattle.weave_entries.specs.declared.gate_log.GateEntry.{GateEntry}
 use Rattle.weave_entries.specs.declared.shard_log.ShardEntry.{ShardEntry}
 use Rattle.weave_account.specs.declared.account.Account.{Account}
 use Rattle.weave_account.specs.Account.{gate_log, shard_log}
-use Rattle.weave_account.specs.GoesOn.{IsBeginningOf}
-use Rattle.seen_logs.specs.Seen.{IsWithin}
+use Rattle.seen_logs.proofs.Within.{all-later, itself}
 use Rattle.weaver_locks.specs.declared.hand.Hand.{Hand}
 use Rattle.weaver_locks.specs.GateHolds.{WasAtGate}
 use Rattle.weaver_locks.specs.ShardHolds.{WasAtShard}
@@ -19,28 +18,6 @@ use Rattle.weaver_hands.specs.Leaving.{MadeNone}
 use Rattle.weaver_workers.specs.Carrying.{is_bringing, is_telling, Gains, OnlyCarries}
 
 -- Logs
-
--- a list begins itself
-pub whole : {A : Type 0} (xs : List A) → IsBeginningOf xs xs
-whole xs = ([], sym (append-nil xs))
-
--- the beginning of a beginning is one
-pub onward : {A : Type 0} (xs ys zs : List A) → IsBeginningOf xs ys → IsBeginningOf ys zs → IsBeginningOf xs zs
-onward xs ys zs first second =
-    (first.0 ++ second.0, second.1 ∙ ap (λ l. l ++ second.0) first.1 ∙ append_assoc xs first.0 second.0)
-
--- what was seen is within itself
-pub within-itself : (seen : Account) → IsWithin seen seen
-within-itself seen = record { gates = λ home. whole _; store = whole _; oracle = whole _; shards = λ shard. whole _ }
-
--- and within what is seen later
-pub within-later : (seen next last : Account) → IsWithin seen next → IsWithin next last → IsWithin seen last
-within-later seen next last first second = record {
-  gates = λ home. onward _ _ _ (first.gates home) (second.gates home);
-  store = onward _ _ _ first.store second.store;
-  oracle = onward _ _ _ first.oracle second.oracle;
-  shards = λ shard. onward _ _ _ (first.shards shard) (second.shards shard);
-}
 
 module _ {E : Type 0} (passes : E → Bool) where
   -- nothing was gained
@@ -82,7 +59,7 @@ module _ {E : Type 0} (passes : E → Bool) where
 pub carries-none : (hand : Hand) → OnlyCarries hand hand
 carries-none hand = record {
   number = refl;
-  more = within-itself (seen_by hand);
+  more = itself (seen_by hand);
   gates = λ home. gains-none (λ (e : GateEntry). is_telling e.deed) _;
   store = refl;
   oracle = refl;
@@ -93,7 +70,7 @@ carries-none hand = record {
 pub carries-through : (old mid new : Hand) → OnlyCarries old mid → OnlyCarries mid new → OnlyCarries old new
 carries-through old mid new first second = record {
   number = second.number ∙ first.number;
-  more = within-later (seen_by old) (seen_by mid) (seen_by new) first.more second.more;
+  more = all-later (seen_by old) (seen_by mid) (seen_by new) first.more second.more;
   gates = λ home. gains-through (λ (e : GateEntry). is_telling e.deed) _ _ _ (first.gates home) (second.gates home);
   store = second.store ∙ first.store;
   oracle = second.oracle ∙ first.oracle;

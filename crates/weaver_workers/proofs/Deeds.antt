@@ -37,10 +37,10 @@ use Rattle.weaver_hands.specs.declared.fault.HandFault.TheVariants as hand
 use Rattle.weaver_hands.specs.Transactions.{Starts, Transacts, TransactsAs}
 use Rattle.weaver_workers.specs.declared.tried.Tried.{Tried}
 use Rattle.weaver_workers.specs.declared.tried.Tried.TheVariants.{Busy as AtGate}
-use Rattle.weaver_workers.specs.ClientWork.{reply_with, DoesChange, DoesFinish, DoesStart, GoesOn, IsNext}
+use Rattle.weaver_workers.specs.ClientWork.{reply_with, DoesChange, DoesFinish, DoesStart, GoesOn, IsNextRequest}
 use Rattle.weaver_workers.specs.KeepLaws.{KeepLaws}
 use Rattle.weaver_workers.specs.Keeping.{KeepsClient}
-use Rattle.weaver_workers.specs.Turning.{stand, tried_at, IsAnswered, Tries}
+use Rattle.weaver_workers.specs.Turning.{stand, tried_at, GainsReply, Tries}
 use Rattle.weaver_workers.proofs.Carried.{nothing-at-gate}
 use Rattle.weaver_workers.proofs.Going.{goes-carry, goes-one, goes-reserve, goes-then, same-walk}
 use Rattle.weaver_workers.proofs.Kept.{change-keeps, finish-keeps, start-keeps}
@@ -87,10 +87,10 @@ module _ (laws : KeepLaws) where
         (home-there shared old running first.keeps.is_hand runs.runs)))
 
     -- a transaction was begun, judged and sent
-    pub changed : (r : ℕ) (asked : Request) → IsNext script upto reserved r asked → (ops : List Op) → asked.work ≡ Change ops
+    pub changed : (r : ℕ) (asked : Request) → IsNextRequest script upto reserved r asked → (ops : List Op) → asked.work ≡ Change ops
         → asked.gate < gate_count shared → (stamp : Stamp) (verdict : Verdict)
         → Transacts (shard_count shared) old new asked.gate r ops reserved.session.last stamp verdict
-        → IsAnswered number reserved after r stamp (state_by_verdict verdict)
+        → GainsReply number reserved after r stamp (state_by_verdict verdict)
         → GoesOn shared script number upto (stand old client) (stand new after)
     changed r asked next ops work low stamp verdict transacts answered =
         let does : DoesChange shared script number upto (stand old reserved) (stand new after) = record {
@@ -111,7 +111,7 @@ module _ (laws : KeepLaws) where
         (change-keeps laws shared script number (stand old reserved) (stand new after) first.keeps is_hand upto answered.at_end does low answered.session))
 
     -- a program was begun
-    pub started : (r : ℕ) (asked : Request) → IsNext script upto reserved r asked → (program : Program) → asked.work ≡ Look program
+    pub started : (r : ℕ) (asked : Request) → IsNextRequest script upto reserved r asked → (program : Program) → asked.work ≡ Look program
         → asked.gate < gate_count shared → (stamp : Stamp) → Starts (shard_count shared) old new asked.gate r reserved.session.last stamp
         → (walk : AnyProgram) → any_of walk ≡ program → HasRead walk []
         → IsClientOf number after.session after.log.items → after.session ≡ session_after reserved.session (Begun r stamp)
@@ -141,7 +141,7 @@ module _ (laws : KeepLaws) where
         (start-keeps laws shared script number (stand old reserved) (stand new after) first.keeps is_hand upto at_end does low session))
 
     -- a transaction was not begun
-    pub refused : (r : ℕ) (asked : Request) → IsNext script upto reserved r asked → (ops : List Op) → asked.work ≡ Change ops
+    pub refused : (r : ℕ) (asked : Request) → IsNextRequest script upto reserved r asked → (ops : List Op) → asked.work ≡ Change ops
         → (last : Option Stamp) (fault : HandFault) (answer : Tried)
         → TransactsAs (shard_count shared) old new asked.gate r ops last (Err fault) → tried_at asked.gate fault ≡ Some answer
         → Tries shared script number upto (stand old client) (stand new reserved) answer

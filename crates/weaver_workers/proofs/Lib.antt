@@ -1,14 +1,15 @@
-mod Rows
+pub mod Rows
 mod Landed
 mod Carried
 pub mod Called
 pub mod There
-mod OnlyCarried
+pub mod OnlyCarried
 mod Transacted
 mod Kept
 mod Going
 mod Below
-mod ReadOn
+pub mod ReadOn
 mod Answered
 mod Deeds
 mod Programs
+mod StillKept

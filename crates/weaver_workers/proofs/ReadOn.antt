@@ -30,9 +30,9 @@ use Rattle.weaver_workers.specs.declared.ended.Ended.{Ended}
 use Rattle.weaver_workers.specs.declared.ended.Ended.TheVariants as ended
 use Rattle.weaver_workers.specs.declared.tried.Tried.{Tried}
 use Rattle.weaver_workers.specs.declared.tried.Tried.TheVariants as tried
-use Rattle.weaver_workers.specs.ClientWork.{DoesCarry, DoesVisit, EndsAs, IsSameWalk, Stand, RunsBelow}
+use Rattle.weaver_workers.specs.ClientWork.{DoesCarry, DoesVisit, EndsAs, IsSameWalk, Stand, RunsRequestBelow}
 use Rattle.weaver_workers.specs.KeepLaws.{KeepLaws}
-use Rattle.weaver_workers.specs.Turning.{stand, IsEndOf, KeepsOn, ReadAs, RunsIn, TriedAs, VisitsNext}
+use Rattle.weaver_workers.specs.Turning.{stand, IsEndOf, KeepsOn, ReadAs, RunsIn, TriedAs, ReadsNextVertex}
 use Rattle.weaver_workers.proofs.Carried.{carries-none, nothing-at-shard}
 use Rattle.weaver_workers.proofs.Going.{goes-carry, goes-none, goes-one, goes-then, same-walk}
 use Rattle.weaver_workers.proofs.Kept.{visit-keeps}
@@ -101,7 +101,7 @@ module _ (laws : KeepLaws) (shared : Shared) where
     })
 
     -- after a read, or none
-    pub read-goes : (read : Read) → VisitsNext (gate_count shared) (shard_count shared) old new was is read
+    pub read-goes : (read : Read) → ReadsNextVertex (gate_count shared) (shard_count shared) old new was is read
         → KeepsOn shared (stand old client) (stand new after)
     read-goes Over did =
         walks-with (subst (λ (r : Running). IsSameWalk (Some was) (Some r)) (sym did.0.1) (same-walk (Some was)))
@@ -122,7 +122,7 @@ module _ (laws : KeepLaws) (shared : Shared) where
         (nothing-at-shard (shard_count shared) old new shard found.visits.before found.visits.was)
 
     -- and what is answered
-    pub read-as : (read : Read) → VisitsNext (gate_count shared) (shard_count shared) old new was is read → ReadAs shared (stand new after) read
+    pub read-as : (read : Read) → ReadsNextVertex (gate_count shared) (shard_count shared) old new was is read → ReadAs shared (stand new after) read
     read-as Over did = record { running = is; running_is = refl; over = did.1 }
     read-as More visits = tt
     read-as (NotYet shard gate) found = record {
@@ -146,7 +146,7 @@ if-both (Err e) leads p q = tt
 
 -- a worker that ends after a try ends as the try answered
 pub ends-by : (shared : Shared) (script : Script) (upto : ℕ) (new : Stand) (try : Tried) (end : Option Ended) (last : Ended) → IsEndOf try end
-    → end ≡ Some last → TriedAs shared script upto new try → RunsBelow upto new.client → EndsAs shared script upto new last
+    → end ≡ Some last → TriedAs shared script upto new try → RunsRequestBelow upto new.client → EndsAs shared script upto new last
 ends-by shared script upto new tried.Replied end last by is as_tried below = absurd (none-some last (sym by ∙ is))
 ends-by shared script upto new (tried.Busy gate) end last (inl none) is as_tried below = absurd (none-some last (sym none ∙ is))
 ends-by shared script upto new (tried.Busy gate) end last (inr by) is as_tried below =

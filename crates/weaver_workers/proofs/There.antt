@@ -1,5 +1,5 @@
 -- Calls at one gatekeeper, or at one shard.
-use Rattle.std.proofs.Common.{◌≡◌, ◌≢◌, ℕ, ◌+◌, ◌<◌, arith, inl, inr, true, false, List, [], ◌∷◌, ◌++◌, zero, suc, length, get_or, set, Result, Ok, Err, refl, sym, ap, ◌∙◌, subst, append_assoc}
+use Rattle.std.proofs.Common.{◌≡◌, ◌≢◌, ℕ, ◌+◌, ◌<◌, arith, inl, inr, true, false, List, [], ◌∷◌, ◌++◌, zero, suc, length, get_or, set, Result, Ok, Err, refl, sym, ap, ◌∙◌, subst}
 use Rattle.std.specs.Prelude.{◌⊎◌, Bool, Contains, OnOk, Option, Some, None}
 use Rattle.std.proofs.lemmas.Bool.{cases_lt}
 use Rattle.std.proofs.lemmas.List.{append-nil, get_or-set_other, get_or-set_same, length-map}
@@ -26,7 +26,8 @@ use Rattle.weaver_hands.specs.declared.messages.Pulled.{Pulled}
 use Rattle.weaver_hands.specs.declared.messages.Pulled.TheVariants.{Unsent, Known, New}
 use Rattle.weaver_hands.specs.Telling.{NopsAs, Tells, TellsAs}
 use Rattle.weaver_workers.specs.Carrying.{is_telling, AreTold, CarriesAtGate, CarriesAtShard, HasHeard, HasSaid, HasTold, IsAtGate, IsAtNoOtherShard, IsAtShard, IsUpToDate, IsUpToDateBelow, OnlyCarries}
-use Rattle.weaver_workers.proofs.Carried.{at-gate, nothing-at-gate, one-passes, onward}
+use Rattle.seen_logs.proofs.Within.{onward}
+use Rattle.weaver_workers.proofs.Carried.{at-gate, nothing-at-gate, one-passes}
 use Rattle.weaver_workers.proofs.Called.{applied, carries-on, carries-start, pulled, sent-empty, told}
 
 -- Holds without an entry
@@ -228,6 +229,7 @@ then-at-shard old mid new shard none there at other = there.shards at other ∙ 
 
 -- What was heard
 
+-- a gatekeeper that is told has heard
 pub heard-now : (shared : Shared) (shards : ℕ) (old new : Hand) (from to : ℕ) → IsHand shared old → to < gate_count shared
     → Tells shards old new from to → HasHeard old new to from
 heard-now shared shards old new from to is low tells =
@@ -236,15 +238,19 @@ heard-now shared shards old new from to is low tells =
     let long : length (made_by old).gates ≡ gate_count shared = length-map _ _ ∙ (length-map _ _ ∙ is.gates) in
     let left = tells.says.left ∙ append-nil tells.said in
     let more = tells.hears.more.gates from in record {
-      said = tells.said;
-      late = tells.says.found;
-      seen = (more.0, more.1 ∙ ap (λ (l : List GateEntry). l ++ more.0) left);
+      clock = tells.clock;
+      said = record {
+        said = tells.said;
+        late = tells.says.found;
+        seen = (more.0, more.1 ∙ ap (λ (l : List GateEntry). l ++ more.0) left);
+        clock_is = tells.clock_is;
+      };
       added = entry ∷ [];
       log = ap (λ (a : Account). gate_log a to) made
           ∙ get_or-set_same (made_by old).gates to (gate_log (made_by old) to ++ entry ∷ []) [] (subst (λ n. to < n) (sym long) low);
       entry = entry;
       heard = has_head entry [];
-      deed = ap Heard tells.clock_is;
+      deed = refl;
     }
 
 -- What was said and what was heard, in two holds

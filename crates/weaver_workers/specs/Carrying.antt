@@ -74,24 +74,22 @@ pub record CarriesAtShard (shared : Shared) (shard : ℕ) (old new : Hand) : Typ
   pub carries : Carries shared old new
   pub there : IsAtShard shard old new
 
--- The gatekeeper heard the clock of another one, `from`, as that one's log gives it at a place that the hand had not
--- gone past before, and has seen since.
-pub record HasHeard (old new : Hand) (gate from : ℕ) : Type 0 where
-  pub said : List GateEntry
-  pub late : IsBeginningOf (gate_log (seen_by old) from) said
-  pub seen : IsBeginningOf said (gate_log (seen_by new) from)
-  pub added : List GateEntry
-  pub log : gate_log (made_by new) gate ≡ gate_log (made_by old) gate ++ added
-  pub entry : GateEntry
-  pub heard : Contains added entry
-  pub deed : entry.deed ≡ Heard (clock_of from said)
-
 -- The log of a gatekeeper gives this clock at a place that the hand had not gone past before, and has seen since.
 pub record HasSaid (old new : Hand) (from : ℕ) (clock : Clock) : Type 0 where
   pub said : List GateEntry
   pub late : IsBeginningOf (gate_log (seen_by old) from) said
   pub seen : IsBeginningOf said (gate_log (seen_by new) from)
   pub clock_is : clock ≡ clock_of from said
+
+-- the gatekeeper heard, just now, the clock that another one, `from`, has said
+pub record HasHeard (old new : Hand) (gate from : ℕ) : Type 0 where
+  pub clock : Clock
+  pub said : HasSaid old new from clock
+  pub added : List GateEntry
+  pub log : gate_log (made_by new) gate ≡ gate_log (made_by old) gate ++ added
+  pub entry : GateEntry
+  pub heard : Contains added entry
+  pub deed : entry.deed ≡ Heard clock
 
 -- the gatekeeper has heard this clock from the hand
 pub record HasTold (hand : Hand) (gate : ℕ) (clock : Clock) : Type 0 where
@@ -101,7 +99,8 @@ pub record HasTold (hand : Hand) (gate : ℕ) (clock : Clock) : Type 0 where
 
 -- it has heard each clock of a list that has one
 abbrev pub AreTold : Hand → ℕ → List (Option Clock) → Type 0
-AreTold hand gate clocks = (from : ℕ) (clock : Clock) → slice_index_or clocks from None ≡ Some clock → HasTold hand gate clock
+AreTold hand gate clocks = (from : ℕ) (clock : Clock) → slice_index_or clocks from None ≡ Some clock
+    → HasTold hand gate clock
 
 -- Another gatekeeper, `from`, has said its clock since, and this one has heard that clock: now, or it had before.
 pub record IsUpToDate (old new : Hand) (gate from : ℕ) : Type 0 where

@@ -55,7 +55,7 @@ abbrev pub reply_with : ℕ → Stamp → ReplyState → Reply
 reply_with r stamp state = record { request = r; stamp = Some stamp; state = state }
 
 -- this request of the script is the session's next one, and stands before `upto`
-pub record IsNext (script : Script) (upto : ℕ) (client : Client) (r : ℕ) (asked : Request) : Type 0 where
+pub record IsNextRequest (script : Script) (upto : ℕ) (client : Client) (r : ℕ) (asked : Request) : Type 0 where
   pub request_is : request_at script r ≡ Some asked
   pub turn : IsInTurn client.session r
   pub below : r < upto
@@ -67,12 +67,13 @@ pub record IsNext (script : Script) (upto : ℕ) (client : Client) (r : ℕ) (as
 pub record DoesChange (shared : Shared) (script : Script) (number upto : ℕ) (old new : Stand) : Type 0 where
   pub r : ℕ
   pub asked : Request
-  pub next : IsNext script upto old.client r asked
+  pub next : IsNextRequest script upto old.client r asked
   pub ops : List Op
   pub work_is : asked.work ≡ Change ops
   pub stamp : Stamp
   pub verdict : Verdict
-  pub transacts : Transacts (shard_count shared) old.hand new.hand asked.gate r ops old.client.session.last stamp verdict
+  pub transacts : Transacts (shard_count shared) old.hand new.hand asked.gate r ops old.client.session.last stamp
+      verdict
   pub requests : requests_in new.client ≡ requests_in old.client
   pub log : log_of new.client ≡ (log_of old.client ++ begun_entry number r stamp ∷ []) ++ replied_entry number r ∷ []
   pub running : new.client.running ≡ None
@@ -83,7 +84,7 @@ pub record DoesChange (shared : Shared) (script : Script) (number upto : ℕ) (o
 pub record DoesStart (shared : Shared) (script : Script) (number upto : ℕ) (old new : Stand) : Type 0 where
   pub r : ℕ
   pub asked : Request
-  pub next : IsNext script upto old.client r asked
+  pub next : IsNextRequest script upto old.client r asked
   pub program : Program
   pub work_is : asked.work ≡ Look program
   pub stamp : Stamp
@@ -166,10 +167,10 @@ abbrev pub HasReplies : ℕ → Client → Type 0
 HasReplies upto client = (r : ℕ) → Contains (requests_in client) r → r < upto → IsTrue (has_reply_in r (log_of client))
 
 -- The session's next request is a transaction at this gatekeeper, where one was in flight, as the hand has seen.
-pub record FoundBusy (script : Script) (upto : ℕ) (new : Stand) (gate : ℕ) : Type 0 where
+pub record FoundGateBusy (script : Script) (upto : ℕ) (new : Stand) (gate : ℕ) : Type 0 where
   pub r : ℕ
   pub asked : Request
-  pub next : IsNext script upto new.client r asked
+  pub next : IsNextRequest script upto new.client r asked
   pub ops : List Op
   pub work_is : asked.work ≡ Change ops
   pub gate_is : asked.gate ≡ gate
@@ -186,11 +187,11 @@ pub record FoundUnready (shared : Shared) (new : Stand) (shard gate : ℕ) : Typ
   pub unready : first_unready (gate_count shared) running.stamp (shard_log (seen_by new.hand) shard) ≡ Some gate
 
 -- if a program is running it is of a request before `upto`
-abbrev pub RunsBelow : ℕ → Client → Type 0
-RunsBelow upto client = ForSome client.running (λ (running : Running). running.request < upto)
+abbrev pub RunsRequestBelow : ℕ → Client → Type 0
+RunsRequestBelow upto client = ForSome client.running (λ (running : Running). running.request < upto)
 
 -- how a client's worker ends
 abbrev pub EndsAs : Shared → Script → ℕ → Stand → Ended → Type 0
 EndsAs shared script upto new Done = HasReplies upto new.client
-EndsAs shared script upto new (Busy gate) = FoundBusy script upto new gate
-EndsAs shared script upto new (NotYet shard gate) = FoundUnready shared new shard gate × RunsBelow upto new.client
+EndsAs shared script upto new (Busy gate) = FoundGateBusy script upto new gate
+EndsAs shared script upto new (NotYet shard gate) = FoundUnready shared new shard gate × RunsRequestBelow upto new.client

@@ -20,7 +20,7 @@ use Rattle.weaver_workers.specs.declared.reading.Read.{Read}
 use Rattle.weaver_workers.specs.declared.reading.Read.TheVariants as read
 use Rattle.weaver_workers.specs.declared.tried.Tried.{Tried}
 use Rattle.weaver_workers.specs.declared.tried.Tried.TheVariants as tried
-use Rattle.weaver_workers.specs.ClientWork.{begun_entry, replied_entry, reply_with, FoundBusy, FoundUnready, GoesOn, Stand}
+use Rattle.weaver_workers.specs.ClientWork.{begun_entry, replied_entry, reply_with, FoundGateBusy, FoundUnready, GoesOn, Stand}
 use Rattle.weaver_workers.specs.Keeping.{KeepsClient}
 
 -- a hand and its client
@@ -49,10 +49,10 @@ read_of (fault.Waits vertex) = None
 read_of fault.Memory = None
 
 -- what a read leaves of the hand and the program
-abbrev pub VisitsNext : ℕ → ℕ → Hand → Hand → Running → Running → Read → Type 0
-VisitsNext gates shards old new was is read.Over = ((new ≡ old) × (is ≡ was)) × (next_read is.walk ≡ None)
-VisitsNext gates shards old new was is read.More = Visits gates shards old new was is
-VisitsNext gates shards old new was is (read.NotYet shard gate) = FoundNotReady gates shards old new was is shard gate
+abbrev pub ReadsNextVertex : ℕ → ℕ → Hand → Hand → Running → Running → Read → Type 0
+ReadsNextVertex gates shards old new was is read.Over = ((new ≡ old) × (is ≡ was)) × (next_read is.walk ≡ None)
+ReadsNextVertex gates shards old new was is read.More = Visits gates shards old new was is
+ReadsNextVertex gates shards old new was is (read.NotYet shard gate) = FoundNotReady gates shards old new was is shard gate
 
 -- the running program has read all that it visits
 pub record HasReadAll (at : Stand) : Type 0 where
@@ -95,7 +95,7 @@ tried_at gate (fault.Waits vertex) = None
 tried_at gate fault.Memory = None
 
 -- the client has the reply to a request that was begun with this stamp
-pub record IsAnswered (number : ℕ) (old new : Client) (r : ℕ) (stamp : Stamp) (state : ReplyState) : Type 0 where
+pub record GainsReply (number : ℕ) (old new : Client) (r : ℕ) (stamp : Stamp) (state : ReplyState) : Type 0 where
   pub at_end : IsClientOf number new.session new.log.items
   pub session : new.session ≡ with_reply (with_begun stamp old.session)
   pub requests : requests_in new ≡ requests_in old
@@ -106,7 +106,7 @@ pub record IsAnswered (number : ℕ) (old new : Client) (r : ℕ) (stamp : Stamp
 -- what is so after a try of a request, by what came of it
 abbrev pub TriedAs : Shared → Script → ℕ → Stand → Tried → Type 0
 TriedAs shared script upto new tried.Replied = ⊤
-TriedAs shared script upto new (tried.Busy gate) = FoundBusy script upto new gate
+TriedAs shared script upto new (tried.Busy gate) = FoundGateBusy script upto new gate
 TriedAs shared script upto new (tried.NotYet shard gate) = FoundUnready shared new shard gate
 
 -- a request was tried, and the worker went on with its session's requests before `upto`
@@ -116,7 +116,8 @@ pub record Tries (shared : Shared) (script : Script) (number upto : ℕ) (old ne
 
 -- the session's first request without a reply, if it comes before `upto`
 abbrev pub below_in : ℕ → Client → Option ℕ
-below_in upto client = option_and_then (λ r. if nat_lt r upto then Some r else None) (unanswered_in (requests_in client) (log_of client))
+below_in upto client =
+    option_and_then (λ r. if nat_lt r upto then Some r else None) (unanswered_in (requests_in client) (log_of client))
 
 -- a worker that ends after a try ends by what the try answered
 abbrev pub IsEndOf : Tried → Option Ended → Type 0

@@ -39,7 +39,8 @@ IsReady shared script phase (GateWork hand gate) = IsIdleHand shared hand × (ga
 IsReady shared script phase (ShardWork hand shard) = IsIdleHand shared hand × (shard < script.shards)
 
 -- a client's worker went on with its session, with the requests before `upto`, and ended so
-pub record ClientWorks (shared : Shared) (script : Script) (number upto : ℕ) (old new : Stand) (ended : Ended) : Type 0 where
+pub record ClientWorks (shared : Shared) (script : Script) (number upto : ℕ) (old new : Stand) (ended : Ended)
+    : Type 0 where
   pub goes : GoesOn shared script number upto old new
   pub ends : EndsAs shared script upto new ended
 

@@ -8,7 +8,7 @@ ghost use Rattle.weave_account.specs.Report.{state_by_verdict};
 ghost use Rattle.weave_entries.specs.SessionReplay.{BeginsNext};
 ghost use Rattle.weaver_core.specs.Clients.{spare_of, IsClientOf, IsInTurn};
 ghost use Rattle.weaver_workers.specs.Keeping.{AreLocksOf, KeepsClient};
-ghost use Rattle.weaver_workers.specs.Turning.{stand, IsAnswered, Tries};
+ghost use Rattle.weaver_workers.specs.Turning.{stand, GainsReply, Tries};
 
 use crate::keeping::workers_keep_their_laws;
 use crate::tried::{Tried, tried_in_vain};
@@ -70,7 +70,7 @@ fn answer_change(
     requires client { IsClientOf number client.old.session client.old.log.items }
     requires room { 1 ≤ spare_of client.old }
     requires next { BeginsNext client.old.session request stamp }
-    ensures { OnOk result (IsAnswered number client.old client.new request stamp (state_by_verdict verdict)) }
+    ensures { OnOk result (GainsReply number client.old client.new request stamp (state_by_verdict verdict)) }
 {
     workers_keep_their_laws();
     client.begun(number, request, stamp);

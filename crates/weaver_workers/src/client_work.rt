@@ -1,5 +1,5 @@
 //! A client's worker: it goes through its session's requests of a phase.
-ghost use Rattle.std.specs.Prelude.{◌≡◌, ℕ, ◌<◌, ◌≤◌, length, IfOk, Some};
+ghost use Rattle.std.specs.Prelude.{◌≡◌, ℕ, ◌<◌, length, IfOk, Some};
 ghost use Rattle.program_defs.specs.Limits.{IsWithinLimits};
 ghost use Rattle.weaver_core.specs.Clients.{log_of, requests_in, unanswered_in, IsAClient};
 ghost use Rattle.weaver_workers.specs.ClientWork.{EndsAs, GoesOn};

@@ -10,12 +10,15 @@ use std::sync::Wait;
 use vector_stamp::Clock;
 use weaver_locks::{Hand, Shared};
 
+// No script has more gatekeepers.
+const MOST_GATES: u32 = 8;
+
 /// Room for a clock of each gatekeeper, and none in it. The one error is out of memory.
 pub(crate) fn no_clocks(alloc: Global) -> Result<Vec<Option<Clock>>, AllocError>
     ensures { IfOk result (λ clocks. (from : ℕ) → slice_index_or clocks.items from None ≡ None) }
 {
     let mut clocks = Vec::new(alloc);
-    for _gate in 0..8 {
+    for _gate in 0..MOST_GATES {
         clocks.push(None)?;
     }
     Ok(clocks)

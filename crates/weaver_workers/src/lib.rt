@@ -24,6 +24,7 @@ mod ended;
 mod gate_work;
 mod hearing;
 mod keeping;
+pub mod laws;
 mod looking;
 mod nudging;
 mod pace;

@@ -1,6 +1,5 @@
 //! A program of a session: begun, read on, and finished with its reply.
 ghost use Rattle.std.specs.Prelude.{◌≡◌, ℕ, ◌<◌, length, IfOk, None, Some};
-ghost use Rattle.path_program.specs.AnyPrograms.{next_read};
 ghost use Rattle.program_defs.specs.Limits.{IsWithinLimits};
 ghost use Rattle.program_defs.specs.declared.script.Request.{Request};
 ghost use Rattle.program_defs.specs.declared.script.Work.TheVariants as work;

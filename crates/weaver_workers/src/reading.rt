@@ -5,7 +5,7 @@ ghost use Rattle.weaver_core.specs.declared.walks.Running.{Running};
 ghost use Rattle.weaver_hands.specs.Programs.{IsRunning};
 ghost use Rattle.weaver_locks.specs.Hands.{IsHand};
 ghost use Rattle.weaver_locks.specs.Locks.{gate_count, shard_count};
-ghost use Rattle.weaver_workers.specs.Turning.{is_more, read_of, stand, unready_in, KeepsOn, ReadAs, RunsIn, VisitsNext};
+ghost use Rattle.weaver_workers.specs.Turning.{is_more, read_of, stand, unready_in, KeepsOn, ReadAs, RunsIn, ReadsNextVertex};
 
 use crate::bringing::Brought;
 use crate::keeping::workers_keep_their_laws;
@@ -152,8 +152,8 @@ fn visit_next<R: Wait>(
     requires running { IsRunning shared.now hand.old running.old }
     ensures hand { IsHand shared.now hand.new }
     ensures running { IsRunning shared.now hand.new running.new }
-    ensures read { IfOk result (VisitsNext (gate_count shared.now) (shard_count shared.now) hand.old hand.new running.old
-        running.new) }
+    ensures read { IfOk result (ReadsNextVertex (gate_count shared.now) (shard_count shared.now) hand.old hand.new
+        running.old running.new) }
 {
     match running.walk.next_vertex() {
         None => Ok(Read::Over),
@@ -174,8 +174,8 @@ fn visit_vertex<R: Wait>(
     requires next { IsSome (next_read running.old.walk) }
     ensures hand { IsHand shared.now hand.new }
     ensures running { IsRunning shared.now hand.new running.new }
-    ensures read { IfOk result (VisitsNext (gate_count shared.now) (shard_count shared.now) hand.old hand.new running.old
-        running.new) }
+    ensures read { IfOk result (ReadsNextVertex (gate_count shared.now) (shard_count shared.now) hand.old hand.new
+        running.old running.new) }
 {
     match visit(rt, alloc, hand, shared, running) {
         Ok(()) => Ok(Read::More),

@@ -1,12 +1,11 @@
 -- What began at the gatekeepers of a phase's closed logs is what the sessions' logs say began, with the same stamps.
-use Rattle.std.proofs.Common.{◌≡◌, ◌≢◌, ℕ, ◌<◌, ◌≤◌, ◌==◌, Bool, true, false, List, [], ◌∷◌, ◌++◌, length, map, get_or, Contains, AllPairs, IsTrue, Option, None, Some, ◌⊎◌, inl, inr, refl, sym, ap, subst, ◌∙◌, arith}
+use Rattle.std.proofs.Common.{◌≡◌, ◌≢◌, ℕ, ◌==◌, List, [], ◌∷◌, ◌++◌, length, map, get_or, Contains, IsTrue, Option, None, Some, ◌⊎◌, inl, inr, refl, sym, ap, subst, ◌∙◌, arith}
 use Rattle.std.specs.Prelude.{slice_get, IsSomeAnd}
-use Rattle.std.specs.List.{filter, find, flat_map, range_with_len}
+use Rattle.std.specs.List.{filter, find, range_with_len}
 use Rattle.std.specs.Option.{option_map, unwrap_or}
 use Rattle.std.proofs.lemmas.Bool.{cases_lt, eqb-true, eq-eqb}
 use Rattle.std.proofs.lemmas.List.{length-map}
-use Rattle.std.proofs.lemmas.List.Concat.{flat_map-append}
-use Rattle.std.proofs.lemmas.List.Elements.{Contains-append_cases, Contains-append_left, Contains-append_right}
+use Rattle.std.proofs.lemmas.List.Elements.{Contains-append_right}
 use Rattle.std.proofs.lemmas.List.FromFn.{length-range_with_len}
 use Rattle.std.proofs.lemmas.Option.{none-some, same_Some, slice_get-map, slice_get_past, unwrap_or-slice_get}
 use Rattle.proof_base.proofs.Members.{filter_has, find_has, find_lacks, flat_has, has_flat, has_none}
@@ -26,7 +25,8 @@ use Rattle.weave_account.specs.Account.{all_begun, gate_log, session_log, stamp_
 use Rattle.weave_account.specs.Gatekeepers.{BeginEachOnce}
 use Rattle.weave_account.specs.GoesOn.{IsBeginningOf}
 use Rattle.weave_account.specs.Sessions.{requests_of_session}
-use Rattle.hands_account.proofs.Places.{has-on, list-there, place-of}
+use Rattle.weave_account.proofs.Beginning.{all-in}
+use Rattle.hands_account.proofs.Places.{has-on, place-of}
 use Rattle.weaver_core.specs.declared.client.Client.{Client}
 use Rattle.weaver_core.specs.Clients.{log_of, requests_in}
 use Rattle.weaver_locks.specs.declared.hand.Hand.{Hand}
@@ -37,8 +37,8 @@ use Rattle.weaver_workers.specs.Carrying.{is_telling}
 use Rattle.workers_account.specs.Gained.{IsBegunAtItsGate}
 use Rattle.workers_account.specs.Phase.{IsClosedBy, IsPhaseRun}
 use Rattle.workers_account.specs.PhaseLaws.{PhaseLaws}
-use Rattle.workers_account.proofs.Parts.{OnlyTold, Part, SessionPart, gate-entry, gates-on, part-of, session-part}
-use Rattle.workers_account.proofs.SessionLogs.{begins-cases, begins-later, begins-on, begun-here, log-at, one-stamp, stamp-from, stamp-there}
+use Rattle.workers_account.proofs.Parts.{SessionPart, gate-entry, gates-on, part-of, session-part}
+use Rattle.workers_account.proofs.SessionLogs.{begins-cases, begins-later, begins-on, begun-here, log-at, stamp-from, stamp-there}
 
 -- Deeds that are told begin nothing and end nothing
 
@@ -76,9 +76,7 @@ none-ended gates tells home r h =
 
 -- what began at a gatekeeper is among all that began
 pub all-has : (account : Account) (home : ℕ) (begun : Begun) → Contains (begun_in (gate_log account home)) begun → Contains (all_begun account) begun
-all-has account home begun h =
-    let from = flat_has (λ (e : GateEntry). begun_by e.author e.deed) (gate_log account home) begun h in
-    has_flat begun_in account.gates (gate_log account home) begun (list-there account.gates home from.0 from.1) h
+all-has account home begun h = all-in account home begun h
 
 -- and the other way round
 pub has-all : (account : Account) (begun : Begun) → Contains (all_begun account) begun → (home : ℕ) × Contains (begun_in (gate_log account home)) begun

@@ -63,7 +63,7 @@ module _ (script : Script) (session home : ℕ) (before : List GateEntry) where
       small = begun.small;
     }
 
-    begins-later : (deed : GateDeed) → BeginsInTurn script session log home before deed
+    pub begins-later : (deed : GateDeed) → BeginsInTurn script session log home before deed
         → BeginsInTurn script session next home before deed
     begins-later (BeganTx r stamp) begins = turn-later is_change r stamp begins
     begins-later (BeganProgram r stamp) begins = turn-later is_look r stamp begins

@@ -1,6 +1,6 @@
 -- What a hand made in each log is what has its number there, and what it began and judged since the start is what it has
 -- gained.
-use Rattle.std.proofs.Common.{◌≡◌, ℕ, zero, suc, ◌==◌, List, [], ◌∷◌, ◌++◌, map, get_or, refl, sym, ap, ◌∙◌}
+use Rattle.std.proofs.Common.{◌≡◌, ℕ, ◌==◌, List, ◌++◌, refl, sym, ap, ◌∙◌}
 use Rattle.std.specs.List.{filter}
 use Rattle.weave_entries.specs.declared.gate_log.GateEntry.{GateEntry}
 use Rattle.weave_entries.specs.declared.store_log.StoreEntry.{StoreEntry}
@@ -12,14 +12,9 @@ use Rattle.seen_logs.specs.Seen.{since, IsWithin}
 use Rattle.hands_account.specs.Runs.{own_begun, own_judgements}
 use Rattle.weaver_locks.specs.declared.hand.Hand.{Hand}
 use Rattle.weaver_locks.specs.Hands.{hand_number, made_by, seen_by}
+use Rattle.weaver_locks.proofs.EachLog.{row-at}
 use Rattle.weaver_hands.specs.Transactions.{HasSeenOwn}
 use Rattle.workers_account.proofs.OwnSince.{begun-by-author, judged-by-author, own-since}
-
--- what is made of each list of a row, at a place
-row-at : {A : Type 0} (f : List A → List A) → f [] ≡ [] → (row : List (List A)) (k : ℕ) → get_or (map f row) k [] ≡ f (get_or row k [])
-row-at f none [] k = sym none
-row-at f none (xs ∷ row) zero = refl
-row-at f none (xs ∷ row) (suc k) = row-at f none row k
 
 -- in each log of a gatekeeper the hand made what has its number there
 abbrev pub OwnGates : Hand → Type 0

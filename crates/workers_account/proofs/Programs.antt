@@ -1,14 +1,12 @@
 -- What the programs of a phase have read is in turn, and a hand finishes no others than its own.
-use Rattle.std.proofs.Common.{◌≡◌, ◌≢◌, ℕ, ◌-◌, ◌<◌, ◌≤◌, ◌==◌, Bool, true, false, List, [], ◌∷◌, ◌++◌, length, drop, take, map, Contains, AllPairs, IsTrue, Option, None, Some, ◌⊎◌, inl, inr, refl, sym, ap, subst, ◌∙◌, eq-eqb, arith}
+use Rattle.std.proofs.Common.{◌≡◌, ℕ, ◌-◌, ◌<◌, Bool, false, List, [], ◌∷◌, ◌++◌, length, drop, take, Contains, AllPairs, IsTrue, Option, None, Some, inl, inr, refl, sym, ap, subst, ◌∙◌, arith}
 use Rattle.std.specs.Prelude.{is_some, if◌then◌else◌}
-use Rattle.std.specs.List.{filter, flat_map}
-use Rattle.std.proofs.lemmas.Bool.{cases_Bool}
 use Rattle.std.proofs.lemmas.List.{append-nil}
 use Rattle.std.proofs.lemmas.List.Concat.{flat_map-append}
 use Rattle.std.proofs.lemmas.List.Elements.{Contains-append_cases, Contains-append_left}
 use Rattle.std.proofs.lemmas.Option.{same_Some}
 use Rattle.std.proofs.Math.Seq.{drop-append_seam}
-use Rattle.proof_base.proofs.Members.{cut_at, filter_has, flat_has, has_cut, has_flat, has_head, has_map, has_none, map_has, only}
+use Rattle.proof_base.proofs.Members.{cut_at, flat_has, has_flat, has_head, has_map, has_none, only}
 use Rattle.proof_base.proofs.Ordered.{pairs_across}
 use Rattle.vector_stamp.specs.declared.clock.Stamp.{Stamp}
 use Rattle.program_defs.specs.declared.program.Program.{Program}
@@ -16,13 +14,10 @@ use Rattle.program_defs.specs.declared.script.Request.{Request}
 use Rattle.program_defs.specs.declared.script.Script.{Script}
 use Rattle.program_defs.specs.declared.script.Work.TheVariants.{Look}
 use Rattle.report_rules.specs.Lookups.{request_at}
-use Rattle.weave_data.specs.declared.name.Name.{Name}
-use Rattle.graph_ops.specs.Operations.{State}
 use Rattle.weave_entries.specs.declared.gate_log.GateEntry.{GateEntry}
 use Rattle.weave_entries.specs.declared.gate_log.GateDeed.{GateDeed}
 use Rattle.weave_entries.specs.declared.gate_log.GateDeed.TheVariants.{BeganTx, BeganProgram, Sent, Nop, Heard, Raised, Finished}
 use Rattle.weave_entries.specs.declared.session_log.SessionEntry.{SessionEntry}
-use Rattle.weave_entries.specs.Logs.{AtEachEntry}
 use Rattle.weave_entries.specs.GateReplay.{Begun, begun_by, begun_in, ended_by, ended_in, program_by, programs_of, tx_by}
 use Rattle.weave_entries.specs.GateRules.{EndsAs, IsGateLog}
 use Rattle.weave_entries.specs.SessionReplay.{SessionState, begins_in, replied_count, replied_in, reply_by, session_of}
@@ -31,8 +26,9 @@ use Rattle.weave_account.specs.Account.{all_begun, gate_log, is_ended, reads_of,
 use Rattle.weave_account.specs.Programs.{ReadsInTurn}
 use Rattle.weave_account.specs.Sessions.{requests_of_session}
 use Rattle.hands_account.specs.Runs.{FinishesItsOwn, FinishesOwnPrograms, IsOwnProgram}
-use Rattle.hands_account.proofs.Places.{has-on, in-back, since-place}
-use Rattle.seen_logs.specs.Seen.{IsOwn, since}
+use Rattle.hands_account.proofs.Places.{has-on, since-place}
+use Rattle.hands_account.proofs.Programs.{reads-move}
+use Rattle.seen_logs.specs.Seen.{since}
 use Rattle.weaver_core.specs.declared.client.Client.{Client}
 use Rattle.weaver_core.specs.declared.walks.Running.{Running}
 use Rattle.weaver_core.specs.Clients.{log_of}
@@ -47,10 +43,10 @@ use Rattle.workers_account.specs.Phase.{IsClosedBy, IsPhaseRun}
 use Rattle.workers_account.specs.PhaseLaws.{PhaseLaws}
 use Rattle.workers_account.proofs.Parts.{Part, gate-entry, part-of, seen-on}
 use Rattle.workers_account.proofs.SessionLogs.{pairs-take}
-use Rattle.workers_account.proofs.Begun.{BegunInPart, LeftLog, all-has, begun-in-part, gained-log, left-log, logs-right, none-ended, start-logged}
-use Rattle.workers_account.proofs.Ended.{EndedInPart, all-ended, ended-all, ended-in-part}
+use Rattle.workers_account.proofs.Begun.{BegunInPart, LeftLog, all-has, begun-in-part, gained-log, logs-right, start-logged}
+use Rattle.workers_account.proofs.Ended.{all-ended, ended-in-part}
 use Rattle.workers_account.proofs.Follows.{begun-new}
-use Rattle.workers_account.proofs.Own.{own-entry, since-is}
+use Rattle.workers_account.proofs.Own.{own-entry}
 use Rattle.workers_account.proofs.Visited.{all-own, program-begun, since-part}
 
 -- what a deed ended was begun before it, by its author
@@ -73,12 +69,6 @@ ended-begun before author (BeganProgram q stamp) r h ends = absurd (has_none r h
 ended-begun before author (Nop shard number stamp low) r h ends = absurd (has_none r h)
 ended-begun before author (Heard clock) r h ends = absurd (has_none r h)
 ended-begun before author (Raised epoch) r h ends = absurd (has_none r h)
-
--- reads in turn, with other words for the same
-reads-move : (program : Program) (xs ys : List (Name × State)) (ended next : Type 0) → ys ≡ xs → (next → ended) → ReadsInTurn xs program ended → ReadsInTurn ys program next
-reads-move program xs ys ended next same back reads =
-    let moved : ReadsInTurn ys program ended = subst (λ zs. ReadsInTurn zs program ended) (sym same) reads in
-    record { once = moved.once; first_ones = moved.first_ones; whole = λ h. moved.whole (back h) }
 
 module _ (laws : PhaseLaws) (shared : Shared) (script : Script) (upto : ℕ) (start : Account) (was is : List Client) (hands : List Hand)
     (run : IsPhaseRun shared script upto start was is hands) (closed : Account) (end : IsClosedBy shared script start is hands closed)

@@ -1,19 +1,19 @@
 -- What a session's log says of its requests: each is begun once, and their numbers rise.
-use Rattle.std.proofs.Common.{◌≡◌, ◌≢◌, ℕ, ◌<◌, ◌==◌, List, [], ◌∷◌, ◌++◌, length, map, take, drop, get_or, Contains, AllPairs, IsTrue, Option, None, Some, ◌⊎◌, inl, inr, refl, sym, ap, subst, ◌∙◌, arith}
+use Rattle.std.proofs.Common.{◌≡◌, ◌≢◌, ℕ, ◌<◌, ◌==◌, List, [], ◌∷◌, ◌++◌, map, take, drop, get_or, Contains, AllPairs, Option, None, Some, ◌⊎◌, inl, inr, refl, sym, ap, subst, ◌∙◌, arith}
 use Rattle.std.specs.Prelude.{slice_get}
-use Rattle.std.specs.List.{find, flat_map, range_with_len}
+use Rattle.std.specs.List.{find}
 use Rattle.std.specs.Option.{option_map}
-use Rattle.std.proofs.lemmas.Bool.{eqb-true, eq-eqb}
-use Rattle.std.proofs.lemmas.List.{map-append, take-append-drop}
+use Rattle.std.proofs.lemmas.Bool.{eqb-true}
+use Rattle.std.proofs.lemmas.List.{take-append-drop}
 use Rattle.std.proofs.lemmas.List.Concat.{flat_map-append}
 use Rattle.std.proofs.lemmas.List.Elements.{Contains-append_cases, Contains-append_left, Contains-append_right}
 use Rattle.std.proofs.lemmas.Option.{get_or_from_slice_get, none-some, same_Some, slice_get-map}
-use Rattle.proof_base.proofs.Members.{filter_has, find_has, find_lacks, has_map, has_head, has_tail, map_has}
+use Rattle.proof_base.proofs.Members.{find_has, has_map}
 use Rattle.proof_base.proofs.Ordered.{find_by_key, pairs_across, pairs_cases, pairs_cons, pairs_front, pairs_head, pairs_none, pairs_tail}
 use Rattle.vector_stamp.specs.declared.clock.Stamp.{Stamp}
 use Rattle.program_defs.specs.declared.script.Request.{Request}
 use Rattle.program_defs.specs.declared.script.Script.{Script}
-use Rattle.report_rules.specs.Lookups.{is_some_and, request_at}
+use Rattle.report_rules.specs.Lookups.{request_at}
 use Rattle.weave_entries.specs.declared.session_log.SessionEntry.{SessionEntry}
 use Rattle.weave_entries.specs.SessionReplay.{IsSessionLog, begin_by, begins_in, replied_count, replied_in, session_of, session_stamp_of}
 use Rattle.weave_account.specs.declared.account.Account.{Account}
@@ -22,6 +22,7 @@ use Rattle.weave_account.specs.Sessions.{requests_of_session}
 use Rattle.weaver_core.specs.declared.client.Client.{Client}
 use Rattle.weaver_core.specs.Clients.{log_of}
 use Rattle.weaver_core.proofs.CanVisit.{in-take}
+use Rattle.weaver_core.proofs.ValuesStay.{in-session as of-session}
 use Rattle.workers_account.specs.PhaseLaws.{PhaseLaws}
 
 -- a relation between what is made of elements holds between the elements
@@ -44,14 +45,7 @@ pairs-take R n xs pairs = pairs_front R (take n xs) (drop n xs) (subst (AllPairs
 -- a session's request is one of the script, of that session
 pub in-session : (script : Script) (t q : ℕ) → Contains (requests_of_session script t) q
     → (request : Request) × (request_at script q ≡ Some request) × (request.session ≡ t)
-in-session script t q has =
-    by (request_at script q) refl
-    (filter_has (λ (r : ℕ). is_some_and (λ (one : Request). one.session == t) (request_at script r)) (range_with_len 0 (length script.requests)) q has).1
-  where
-    by : (o : Option Request) → request_at script q ≡ o → IsTrue (is_some_and (λ (one : Request). one.session == t) o)
-        → (request : Request) × (request_at script q ≡ Some request) × (request.session ≡ t)
-    by None e h = absurd cc
-    by (Some request) e h = (request, e, eqb-true request.session t h)
+in-session script t q has = of-session script t q has
 
 -- the log of a session is its client's
 pub log-at : (account : Account) (clients : List Client) → account.sessions ≡ map log_of clients → (session : ℕ) (client : Client)

@@ -1,24 +1,15 @@
 -- What each thing that a client's worker does leaves of what its hand has read, of the store's entries and of the session's log.
-use Rattle.std.proofs.Common.{◌≡◌, ◌≢◌, inl, inr, ℕ, ◌==◌, List, [], ◌∷◌, ◌++◌, Contains, Some, refl, sym, ap, ◌∙◌, subst, append_assoc}
-use Rattle.std.specs.Prelude.{IsTrue, filter}
-use Rattle.std.specs.List.{flat_map}
+use Rattle.std.proofs.Common.{◌≡◌, ◌≢◌, inl, inr, ℕ, List, [], ◌∷◌, ◌++◌, Contains, Some, sym, ap, ◌∙◌, subst, append_assoc}
 use Rattle.std.proofs.lemmas.List.{append-nil}
-use Rattle.std.proofs.lemmas.List.Concat.{flat_map-append}
-use Rattle.proof_base.proofs.Members.{has_head, has_tail}
 use Rattle.program_defs.specs.declared.script.Script.{Script}
 use Rattle.weave_entries.specs.declared.session_log.SessionEntry.{SessionEntry}
-use Rattle.weave_entries.specs.declared.shard_log.ShardEntry.{ShardEntry}
-use Rattle.weave_entries.specs.declared.shard_log.ShardDeed.{ShardDeed}
-use Rattle.weave_entries.specs.declared.shard_log.ShardDeed.TheVariants.{Arrived, Applied, Visited, Collected}
 use Rattle.weave_entries.specs.declared.store_log.StoreDeed.TheVariants.{Judged}
 use Rattle.weave_entries.specs.declared.store_log.StoreEntry.{StoreEntry}
 use Rattle.weave_entries.specs.SessionReplay.{replied_in}
-use Rattle.weave_entries.specs.ShardReplay.{Visit, visit_by}
 use Rattle.weave_entries.specs.StoreReplay.{commits_of}
 use Rattle.weave_entries.specs.StoreRule.{asked_vertices, lasts_of}
 use Rattle.weave_account.specs.declared.account.Account.{Account}
-use Rattle.weave_account.specs.Account.{shard_log}
-use Rattle.weave_account.specs.GoesOn.{visits_by, IsBeginningOf}
+use Rattle.weave_account.specs.GoesOn.{IsBeginningOf}
 use Rattle.weaver_core.specs.declared.walks.Running.{Running}
 use Rattle.weaver_core.specs.Clients.{log_of}
 use Rattle.weaver_locks.specs.declared.hand.Hand.{Hand}
@@ -27,41 +18,18 @@ use Rattle.weaver_locks.specs.Hands.{hand_number, made_by, IsHand}
 use Rattle.weaver_locks.specs.Locks.{gate_count, shard_count}
 use Rattle.weaver_hands.specs.Leaving.{MakesNoVisit}
 use Rattle.weaver_hands.specs.Programs.{own_reads}
-use Rattle.weaver_workers.specs.Carrying.{is_bringing, OnlyCarries}
+use Rattle.weaver_workers.specs.Carrying.{OnlyCarries}
 use Rattle.weaver_workers.specs.ClientWork.{begun_entry, replied_entry, Does, DoesChange, Stand}
 use Rattle.weaver_workers.specs.Keeping.{KeepsClient}
+use Rattle.weaver_workers.proofs.OnlyCarried.{alone-still}
 use Rattle.workers_account.specs.ReadLaws.{ReadLaws}
 use Rattle.workers_account.proofs.SessionEnds.{waiting-unreplied}
 
 -- Hands that only carry
 
--- a message that arrives or is processed is no visit
-no-visit : (author : ℕ) (deed : ShardDeed) → IsTrue (is_bringing deed) → visit_by author deed ≡ []
-no-visit author (Arrived gate number message) brings = refl
-no-visit author (Applied gate number) brings = refl
-no-visit author (Visited r stamp v updates settled) brings = absurd cc
-no-visit author (Collected bound) brings = refl
-
--- entries that give nothing
-nothing : {E A : Type 0} (f : E → List A) (added : List E) → ((entry : E) → Contains added entry → f entry ≡ [])
-    → (log : List E) → flat_map f (log ++ added) ≡ flat_map f log
-nothing f added none log = flat_map-append f log added ∙ ap (λ l. flat_map f log ++ l) (all f added none) ∙ append-nil (flat_map f log)
-  where
-    all : {E A : Type 0} (f : E → List A) (added : List E) → ((entry : E) → Contains added entry → f entry ≡ []) → flat_map f added ≡ []
-    all f [] none = refl
-    all f (entry ∷ added) none =
-        ap (λ l. l ++ flat_map f added) (none entry (has_head entry added)) ∙ all f added (λ e h. none e (has_tail entry added e h))
-
 -- a hand that only carries makes no visit
 pub carry-unvisited : (old new : Hand) → OnlyCarries old new → (r : ℕ) → MakesNoVisit old new r
-carry-unvisited old new only r = record {
-  number = only.number;
-  more = only.more;
-  visits = λ shard. (let gains = only.shards shard in
-      ap (visits_by r) gains.log
-      ∙ ap (filter (λ (visit : Visit). visit.request == r)) (nothing (λ (e : ShardEntry). visit_by e.author e.deed) gains.added
-      (λ entry h. no-visit entry.author entry.deed (gains.pass entry h)) (shard_log (made_by old) shard)));
-}
+carry-unvisited old new only r = (alone-still old new only r).unvisited
 
 -- Steps
 

@@ -1,72 +1,39 @@
 -- Each thing that a client's worker does leaves its hand and its session in step.
-use Rattle.std.proofs.Common.{◌≡◌, ◌≢◌, inl, inr, ℕ, ◌<◌, ◌≤◌, List, [], ◌∷◌, ◌++◌, drop, length, map, Contains, Result, Ok, refl, sym, ap, ◌∙◌, subst, append_assoc}
+use Rattle.std.proofs.Common.{◌≡◌, ◌≢◌, inl, inr, ℕ, ◌<◌, List, [], ◌∷◌, ◌++◌, length, Result, Ok, refl, sym, ap, ◌∙◌, subst, append_assoc}
 use Rattle.std.specs.declared.alloc.AllocError.{AllocError}
-use Rattle.std.proofs.Math.Seq.{drop-nil}
-use Rattle.std.proofs.lemmas.Bool.{cases_lt}
-use Rattle.std.proofs.lemmas.List.{append-nil, get_or_past, length-map}
+use Rattle.std.proofs.lemmas.List.{append-nil}
 use Rattle.proof_base.proofs.Members.{has_none}
 use Rattle.proof_base.proofs.Ordered.{pairs_none}
 use Rattle.program_defs.specs.declared.script.Script.{Script}
 use Rattle.program_defs.specs.Limits.{IsWithinLimits}
 use Rattle.report_rules.specs.declared.report.ReplyState.TheVariants.{Finished as finished_with}
-use Rattle.weave_entries.specs.declared.gate_log.GateDeed.{GateDeed}
 use Rattle.weave_entries.specs.declared.gate_log.GateDeed.TheVariants.{BeganTx, BeganProgram, Sent, Finished}
 use Rattle.weave_entries.specs.declared.gate_log.GateEntry.{GateEntry}
 use Rattle.weave_entries.specs.declared.message.Addressed.{Addressed}
 use Rattle.weave_entries.specs.declared.store_log.StoreEntry.{StoreEntry}
 use Rattle.weave_entries.specs.declared.verdict.Verdict.{Verdict}
-use Rattle.weave_entries.specs.GateReplay.{Begun, programs_of}
+use Rattle.weave_entries.specs.GateReplay.{Begun}
 use Rattle.weave_entries.specs.Sending.{messages_of}
 use Rattle.weave_entries.specs.SessionReplay.{SessionState}
 use Rattle.weave_entries.specs.StoreReplay.{Judgement}
 use Rattle.weave_account.specs.declared.account.Account.{Account}
 use Rattle.weave_account.specs.Account.{gate_log}
 use Rattle.weave_account.specs.Report.{state_by_verdict}
-use Rattle.chronicle.specs.declared.pass.Pass.{Pass}
-use Rattle.chronicle.specs.Passes.{own, seen}
-use Rattle.weaver_core.specs.declared.walks.Running.{Running}
 use Rattle.weaver_core.specs.Clients.{log_of}
-use Rattle.weaver_locks.specs.declared.hand.Hand.{Hand}
 use Rattle.weaver_locks.specs.declared.shared.Shared.{Shared}
 use Rattle.weaver_locks.specs.GateHolds.{gate_entry_by}
-use Rattle.weaver_locks.specs.Hands.{hand_number, made_by, seen_by, IsHand}
-use Rattle.weaver_locks.specs.Locks.{gate_count, shard_count, start_of}
+use Rattle.weaver_locks.specs.Hands.{hand_number, made_by}
+use Rattle.weaver_locks.specs.Locks.{gate_count, shard_count}
 use Rattle.weaver_locks.specs.StoreHolds.{judged_entries}
-use Rattle.weaver_hands.specs.Programs.{IsRunning}
 use Rattle.weaver_workers.specs.ClientWork.{begun_entry, replied_entry, reply_with, Does, DoesCarry, DoesChange, DoesFinish, DoesStart, DoesVisit, IsSameSession, Stand}
 use Rattle.weaver_workers.specs.Keeping.{AreLocksOf, KeepsClient}
+use Rattle.weaver_workers.proofs.ReadOn.{home-there}
+use Rattle.weaver_workers.proofs.Rows.{own-logs}
 use Rattle.workers_account.specs.Gained.{Gained, IsInStep}
 use Rattle.workers_account.proofs.OneGate.{as-many, at-each, at_one, log-elsewhere, log-here, logs-gain}
 use Rattle.workers_account.proofs.StepGains.{change-in-step, change-rises, finish-in-step, finish-rises, judgement-rises, none-rise, start-in-step, start-rises, Tells, tells-in-step}
 
 -- Gatekeepers
-
--- a hand has a log of its own for each gatekeeper
-own-logs : (shared : Shared) (hand : Hand) → IsHand shared hand → length (made_by hand).gates ≡ gate_count shared
-own-logs shared hand is = length-map (map (λ (p : Pass GateDeed). own p) hand.gates.items) _ ∙ length-map hand.gates.items (λ (p : Pass GateDeed). own p) ∙ is.gates
-
--- and one that it has seen
-seen-logs : (shared : Shared) (hand : Hand) → IsHand shared hand → length (seen_by hand).gates ≡ gate_count shared
-seen-logs shared hand is = length-map (map (λ (p : Pass GateDeed). seen p) hand.gates.items) _ ∙ length-map hand.gates.items (λ (p : Pass GateDeed). seen p) ∙ is.gates
-
--- the home of a running program is a gatekeeper
-home-there : (shared : Shared) (hand : Hand) (running : Running) → IsHand shared hand → IsRunning shared hand running
-    → running.stamp.home < gate_count shared
-home-there shared hand running is runs = elim (cases_lt running.stamp.home (gate_count shared)) [
-  | inl low ↦ low
-  | inr high ↦ absurd (has_none one (subst (λ (l : List GateEntry). Contains (programs_of l) one)
-      (ap (drop (length started)) (none high) ∙ drop-nil (length started)) runs.begun))
-]
-  where
-    started : List GateEntry
-    started = gate_log (start_of shared) running.stamp.home
-
-    one : Begun
-    one = record { author = hand_number hand; request = running.request; stamp = running.stamp }
-
-    none : gate_count shared ≤ running.stamp.home → gate_log (seen_by hand) running.stamp.home ≡ []
-    none high = get_or_past (seen_by hand).gates running.stamp.home []
-        (subst (λ (n : ℕ). n ≤ running.stamp.home) (sym (seen-logs shared hand is)) high)
 
 -- of two begins or judgements the first is of the lesser request
 abbrev Later : Judgement → Judgement → Type 0

@@ -53,7 +53,7 @@ look-no-change script r program asked ops look is work =
 -- Turns
 
 -- if the request is a program, it has read in turn
-abbrev HasTurn : Script → Stand → ℕ → Type 0
+abbrev pub HasTurn : Script → Stand → ℕ → Type 0
 HasTurn script at r = (program : Program) → IsLookAt script r program
     → ReadsInTurn (own_reads at.hand r) program (Contains (replied_in (log_of at.client)) r)
 
@@ -145,7 +145,7 @@ module _ (laws : ReadLaws) (shared : Shared) (script : Script) (number upto : �
       (λ program look h. inl (same-replied does.same.log r h)) turn
 
   -- after one thing done
-  step-turn : Does shared script number upto old new → (r : ℕ) → HasTurn script old r → HasTurn script new r
+  pub step-turn : Does shared script number upto old new → (r : ℕ) → HasTurn script old r → HasTurn script new r
   step-turn (inl change) = change-turn change
   step-turn (inr (inl start)) = start-turn start
   step-turn (inr (inr (inl visit))) = visit-turn visit

@@ -1,27 +1,26 @@
 -- Who read what in a phase: each visit is of a program that had begun at the start, or of one that its hand began since.
-use Rattle.std.proofs.Common.{◌≡◌, ◌≢◌, ℕ, ◌<◌, ◌≤◌, ◌==◌, Bool, List, [], ◌∷◌, ◌++◌, length, Contains, IsTrue, Some, ◌⊎◌, inl, inr, refl, sym, ap, subst, ◌∙◌, eq-eqb, arith}
-use Rattle.std.specs.List.{filter, flat_map}
+use Rattle.std.proofs.Common.{◌≡◌, ℕ, ◌<◌, ◌==◌, List, Contains, ◌⊎◌, inl, inr, sym, ap, subst, ◌∙◌, eq-eqb}
+use Rattle.std.specs.List.{filter}
 use Rattle.std.proofs.lemmas.Bool.{eqb-true}
-use Rattle.std.proofs.lemmas.List.Elements.{Contains-append_right}
 use Rattle.std.proofs.lemmas.Option.{same_Some}
-use Rattle.proof_base.proofs.Members.{cut_at, filter_has, flat_has, has_cut, has_filter, has_flat, has_none, only}
+use Rattle.proof_base.proofs.Members.{cut_at, filter_has, flat_has, has_filter, has_flat, has_none, only}
 use Rattle.vector_stamp.specs.declared.clock.Stamp.{Stamp}
 use Rattle.program_defs.specs.declared.script.Request.{Request}
 use Rattle.program_defs.specs.declared.script.Script.{Script}
 use Rattle.report_rules.specs.Lookups.{request_at}
 use Rattle.weave_entries.specs.declared.gate_log.GateEntry.{GateEntry}
 use Rattle.weave_entries.specs.declared.gate_log.GateDeed.{GateDeed}
-use Rattle.weave_entries.specs.declared.gate_log.GateDeed.TheVariants.{BeganTx, BeganProgram, Sent, Nop, Heard, Raised, Finished}
 use Rattle.weave_entries.specs.declared.shard_log.ShardEntry.{ShardEntry}
 use Rattle.weave_entries.specs.declared.shard_log.ShardDeed.{ShardDeed}
 use Rattle.weave_entries.specs.declared.shard_log.ShardDeed.TheVariants.{Arrived, Applied, Visited, Collected}
-use Rattle.weave_entries.specs.GateReplay.{Begun, begun_by, begun_in, program_by, programs_of, tx_by}
+use Rattle.weave_entries.specs.GateReplay.{Begun, begun_by, begun_in, programs_of}
 use Rattle.weave_entries.specs.ShardReplay.{Visit, visit_by, visits_of}
 use Rattle.weave_account.specs.declared.account.Account.{Account}
 use Rattle.weave_account.specs.Account.{all_begun, gate_log, reads_of, shard_log}
-use Rattle.weave_account.specs.GoesOn.{IsBeginningOf, visits_by}
 use Rattle.weave_account.specs.Shards.{ShardFitsAs}
-use Rattle.hands_account.proofs.ByHands.{IsAtStart, IsByHand, start-or-hand, start-within}
+use Rattle.weave_account.proofs.Beginning.{program-begun as program-among}
+use Rattle.hands_account.proofs.ByHands.{start-or-hand, start-within}
+use Rattle.hands_account.proofs.Once.{begun-author as entry-author}
 use Rattle.hands_account.proofs.Places.{has-on}
 use Rattle.seen_logs.specs.Seen.{VisitsItsOwn, since}
 use Rattle.weaver_core.specs.declared.client.Client.{Client}
@@ -33,27 +32,18 @@ use Rattle.weaver_locks.specs.Hands.{hand_number, seen_by}
 use Rattle.weaver_locks.specs.Locks.{hands_of}
 use Rattle.workers_account.specs.Phase.{IsClosedBy, IsPhaseRun}
 use Rattle.workers_account.specs.PhaseLaws.{PhaseLaws}
-use Rattle.workers_account.proofs.Parts.{OfNumber, Part, of-number, own-since, part-of}
+use Rattle.workers_account.proofs.Parts.{of-number, own-since, part-of}
 use Rattle.workers_account.proofs.Begun.{BegunInPart, all-has, begun-in-part}
 use Rattle.workers_account.proofs.Follows.{begun-new}
 use Rattle.workers_account.proofs.Own.{since-is}
 
 -- a program that began is among what began
 pub program-begun : (log : List GateEntry) (begun : Begun) → Contains (programs_of log) begun → Contains (begun_in log) begun
-program-begun log begun h =
-    let from = flat_has (λ (e : GateEntry). program_by e.author e.deed) log begun h in
-    has_flat (λ (e : GateEntry). begun_by e.author e.deed) log from.0 begun from.1
-    (Contains-append_right (tx_by (from.0).author (from.0).deed) (program_by (from.0).author (from.0).deed) begun from.2)
+program-begun log begun h = program-among log begun h
 
 -- what an entry began has the entry's author
 pub begun-author : (author : ℕ) (deed : GateDeed) (begun : Begun) → Contains (begun_by author deed) begun → author ≡ begun.author
-begun-author author (BeganTx r stamp) begun h = ap (λ (b : Begun). b.author) (only (record { author = author; request = r; stamp = stamp }) begun h)
-begun-author author (BeganProgram r stamp) begun h = ap (λ (b : Begun). b.author) (only (record { author = author; request = r; stamp = stamp }) begun h)
-begun-author author (Sent r messages) begun h = absurd (has_none begun h)
-begun-author author (Nop shard number stamp low) begun h = absurd (has_none begun h)
-begun-author author (Heard clock) begun h = absurd (has_none begun h)
-begun-author author (Raised epoch) begun h = absurd (has_none begun h)
-begun-author author (Finished r) begun h = absurd (has_none begun h)
+begun-author author deed begun h = entry-author author deed begun h
 
 -- a visit has its entry's author
 visit-author : (author : ℕ) (deed : ShardDeed) (visit : Visit) → Contains (visit_by author deed) visit → author ≡ visit.author

@@ -1,7 +1,6 @@
 use Rattle.std.proofs.Common.{sym, ◌∙◌}
-use Rattle.weaver_core.specs.Clients.{log_of, requests_in, unanswered_in}
 use Rattle.weaver_workers.specs.Turning.{stand}
-use Rattle.weaver_workers.proofs.Answered.{below-parts, has-replies, in-script, none-from, unanswered-of}
+use Rattle.weaver_workers.proofs.Answered.{given-below, has-replies, in-script, none-from, unanswered-of}
 use Rattle.weaver_workers.proofs.Below.{first-below, goes-below}
 use Rattle.weaver_workers.proofs.Going.{goes-none, goes-then}
 use Rattle.weaver_workers.proofs.ReadOn.{ends-by}
@@ -21,16 +20,14 @@ returns-in_default-clause-ends g c =
 pub try_next-requires-clause-there : goal.try_next-requires-clause-there
 try_next-requires-clause-there g c =
     let request = c.in-Some-next_below.request in
-    let parts = below-parts c.args.upto request (unanswered_in (requests_in c.loop.client) (log_of c.loop.client))
-    (sym c.next_below.ensures.next ∙ c.in-Some-next_below.is) in
+    let parts = given-below c.args.upto request c.loop.client c.next_below.result c.next_below.ensures.next c.in-Some-next_below.is in
     in-script c.args.script.now c.args.number request
     (unanswered-of c.args.script.now c.args.number c.loop.client request c.loop.invariant.keeps.requests parts.0)
 
 pub returns-in-Some-ended_by-clause-goes : goal.returns-in-Some-ended_by-clause-goes
 returns-in-Some-ended_by-clause-goes g c =
     let request = c.in-Some-next_below.request in
-    let parts = below-parts c.args.upto request (unanswered_in (requests_in c.loop.client) (log_of c.loop.client))
-    (sym c.next_below.ensures.next ∙ c.in-Some-next_below.is) in
+    let parts = given-below c.args.upto request c.loop.client c.next_below.result c.next_below.ensures.next c.in-Some-next_below.is in
     goes-then c.args.shared.now c.args.script.now c.args.number c.args.upto (stand c.args.hand.now c.args.client.now)
     (stand c.loop.hand c.loop.client) (stand c.try_next.new.hand c.try_next.new.client) c.loop.invariant
     (c.in_ok-tried.ensures c.args.upto parts.1).goes
@@ -38,8 +35,7 @@ returns-in-Some-ended_by-clause-goes g c =
 pub returns-in-Some-ended_by-clause-ends : goal.returns-in-Some-ended_by-clause-ends
 returns-in-Some-ended_by-clause-ends g c =
     let request = c.in-Some-next_below.request in
-    let parts = below-parts c.args.upto request (unanswered_in (requests_in c.loop.client) (log_of c.loop.client))
-    (sym c.next_below.ensures.next ∙ c.in-Some-next_below.is) in
+    let parts = given-below c.args.upto request c.loop.client c.next_below.result c.next_below.ensures.next c.in-Some-next_below.is in
     ends-by c.args.shared.now c.args.script.now c.args.upto (stand c.try_next.new.hand c.try_next.new.client) c.in_ok-tried.tried
     c.ended_by.result c.in-Some-ended_by.ended c.ended_by.ensures c.in-Some-ended_by.is
     (c.in_ok-tried.ensures c.args.upto parts.1).answered
@@ -52,8 +48,7 @@ returns-in-Some-ended_by-clause-ends g c =
 pub loop-preserved : goal.loop-preserved
 loop-preserved g c =
     let request = c.in-Some-next_below.request in
-    let parts = below-parts c.args.upto request (unanswered_in (requests_in c.loop.client) (log_of c.loop.client))
-    (sym c.next_below.ensures.next ∙ c.in-Some-next_below.is) in
+    let parts = given-below c.args.upto request c.loop.client c.next_below.result c.next_below.ensures.next c.in-Some-next_below.is in
     goes-then c.args.shared.now c.args.script.now c.args.number c.args.upto (stand c.args.hand.now c.args.client.now)
     (stand c.loop.hand c.loop.client) (stand c.try_next.new.hand c.try_next.new.client) c.loop.invariant
     (c.in_ok-tried.ensures c.args.upto parts.1).goes
