@@ -1,0 +1,13 @@
+pub mod Gains
+pub mod Joined
+pub mod Others
+pub mod Served
+pub mod Carried
+pub mod Leading
+pub mod Runs
+pub mod SessionLogs
+pub mod Ends
+pub mod Follows
+pub mod Visits
+pub mod Programs
+pub mod Closed
