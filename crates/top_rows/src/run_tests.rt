@@ -218,26 +218,46 @@ fn add_request(text: &mut Vec<u8>, number: u32) -> Result<(), AllocError> {
     text.extend_from_slice(lines.as_str().as_bytes())
 }
 
-// The vertices, and then fifty phases of twenty requests each, at eight gatekeepers and sixteen shards.
-fn fifty_phases(alloc: Global) -> Result<Vec<u8>, AllocError> {
+// The vertices, made at one of eight gatekeepers, for sixteen shards.
+fn shared_vertices(alloc: Global) -> Result<Vec<u8>, AllocError> {
     let mut input = Vec::from_slice(alloc, b"weaver 1 8 16\ntx t 0 0\n")?;
     for v in 0..SHARED {
         let line = format!(in alloc; "create v{v}\n")?;
         input.extend_from_slice(line.as_str().as_bytes())?;
     }
     input.extend_from_slice(b"end\n")?;
-    for number in 0..1_000 {
-        if number % 20 == 0 {
-            input.extend_from_slice(b"phase\n")?;
-        }
-        add_request(&mut input, number)?;
+    Ok(input)
+}
+
+// Requests with numbers that follow each other.
+fn add_requests(text: &mut Vec<u8>, first: u32, count: u32) -> Result<(), AllocError> {
+    for place in 0..count {
+        add_request(text, first.wrapping_add(place))?;
+    }
+    Ok(())
+}
+
+// The vertices, and then phases of that many requests each.
+fn in_phases(alloc: Global, phases: u32, each: u32) -> Result<Vec<u8>, AllocError> {
+    let mut input = shared_vertices(alloc)?;
+    for phase in 0..phases {
+        input.extend_from_slice(b"phase\n")?;
+        add_requests(&mut input, phase.wrapping_mul(each), each)?;
     }
     Ok(input)
 }
 
 #[test]
 fn a_thousand_requests_in_fifty_phases(rt: HostRuntime) -> Result<(), Fail> {
-    let script = fifty_phases(rt.alloc())?;
+    let script = in_phases(rt.alloc(), 50, 20)?;
+    assert!(rt; is_run(&rt, rt.alloc(), script.as_slice())?);
+    Ok(())
+}
+
+// Three requests of each session, all in one phase.
+#[test]
+fn all_sixty_four_sessions_at_once(rt: HostRuntime) -> Result<(), Fail> {
+    let script = in_phases(rt.alloc(), 1, 192)?;
     assert!(rt; is_run(&rt, rt.alloc(), script.as_slice())?);
     Ok(())
 }

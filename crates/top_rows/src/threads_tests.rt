@@ -1,5 +1,5 @@
 //! That `run` uses its workers: the clients of two sessions run side by side, and what they do in which order decides
-//! what their requests find.
+//! what their requests find. Each worker of a gatekeeper or a shard takes its turns.
 use crate::top_tests::{HONEST, call_at_pace};
 use std::alloc::{AllocError, Global};
 use std::sync::Wait;
@@ -123,5 +123,71 @@ fn who_comes_first_is_committed(rt: HostRuntime) -> Result<(), Fail> {
         assert!(rt; has_line(report.as_slice(), held, b" refused 1 exists at 1"));
         assert!(rt; has_line(report.as_slice(), other, b" committed 1"));
     }
+    Ok(())
+}
+
+// How often workers began a turn, by what they are, and how often one ended.
+#[derive(Drop)]
+struct Counting {
+    clients: AtomicU64,
+    first_gate: AtomicU64,
+    second_gate: AtomicU64,
+    shard: AtomicU64,
+    ended: AtomicU64,
+}
+
+impl Counting {
+    fn new() -> Counting {
+        Counting {
+            clients: AtomicU64::new(0),
+            first_gate: AtomicU64::new(0),
+            second_gate: AtomicU64::new(0),
+            shard: AtomicU64::new(0),
+            ended: AtomicU64::new(0),
+        }
+    }
+
+    // The gatekeepers', the shard's and the clients' turns, and those that ended.
+    fn turns(&self) -> [u64; 5] {
+        [
+            self.first_gate.load(Ordering::SeqCst),
+            self.second_gate.load(Ordering::SeqCst),
+            self.shard.load(Ordering::SeqCst),
+            self.clients.load(Ordering::SeqCst),
+            self.ended.load(Ordering::SeqCst),
+        ]
+    }
+}
+
+impl Pace for Counting {
+    fn before(&self, kind: WorkKind, index: u32, _turn: u32) {
+        let counted = match kind {
+            WorkKind::Client => &self.clients,
+            WorkKind::Shard => &self.shard,
+            WorkKind::Gate => if index == 0 {
+                &self.first_gate
+            } else {
+                &self.second_gate
+            },
+        };
+        counted.fetch_add(1, Ordering::SeqCst);
+    }
+
+    fn after(&self, _kind: WorkKind, _index: u32, _turn: u32) {
+        self.ended.fetch_add(1, Ordering::SeqCst);
+    }
+}
+
+// Two requests, a phase without any, and a third request: at two gatekeepers that never wait for each other, and one shard.
+const THREE_PHASES: &[u8] =
+    b"weaver 1 2 1\ntx t1 0 0\ncreate v\nend\ntx t2 1 1\ncreate w\nend\nphase\nphase\ntx t3 0 1\nget v\nend\n";
+
+// Four turns for each request of a phase, and one try of each request.
+#[test]
+fn each_worker_takes_its_turns(rt: HostRuntime) -> Result<(), Fail> {
+    let pace = Counting::new();
+    let (status, _report) = call_at_pace(&rt, rt.alloc(), &["run"], THREE_PHASES, HONEST, &pace)?;
+    assert!(rt; status == Status::Done);
+    assert!(rt; pace.turns() == [12, 12, 12, 3, 39]);
     Ok(())
 }
