@@ -10,12 +10,14 @@ if [ ! -x "$program" ]; then
 fi
 scratch=$(mktemp -d)
 trap 'rm -rf "$scratch"' EXIT
+passed=0
 failures=0
 
 # is NAME WANTED FOUND
 is() {
   if [ "$2" = "$3" ]; then
     echo "ok   $1"
+    passed=$((passed + 1))
   else
     echo "FAIL $1: wanted '$2', found '$3'"
     failures=$((failures + 1))
@@ -80,6 +82,10 @@ text=$("$program" load 7 0); status=$?
 is "load of nothing: status" 5 $status
 is "load of nothing: text" "" "$text"
 
+text=$(ulimit -v 20000; "$program" load 7 10000); status=$?
+is "too little memory: status" 4 $status
+is "too little memory: text" "" "$text"
+
 text=$("$program" trace more <"$steps"); status=$?
 is "a word after trace: status" 5 $status
 
@@ -129,4 +135,5 @@ mkfifo "$scratch/pipe"
 wait
 is "a broken pipe: status" 3 "$(cat "$scratch/status")"
 
+echo "$passed ok, $failures failed"
 exit $((failures > 0))

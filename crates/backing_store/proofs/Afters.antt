@@ -1,8 +1,9 @@
 -- A commit comes after the last commit at each vertex that it names.
+-- Used by `commits_come_after_the_last`.
 use Rattle.std.proofs.Common.{◌≡◌, ℕ, Bool, true, false, not, ◌&&◌, List, ◌++◌, Contains, IsTrue, Option, None, Some, inl, inr, refl}
 use Rattle.std.specs.List.{find}
 use Rattle.std.proofs.lemmas.Bool.{cases_Bool}
-use Rattle.proof_base.proofs.Members.{has_map, has_filter, find_lacks}
+use Rattle.weave_data.proofs.Members.{has_map, has_filter, find_lacks}
 use Rattle.vector_stamp.specs.declared.clock.Stamp.{Stamp}
 use Rattle.vector_stamp.specs.Order.{stamp_before, unordered}
 use Rattle.vector_stamp.specs.Precedence.{Given, precedes}

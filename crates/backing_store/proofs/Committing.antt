@@ -1,4 +1,5 @@
 -- What a commit knows before it asks the judge.
+-- Used by `commit`, `commits` and `counts_are_at_most_the_commits`.
 use Rattle.std.proofs.Common.{◌≡◌, ◌≢◌, ℕ, ◌<◌, ◌≤◌, ◌^◌, Bool, true, false, not, cond, ◌&&◌, ◌||◌, List, [], ◌∷◌, ◌++◌, length, map, filter, Contains, All, IsSome, Option, None, Some, ◌⊎◌, inl, inr, refl, sym, ap, subst, ◌∙◌, arith}
 use Rattle.std.specs.List.{list_any, find}
 use Rattle.std.proofs.lemmas.List.Elements.{All-map, All-nil}
@@ -119,7 +120,7 @@ module _ (graph : PlainGraph) (lasts : List (Name × KeptCommit)) (made : ℕ) (
       subst (λ (stamps : List Stamp). AreCoherent (stamp ∷ stamps ++ known)) (sym stamps_are)
       (part (stamp ∷ asked_stamps stamp (lasts_of ops (commits_of log)) ++ known) (stamp ∷ stamps_kept (commits_of log) ++ known) coherent (asked_among stamp ops (commits_of log) known))
 
-  -- where the judge isn't asked, the stamp is before a last one or nothing is asked
+  -- if the judge isn't asked, the stamp is before a last one or nothing is asked
   pub not_asked : is_judge_asked log stamp ops ≡ false → IsSome (first_newer lasts stamp named) ⊎ (asked.stamps ≡ [])
   not_asked is = by (first_newer lasts stamp named) refl
     where

@@ -1,4 +1,5 @@
 -- The first element of a list that passes a test.
+-- Used by Judging, Replay and Rule.
 use Rattle.std.proofs.Common.{◌≡◌, ℕ, ◌+◌, ◌<◌, ◌≤◌, Bool, true, false, cond, List, [], ◌∷◌, ◌++◌, length, map, filter, reverse, Option, None, Some, inl, inr, refl, sym, ap, ◌∙◌, arith}
 use Rattle.std.specs.Prelude.{position, nat_lt, slice_get, eqb}
 use Rattle.std.specs.List.{position_or_len, find}
@@ -28,7 +29,7 @@ module _ {X : Type 0} (p : X → Bool) where
         | inr over ↦ absurd (none-some i (sym (cond-false _ _ _ (not_below _ _ over)) ∙ e))
       ]
 
-  -- where there is no place nothing is found
+  -- if there is no place nothing is found
   pub found_none : (xs : List X) → position p xs ≡ None → find p xs ≡ None
   found_none xs e =
       elim (cases_lt (position_or_len p xs) (length xs)) [

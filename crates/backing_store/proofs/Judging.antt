@@ -1,4 +1,5 @@
 -- What is decided of a transaction is what the rule says.
+-- Used by `judge_tx`.
 use Rattle.std.proofs.Common.{◌≡◌, ℕ, ◌<◌, zero, suc, List, [], ◌∷◌, length, map, Option, None, Some, Result, Ok, Err, IfOk, refl, sym, ap, ◌∙◌, subst, arith}
 use Rattle.std.specs.Prelude.{position, slice_get, slice_index_or, slice_index}
 use Rattle.std.specs.List.{find}

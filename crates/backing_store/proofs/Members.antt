@@ -1,11 +1,12 @@
 -- What is asked is among what the store keeps, and among what it judged.
-use Rattle.std.proofs.Common.{◌≡◌, ◌≢◌, ℕ, suc, ◌≤◌, Bool, not, List, [], ◌∷◌, ◌++◌, length, map, filter, reverse, Contains, All, Option, None, Some, ◌⊎◌, inl, inr, refl, sym, ap, subst, ◌∙◌, arith}
+-- Used by `what_is_asked_is_kept` and Committing.
+use Rattle.std.proofs.Common.{◌≡◌, ◌≢◌, ℕ, suc, ◌≤◌, Bool, not, List, [], ◌∷◌, ◌++◌, length, map, filter, reverse, Contains, All, Option, None, Some, inl, inr, sym, ap, subst, ◌∙◌, arith}
 use Rattle.std.specs.List.{filter_map, flat_map, cons_option}
 use Rattle.std.specs.Option.{option_map}
 use Rattle.std.proofs.lemmas.Bool.{cases_Bool}
 use Rattle.std.proofs.lemmas.List.{reverse-append, length-map}
 use Rattle.std.proofs.lemmas.List.Elements.{Contains-append_left, Contains-append_right, Contains-append_cases, All-contains, All-contains_itself, All-weaker}
-use Rattle.proof_base.proofs.Members.{has_none, has_read, has_head, has_tail, filter_has, has_filter, find_has, any_has, has_map, map_has, flat_has, has_flat}
+use Rattle.weave_data.proofs.Members.{has_none, has_read, has_head, has_tail, filter_has, has_filter, find_has, any_has, has_map, map_has, flat_has, has_flat}
 use Rattle.weave_data.specs.Names.{same_name, one_name}
 use Rattle.weave_data.specs.declared.name.Name.{Name}
 use Rattle.vector_stamp.specs.declared.clock.Stamp.{Stamp}
@@ -19,39 +20,12 @@ use Rattle.weave_entries.specs.declared.store_log.StoreDeed.TheVariants.{Judged}
 use Rattle.weave_entries.specs.declared.verdict.Verdict.TheVariants.{Committed, Conflict, Refused}
 use Rattle.weave_entries.specs.StoreReplay.{Judgement, Commit, judged_by, judgements_of, commit_by, commits_of, names_vertex, last_naming}
 use Rattle.weave_entries.specs.StoreRule.{LastCommit, lasts_of, asked_of, asked_stamps}
+use Rattle.weave_entries.proofs.LastCommits.{last-is, last-there}
 use Rattle.backing_store.specs.Commits.{stamps_judged, stamps_kept}
 
 -- Lists
 
 module _ {A B : Type 0} (f : A → Option B) where
-  filter_map_read : (x : A) (xs : List A) (y : B) (o : Option B) → f x ≡ o → (Contains (filter_map f xs) y → (z : A) × Contains xs z × (f z ≡ Some y)) → Contains (cons_option o (filter_map f xs)) y → (z : A) × Contains (x ∷ xs) z × (f z ≡ Some y)
-  filter_map_read x xs y None is rest h = let r = rest h in (r.0, has_tail x xs r.0 r.1, r.2)
-  filter_map_read x xs y (Some b) is rest h =
-      elim (has_read b (filter_map f xs) y h) [
-        | inl same ↦ (x, has_head x xs, is ∙ ap Some same)
-        | inr more ↦ let r = rest more in (r.0, has_tail x xs r.0 r.1, r.2)
-      ]
-
-  -- a member of a mapped filter is what some member gives
-  filter_map_has : (xs : List A) (y : B) → Contains (filter_map f xs) y → (x : A) × Contains xs x × (f x ≡ Some y)
-  filter_map_has [] y h = absurd (has_none y h)
-  filter_map_has (x ∷ xs) y h = filter_map_read x xs y (f x) refl (filter_map_has xs y) h
-
-  read_filter_map : (z : A) (xs : List A) (x : A) (y : B) (o : Option B) → f z ≡ o → f x ≡ Some y → (z ≡ x) ⊎ Contains (filter_map f xs) y → Contains (cons_option o (filter_map f xs)) y
-  read_filter_map z xs x y None e is (inl same) = let none : None ≡ Some y = sym e ∙ ap f same ∙ is in absurd (cc)
-  read_filter_map z xs x y None e is (inr more) = more
-  read_filter_map z xs x y (Some b) e is (inl same) = let one : Some b ≡ Some y = sym e ∙ ap f same ∙ is in let same' : b ≡ y = cc in subst (λ k. Contains (b ∷ filter_map f xs) k) same' (has_head b (filter_map f xs))
-  read_filter_map z xs x y (Some b) e is (inr more) = has_tail b (filter_map f xs) y more
-
-  -- and what a member gives is one
-  has_filter_map : (xs : List A) (x : A) (y : B) → Contains xs x → f x ≡ Some y → Contains (filter_map f xs) y
-  has_filter_map [] x y h is = absurd (has_none x h)
-  has_filter_map (z ∷ xs) x y h is =
-      elim (has_read z xs x h) [
-        | inl same ↦ read_filter_map z xs x y (f z) refl is (inl same)
-        | inr more ↦ read_filter_map z xs x y (f z) refl is (inr (has_filter_map xs x y more is))
-      ]
-
   cons_le : (o : Option B) (ys : List B) (n : ℕ) → length ys ≤ n → length (cons_option o ys) ≤ suc n
   cons_le None ys n le = omega (arith, le)
   cons_le (Some b) ys n le = omega (arith, le)
@@ -126,16 +100,11 @@ record IsOfLast (ops : List Op) (commits : List Commit) (stamp : Stamp) : Type 0
   is_last : last_naming vertex commits ≡ Some commit
   is : commit.stamp ≡ stamp
 
-some_last : (v : Name) (o : Option Commit) (last : LastCommit) → option_map (λ (commit : Commit). record { vertex = v; commit = commit }) o ≡ Some last → o ≡ Some last.commit
-some_last v None last e = absurd (cc)
-some_last v (Some commit) last e = let same : record { vertex = v; commit = commit } ≡ last = cc in ap (λ (l : LastCommit). Some l.commit) same
-
 of_last : (ops : List Op) (commits : List Commit) (one : Stamp) → Contains (map (λ (last : LastCommit). last.commit.stamp) (lasts_of ops commits)) one → IsOfLast ops commits one
 of_last ops commits one h =
     let found = map_has (λ (last : LastCommit). last.commit.stamp) (lasts_of ops commits) one h in
     let last : LastCommit = found.0 in
-    let from = filter_map_has (λ (v : Name). option_map (λ (commit : Commit). record { vertex = v; commit = commit }) (last_naming v commits)) (named_by ops) last found.1 in
-    record { vertex = from.0; commit = last.commit; is_last = some_last from.0 (last_naming from.0 commits) last from.2; is = found.2 }
+    record { vertex = last.vertex; commit = last.commit; is_last = (last-is ops commits last found.1).0; is = found.2 }
 
 asked_of_last : (stamp : Stamp) (ops : List Op) (commits : List Commit) (one : Stamp) → Contains (asked_stamps stamp (lasts_of ops commits)) one → Contains (map (λ (last : LastCommit). last.commit.stamp) (lasts_of ops commits)) one
 asked_of_last stamp ops commits one h =
@@ -154,7 +123,7 @@ asked_is_kept stamp ops commits one h =
     let all : List Op = flat_map (λ (commit : Commit). commit.ops) commits in
     let there : Contains all op.0 = has_flat (λ (commit : Commit). commit.ops) commits last.commit op.0 (reverse_has commits last.commit found.0) op.1 in
     let named : Contains (named_by all) last.vertex = has_mention (map vertex_of all) last.vertex (subst (λ v. Contains (map vertex_of all) v) op.2 (has_map vertex_of all op.0 there)) in
-    let kept = has_filter_map (λ (v : Name). option_map (λ (commit : Commit). record { vertex = v; commit = commit }) (last_naming v commits)) (named_by all) last.vertex (record { vertex = last.vertex; commit = last.commit }) named (ap (option_map (λ (commit : Commit). record { vertex = last.vertex; commit = commit })) last.is_last) in
+    let kept = last-there all commits last.vertex last.commit named last.is_last in
     subst (λ s. Contains (stamps_kept commits) s) last.is (has_map (λ (l : LastCommit). l.commit.stamp) (lasts_of all commits) (record { vertex = last.vertex; commit = last.commit }) kept)
 
 commit_stamp : (author : ℕ) (deed : StoreDeed) (commit : Commit) → Contains (commit_by deed) commit → commit.stamp ≡ (judged_by author deed).stamp

@@ -1,4 +1,5 @@
 -- What the store keeps, after one more entry.
+-- Used by `commit`, `judged` and Committing.
 use Rattle.std.proofs.Common.{◌≡◌, ◌≢◌, ℕ, ◌+◌, ◌<◌, All, zero, suc, Bool, true, false, cond, ◌||◌, List, [], ◌∷◌, ◌++◌, length, map, filter, get_or, Option, None, Some, Ok, Err, ◌⊎◌, inl, inr, refl, sym, ap, ◌∙◌, subst, arith}
 use Rattle.std.specs.Prelude.{position, slice_get, nat_eq}
 use Rattle.std.specs.List.{find}
@@ -8,8 +9,8 @@ use Rattle.std.proofs.lemmas.Bool.{cases_Bool}
 use Rattle.std.proofs.lemmas.List.{length-map, length-append, append-nil, map-append}
 use Rattle.std.proofs.lemmas.List.Sums.{fold-append}
 use Rattle.std.proofs.lemmas.List.Elements.{filter-append}
-use Rattle.proof_base.proofs.Ends.{flat_push}
-use Rattle.proof_base.proofs.Entries.{each_push}
+use Rattle.weave_data.proofs.Ends.{flat_push}
+use Rattle.weave_data.proofs.Entries.{each_push}
 use Rattle.weave_data.specs.Names.{same_name, one_name}
 use Rattle.weave_data.specs.declared.name.Name.{Name}
 use Rattle.vector_stamp.specs.declared.clock.Stamp.{Stamp}
@@ -152,6 +153,19 @@ graph_more commits (Refused op reason at) request stamp ops = ap graph_committed
 
 -- The whole
 
+-- the fields are what a verdict on a request makes of those before it
+pub record AreAfter (graph : PlainGraph) (lasts : List (Name × KeptCommit)) (made : ℕ) (places : List (ℕ × ℕ))
+    (log : List StoreEntry)
+    (request : ℕ) (stamp : Stamp) (ops : List Op) (verdict : Verdict) (now : PlainGraph)
+    (noted : List (Name × KeptCommit)) (number : ℕ)
+    (placed : List (ℕ × ℕ)) : Type 0 where
+  pub graph_is : now ≡ graph_after verdict graph ops
+  pub lasts_are : (v : Name) → held_at noted v ≡ held_after request stamp (counts_in verdict) v (held_at lasts v)
+  pub made_is : number ≡ made + commits_in verdict
+  pub places_are : (one : ℕ)
+      → lookup (nat_eq one) placed ≡ option_or (lookup (nat_eq one) places)
+      (cond (nat_eq request one) (Some (length log)) None)
+
 module _ (graph : PlainGraph) (lasts : List (Name × KeptCommit)) (made : ℕ) (places : List (ℕ × ℕ)) (log : List StoreEntry) (kept : IsReplayOf graph lasts made places log) where
   -- the tables may be larger
   pub replay_moved : (moved : List (Name × KeptCommit)) (placed : List (ℕ × ℕ)) (same : List StoreEntry) → ((v : Name) → held_at moved v ≡ held_at lasts v) → ((one : ℕ) → lookup (nat_eq one) placed ≡ lookup (nat_eq one) places) → same ≡ log → IsReplayOf graph moved made placed same
@@ -164,25 +178,28 @@ module _ (graph : PlainGraph) (lasts : List (Name × KeptCommit)) (made : ℕ) (
         right = kept.right;
       })
 
-  -- one more entry
-  pub replay_more : (pairs : List Given) (author request : ℕ) (stamp : Stamp) (ops : List Op) (asked : List Name) (verdict : Verdict) (now : PlainGraph) (noted : List (Name × KeptCommit)) (number : ℕ) (placed : List (ℕ × ℕ)) (longer : List StoreEntry)
-      → All (λ (judged : Stamp). id_of judged ≢ id_of stamp) (stamps_judged log)
-      → asked ≡ asked_vertices stamp (lasts_of ops (commits_of log))
-      → verdict ≡ verdict_on pairs (commits_of log) stamp ops
-      → now ≡ graph_after verdict graph ops
-      → ((v : Name) → held_at noted v ≡ held_after request stamp (counts_in verdict) v (held_at lasts v))
-      → number ≡ made + commits_in verdict
-      → ((one : ℕ) → lookup (nat_eq one) placed ≡ option_or (lookup (nat_eq one) places) (cond (nat_eq request one) (Some (length log)) None))
-      → longer ≡ log ++ record { author = author; deed = Judged request stamp ops asked verdict } ∷ []
-      → IsReplayOf now noted number placed longer
-  replay_more pairs author request stamp ops asked verdict now noted number placed longer new asked_are verdict_is now_is notes number_is places_noted longer_is =
-      let entry : StoreEntry = record { author = author; deed = Judged request stamp ops asked verdict } in
-      let commit : Commit = record { request = request; stamp = stamp; ops = ops } in
-      let more : commits_of (log ++ entry ∷ []) ≡ commits_of log ++ commit_if verdict commit = flat_push (λ (e : StoreEntry). commit_by e.deed) log entry in
-      subst (λ (l : List StoreEntry). IsReplayOf now noted number placed l) (sym longer_is) (record {
-        graph_is = now_is ∙ ap (λ (g : PlainGraph). graph_after verdict g ops) kept.graph_is ∙ graph_more (commits_of log) verdict request stamp ops ∙ ap graph_committed (sym more);
-        lasts_are = subst (KeepsLasts noted) (sym more) (lasts_after pairs (commits_of log) stamp ops lasts noted request verdict verdict_is kept.lasts_are notes);
-        made_is = number_is ∙ ap (λ (n : ℕ). n + commits_in verdict) kept.made_is ∙ made_after (commits_of log) verdict commit ∙ ap length (sym more);
-        places_are = places_more places placed log entry kept.places_are places_noted;
-        right = each_push (λ before (one : StoreEntry). FitsStore before one.deed) log entry kept.right (record { new = new; asked_are = asked_are; pairs = pairs; verdict_is = verdict_is });
-      })
+  module _ (pairs : List Given) (author request : ℕ) (stamp : Stamp) (ops : List Op) (asked : List Name)
+      (verdict : Verdict) (now : PlainGraph)
+      (noted : List (Name × KeptCommit)) (number : ℕ) (placed : List (ℕ × ℕ)) where
+    -- one more entry
+    pub replay_more : (longer : List StoreEntry) → All (λ (judged : Stamp). id_of judged ≢ id_of stamp)
+        (stamps_judged log)
+        → asked ≡ asked_vertices stamp (lasts_of ops (commits_of log))
+        → verdict ≡ verdict_on pairs (commits_of log) stamp ops
+        → AreAfter graph lasts made places log request stamp ops verdict now noted number placed
+        → longer ≡ log ++ record { author = author; deed = Judged request stamp ops asked verdict } ∷ []
+        → IsReplayOf now noted number placed longer
+    replay_more longer new asked_are verdict_is after longer_is =
+        let entry : StoreEntry = record { author = author; deed = Judged request stamp ops asked verdict } in
+        let commit : Commit = record { request = request; stamp = stamp; ops = ops } in
+        let more : commits_of (log ++ entry ∷ []) ≡ commits_of log ++ commit_if verdict commit = flat_push (λ (e : StoreEntry). commit_by e.deed) log entry in
+        subst (λ (l : List StoreEntry). IsReplayOf now noted number placed l) (sym longer_is) (record {
+          graph_is = after.graph_is ∙ ap (λ (g : PlainGraph). graph_after verdict g ops) kept.graph_is
+              ∙ graph_more (commits_of log) verdict request stamp ops ∙ ap graph_committed (sym more);
+          lasts_are = subst (KeepsLasts noted) (sym more)
+              (lasts_after pairs (commits_of log) stamp ops lasts noted request verdict verdict_is kept.lasts_are after.lasts_are);
+          made_is = after.made_is ∙ ap (λ (n : ℕ). n + commits_in verdict) kept.made_is
+              ∙ made_after (commits_of log) verdict commit ∙ ap length (sym more);
+          places_are = places_more places placed log entry kept.places_are after.places_are;
+          right = each_push (λ before (one : StoreEntry). FitsStore before one.deed) log entry kept.right (record { new = new; asked_are = asked_are; pairs = pairs; verdict_is = verdict_is });
+        })

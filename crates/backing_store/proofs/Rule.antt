@@ -1,10 +1,11 @@
 -- What the store looks up in its table is what the rule looks up in the commits.
-use Rattle.std.proofs.Common.{◌≡◌, ℕ, Bool, List, [], ◌∷◌, map, length, Option, None, Some, inl, inr, refl, sym, ap, ◌∙◌}
+-- Used by Committing and Judging.
+use Rattle.std.proofs.Common.{◌≡◌, ℕ, List, [], ◌∷◌, map, length, Option, None, Some, inl, inr, refl, sym, ap, ◌∙◌}
 use Rattle.std.specs.List.{find, cons_option, filter_map}
 use Rattle.std.specs.Option.{option_map, option_map_or, option_or}
 use Rattle.std.proofs.lemmas.Bool.{cases_Bool}
 use Rattle.std.proofs.lemmas.Simd.{map-map}
-use Rattle.proof_base.proofs.Ends.{filter_map_is}
+use Rattle.weave_data.proofs.Ends.{filter_map_is}
 use Rattle.weave_data.specs.declared.name.Name.{Name}
 use Rattle.vector_stamp.specs.declared.clock.Stamp.{Stamp}
 use Rattle.vector_stamp.specs.Order.{stamp_before, unordered}
@@ -26,7 +27,7 @@ last_at commits v = option_map (λ (commit : Commit). record { vertex = v; commi
 abbrev lasts_among : List Commit → List Name → List LastCommit
 lasts_among commits names = filter_map (last_at commits) names
 
--- a conflict where there is a newer commit, and else the rest
+-- a conflict if there is a newer commit, otherwise the rest
 abbrev pub newer_or : Option (Name × ℕ) → Verdict → Verdict
 newer_or None rest = rest
 newer_or (Some newer) rest = Conflict newer.0 newer.1
@@ -35,10 +36,16 @@ module _ (table : List (Name × KeptCommit)) (commits : List Commit) (keeps : Ke
   -- The first check
 
   module _ (stamp : Stamp) (rest : Verdict) where
-    is_newer : LastCommit → Bool
-    is_newer last = stamp_before stamp last.commit.stamp
+    -- a conflict at the first of these that the stamp is before, if there is one, and else the rest
+    abbrev conflict_among : List LastCommit → Verdict
+    conflict_among lasts = conflict_or (find (λ (last : LastCommit). stamp_before stamp last.commit.stamp) lasts) rest
 
-    newer_more : (v : Name) (found : Option Commit) (held : Option KeptCommit) (n : ℕ) → held ≡ option_map (kept_commit n) found → (more : List LastCommit) (newer : Option (Name × ℕ)) → conflict_or (find (λ (last : LastCommit). stamp_before stamp last.commit.stamp) more) rest ≡ newer_or newer rest → conflict_or (find (λ (last : LastCommit). stamp_before stamp last.commit.stamp) (cons_option (option_map (λ (commit : Commit). record { vertex = v; commit = commit }) found) more)) rest ≡ newer_or (option_or (newer_if stamp v held) newer) rest
+    newer_more : (v : Name) (found : Option Commit) (held : Option KeptCommit) (n : ℕ)
+        → held ≡ option_map (kept_commit n) found
+        → (more : List LastCommit) (newer : Option (Name × ℕ)) → conflict_among more ≡ newer_or newer rest
+        → conflict_among (cons_option (option_map
+        (λ (commit : Commit). record { vertex = v; commit = commit }) found) more)
+        ≡ newer_or (option_or (newer_if stamp v held) newer) rest
     newer_more v None held n is more newer so_far = rw is so_far
     newer_more v (Some commit) held n is more newer so_far =
         rw is (elim (cases_Bool (stamp_before stamp commit.stamp)) [

@@ -16,7 +16,9 @@ use Rattle.weave_entries.specs.StoreRule.{LastCommit, lasts_of, asked_stamps, as
 
 -- the stamps that the store keeps: those of the last commits, one for each vertex that a commit names
 abbrev pub stamps_kept : List Commit → List Stamp
-stamps_kept commits = map (λ (last : LastCommit). last.commit.stamp) (lasts_of (flat_map (λ (commit : Commit). commit.ops) commits) commits)
+stamps_kept commits =
+    map (λ (last : LastCommit). last.commit.stamp)
+    (lasts_of (flat_map (λ (commit : Commit). commit.ops) commits) commits)
 
 -- the named vertices that a commit names already, each with the last one
 abbrev pub lasts_at : List StoreEntry → List Op → List LastCommit
@@ -32,7 +34,7 @@ is_judge_asked log stamp ops =
     not (list_any (λ (last : LastCommit). stamp_before stamp last.commit.stamp) (lasts_at log ops))
     && list_any (λ (last : LastCommit). unordered last.commit.stamp stamp) (lasts_at log ops)
 
--- the verdict of a store with this log, where the judge has these pairs
+-- the verdict of a store with this log and a judge with these pairs
 abbrev pub verdict_at : List Given → List StoreEntry → Stamp → List Op → Verdict
 verdict_at pairs log stamp ops = verdict_on pairs (commits_of log) stamp ops
 

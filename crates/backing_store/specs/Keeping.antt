@@ -1,4 +1,4 @@
--- What the store keeps beside its log, and that it is what the log's replay gives. For proofs: no public contract cites it.
+-- What the store keeps besides its log: it is what the log's replay gives. For proofs: no public contract cites it.
 use Rattle.std.specs.Prelude.{◌≡◌, ℕ, ◌+◌, cond, List, [], ◌∷◌, map, filter, fold, length, Option, Some, None, position, nat_eq}
 use Rattle.std.specs.List.{filter_map}
 use Rattle.std.specs.Option.{option_map, option_map_or, option_or}
@@ -21,7 +21,7 @@ use Rattle.backing_store.specs.declared.asked.Asked.{Asked}
 abbrev pub kept_commit : ℕ → Commit → KeptCommit
 kept_commit count commit = record { request = commit.request; stamp = commit.stamp; commits = count }
 
--- what is kept at a vertex, where a commit names it
+-- what is kept at a vertex, if a commit names it
 abbrev pub kept_at : List Commit → Name → Option KeptCommit
 kept_at commits v = option_map (kept_commit (count_naming v commits)) (last_naming v commits)
 
@@ -33,7 +33,7 @@ held_at table v = lookup (same_name v) table
 abbrev pub KeepsLasts : List (Name × KeptCommit) → List Commit → Type 0
 KeepsLasts table commits = (v : Name) → held_at table v ≡ kept_at commits v
 
--- these vertices with what the table has at each, where it has something
+-- these vertices with what the table has at each, if it has something
 abbrev pub held_of : List (Name × KeptCommit) → List Name → List (Name × KeptCommit)
 held_of table names = filter_map (λ (v : Name). option_map (λ (last : KeptCommit). (v, last)) (held_at table v)) names
 
@@ -64,19 +64,22 @@ count_held table v = option_map_or (λ (last : KeptCommit). last.commits) (held_
 -- what a table has at a vertex after a commit with these counts
 abbrev pub held_after : ℕ → Stamp → List Counted → Name → Option KeptCommit → Option KeptCommit
 held_after request stamp counts v held =
-    fold (λ (had : Option KeptCommit) (counted : Counted). cond (same_name counted.vertex v) (Some (record { request = request; stamp = stamp; commits = counted.before + 1 })) had) held counts
+    fold (λ (had : Option KeptCommit) (counted : Counted). cond (same_name counted.vertex v)
+    (Some (record { request = request; stamp = stamp; commits = counted.before + 1 })) had) held counts
 
 -- The verdicts
 
 -- a table has at each request the place of its first entry
 abbrev pub FindsEntries : List (ℕ × ℕ) → List StoreEntry → Type 0
 FindsEntries places log =
-    (request : ℕ) → lookup (nat_eq request) places ≡ position (λ (judged : Judgement). nat_eq judged.request request) (judgements_of log)
+    (request : ℕ) → lookup (nat_eq request) places
+    ≡ position (λ (judged : Judgement). nat_eq judged.request request) (judgements_of log)
 
 -- The whole
 
 -- the fields are what the replay of the log gives
-pub record IsReplayOf (graph : PlainGraph) (lasts : List (Name × KeptCommit)) (made : ℕ) (places : List (ℕ × ℕ)) (log : List StoreEntry) : Type 0 where
+pub record IsReplayOf (graph : PlainGraph) (lasts : List (Name × KeptCommit)) (made : ℕ) (places : List (ℕ
+    × ℕ)) (log : List StoreEntry) : Type 0 where
   pub graph_is : graph ≡ graph_committed (commits_of log)
   pub lasts_are : KeepsLasts lasts (commits_of log)
   pub made_is : made ≡ length (commits_of log)

@@ -20,17 +20,19 @@ abbrev pub verdict_of_ops : ℕ → List Counted → TxOutcome → Verdict
 verdict_of_ops made counts (Ok passed) = Committed (made + 1) passed.gots counts
 verdict_of_ops made counts (Err stopped) = Refused stopped.op stopped.reason made
 
--- the operations had this outcome on the old graph. If they passed, the graph before and after them is pending; if not, the graph is as it was
+-- the operations had this outcome on the old graph. If they passed, the graph before and after them is pending; if not,
+-- the graph is as it was
 abbrev pub IsTrial : TxOutcome → PlainGraph → PlainGraph → Option Both → Type 0
 IsTrial (Ok passed) old now (Some pending) = (plain_of pending.after ≡ passed.graph) × (plain_of pending.before ≡ old)
 IsTrial (Ok passed) old now None = ⊥
 IsTrial (Err stopped) old now (Some pending) = ⊥
 IsTrial (Err stopped) old now None = now ≡ old
 
--- a conflict at the place that the judge refused, of these vertices with the requests of their last commits, and else the verdict
+-- a conflict at the place that the judge refused, by its vertex and newer request; or the verdict if it refused none
 abbrev pub verdict_asked : Option ℕ → List Name → List ℕ → Verdict → Verdict
 verdict_asked None vertices newer verdict = verdict
-verdict_asked (Some place) vertices newer verdict = Conflict (slice_index_or vertices place []) (slice_index newer place)
+verdict_asked (Some place) vertices newer verdict =
+    Conflict (slice_index_or vertices place []) (slice_index newer place)
 
 -- the graph that an outcome leaves, unless the judge refused a place
 abbrev pub graph_asked : Option ℕ → PlainGraph → TxOutcome → PlainGraph
@@ -43,8 +45,11 @@ graph_after (Committed number answers counts) graph ops = graph_left graph (tran
 graph_after (Conflict vertex newer) graph ops = graph
 graph_after (Refused op reason at) graph ops = graph
 
--- what the store has before it judges a transaction is of these commits: the graph, the last commits, their number, the vertices that the transaction names, and what the judge is asked
-pub record IsBefore (graph : PlainGraph) (lasts : List (Name × KeptCommit)) (made : ℕ) (names : List Name) (asked : Asked) (stamp : Stamp) (ops : List Op) (commits : List Commit) : Type 0 where
+-- what the store has before it judges a transaction is of these commits: the graph, the last commits, their number, the
+-- vertices that the transaction names, and what the judge is asked
+pub record IsBefore (graph : PlainGraph) (lasts : List (Name
+    × KeptCommit)) (made : ℕ) (names : List Name) (asked : Asked) (stamp : Stamp) (ops : List Op)
+    (commits : List Commit) : Type 0 where
   pub graph_is : graph ≡ graph_committed commits
   pub lasts_are : KeepsLasts lasts commits
   pub made_is : made ≡ length commits

@@ -39,7 +39,8 @@ pub fn one_rule_of_what_is_added()
         ≡ map oracle_entry (entries_added verdict author pairs earlier later) }
 {}
 
-/// A commit comes after the last commit at each vertex that it names, by the judge's pairs and those that the commit adds.
+/// A commit comes after the last commit at each vertex that it names, by the judge's pairs and those that the commit
+/// adds.
 pub fn commits_come_after_the_last()
     ensures { (pairs : List Given) (log : List StoreEntry) (stamp : Stamp) (ops : List Op)
         → (number : ℕ) (answers : List Got) (counts : List Counted)

@@ -76,7 +76,8 @@ impl Store {
     /// Otherwise the first operation that is refused refuses the transaction, or it commits.
     /// The judge keeps the pairs of a commit alone.
     ///
-    /// It costs its own operations and look-ups, a compare of each named vertex with those named before it, and what the judge takes.
+    /// It costs its own operations and look-ups, a compare of each named vertex with those named before it, and what
+    /// the judge takes.
     /// After out of memory store and judge are as before.
     pub fn commit<J: Judge>(
         &mut self,
@@ -144,7 +145,7 @@ impl Store {
         Ok(answer)
     }
 
-    /// The record of a vertex after all commits, or `None` where it is absent.
+    /// The record of a vertex after all commits, or `None` if it is absent.
     pub fn state(&self, v: Name) -> Option<&Record>
         ensures { option_copied result ≡ graph_committed (commits_of self.now) v }
     {

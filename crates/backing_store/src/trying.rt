@@ -21,7 +21,7 @@ pub(crate) struct Tried {
 }
 
 /// Runs the operations on the graph that this many commits left.
-/// If one is refused, or there is no memory, the graph is as before.
+/// If one is refused, or memory runs out, the graph is as before.
 pub(crate) fn try_ops(
     alloc: Global,
     graph: &mut Graph,
@@ -57,7 +57,7 @@ pub(crate) fn try_ops(
     }
 }
 
-// The operations passed: the verdict, twice. If there is no memory for that the graph is as before them.
+// The operations passed: the verdict, twice. If memory runs out for that, the graph is as before them.
 fn passed(
     alloc: Global,
     graph: &mut Graph,

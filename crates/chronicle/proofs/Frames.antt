@@ -1,4 +1,5 @@
--- Tables with one name are one table.
+-- Tables with the same name are the same table.
+-- Used by `meet`.
 use Rattle.std.proofs.Common.{◌≡◌, ℕ, List, get_or, drop, ap}
 use Rattle.atomic_table.specs.Seated.{TableId}
 use Rattle.chronicle.specs.Frames.{name_of_table}

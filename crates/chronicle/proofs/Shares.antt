@@ -1,5 +1,6 @@
 -- Threads may share a lock if its machine may be sent, and a pass and a note may be sent whatever the entries are.
 -- The kit finds neither by itself, since it has no proof that a badge may be shared.
+-- Used by crates chronicle_keeper, gate_lock, shard_lock and weaver_locks.
 use denote.Builtin.{u32, u64}
 use denote.RattleType.{RattleType}
 use denote.Param.Send.{IsSend, IsSync, part_keyless, sendable, recorded_sync, struct_sync}

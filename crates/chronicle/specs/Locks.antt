@@ -36,10 +36,11 @@ module _ {M E : Type 0} where
   -- the machine was put in
   pub record IsFilled (c : Chronicle M E) : Type 0 where
     pub table_is : c.filled.table_id ≡ (lock_of c).table
-    pub view_is : c.filled.views ≡ resting (lock_of c).frame (lock_of c).start (lock_of c).start ((lock_of c).passes ∷ []) ∷ []
+    pub view_is : c.filled.views
+        ≡ resting (lock_of c).frame (lock_of c).start (lock_of c).start ((lock_of c).passes ∷ []) ∷ []
 
 -- the lock has this many passes, and its machine this frame and this log at the start
-pub record BeginsAs {E : Type 0} (lock : Lock E) (passes : ℕ) (frame : Frame) (log : Log E) : Type 0 where
+pub record LockStartsWith {E : Type 0} (lock : Lock E) (passes : ℕ) (frame : Frame) (log : Log E) : Type 0 where
   pub passes_is : lock.passes ≡ passes
   pub frame_is : lock.frame ≡ frame
   pub start_is : lock.start ≡ log

@@ -66,7 +66,8 @@ module _ {M E : Type 0} where
     pub owner : ℕ → ℕ
     pub words_are : length s.words ≡ 16
     -- while nobody is in, the machine is at home
-    pub free : word s ≡ 0 → (m : M) × (get_elem? s.homes 0 ≡ some (some (Some m))) × (frame_of m ≡ frame) × (log_of m ≡ log)
+    pub free : word s ≡ 0 → (m : M) × (get_elem? s.homes 0 ≡ some (some (Some m))) × (frame_of m ≡ frame)
+        × (log_of m ≡ log)
     -- while somebody is in, the holder has the turn
     pub taken : word s ≢ 0 → (v : View E) × Sits s.views holder v × (v.turn ≡ word s)
     -- until the lock is opened the slot is empty, and there is one seat

@@ -24,7 +24,7 @@ module _ {M E : Type 0} (frame_of : M → Frame) (log_of : M → Log E) where
     pub log : IsPrefix m.0.seen (log_of machine)
     pub own : All (λ a. entries_of a.number (log_of machine) ≡ a.own) m.0.authors
 
-  -- it took the machine if nobody was in, else nothing changed
+  -- it took the machine if nobody was in, otherwise nothing changed
   abbrev pub Entered : Step (Option M) → Seated M E → ℕ → Seated M E → Type 0
   Entered s m r n = (r ≡ 0 → Took m n) × (r ≢ 0 → n ≡ m)
 

@@ -1,18 +1,19 @@
-//! How those sleep and are woken who wait at a lock. It is beside the lock's table: no seat makes a step for it, and no
-//! clause speaks of it. Who is woken tries again.
+//! How those who wait at a lock sleep and are woken. It isn't part of the lock's table: no seat makes a step for it,
+//! and no clause speaks of it. Whoever is woken tries again.
 use std::sync::Wait;
 use std::sync::atomic::{AtomicU64, Ordering};
 
 /// The bell of a lock. One of those who wait is called at a time, so who leaves need not call the system if nobody
 /// waits, or if somebody was called and has not tried again since.
 ///
-/// Who waits reads how often the bell rang, then takes back a call, then tries, and then sleeps if the bell has not rung
-/// since. So a call that was taken back was answered by this try, and one that comes later rings after that reading.
+/// Who waits reads how often the bell rang, then takes back a call, then tries, and then sleeps if the bell has not
+/// rung since. So a call that was taken back was answered by this try, and one that comes later rings after that
+/// reading.
 #[derive(Drop)]
 pub(crate) struct Bell {
     // How many wait.
     waiting: AtomicU64,
-    // 1 from a call until somebody who waits tries again, else 0.
+    // 1 from a call until somebody who waits tries again, otherwise 0.
     called: AtomicU64,
     // How often the bell rang. Those who wait sleep on it.
     rings: AtomicU64,
@@ -41,7 +42,7 @@ impl Bell {
         rung
     }
 
-    /// A try succeeded. Who waited does so no more.
+    /// A try succeeded. Whoever waited doesn't wait any more.
     pub(crate) fn end(&self, rung: Option<u64>) {
         if rung.is_some() {
             self.waiting.fetch_sub(1, Ordering::SeqCst);

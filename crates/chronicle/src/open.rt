@@ -1,7 +1,7 @@
 //! How a lock is made and opened, and how its machine is put in.
 ghost use Rattle.std.specs.Prelude.{◌≡◌, ◌<◌, [], ◌∷◌, None, All, IfOk, map, vec_len};
 ghost use Rattle.std.specs.List.{range_with_len};
-ghost use Rattle.chronicle.specs.Locks.{lock_of, name_of, BeginsAs, IsFilled, IsVacant};
+ghost use Rattle.chronicle.specs.Locks.{lock_of, name_of, LockStartsWith, IsFilled, IsVacant};
 ghost use Rattle.chronicle.specs.Passes.{IsReady, IsUnopened, number_of, seen};
 ghost use Rattle.chronicle.specs.Seats.{unopened, opened};
 
@@ -78,7 +78,7 @@ impl<M: Machine> Chronicle<M> {
     ) -> (Vec<Pass<M::Entry>>, Vacant<M>)
         requires { IsUnopened (lock_of self.old) unopened }
         ensures name { name_of (lock_of self.new) ≡ name_of (lock_of self.old) }
-        ensures lock { BeginsAs (lock_of self.new) (lock_of self.old).passes (N.frame like.now) (N.log like.now) }
+        ensures lock { LockStartsWith (lock_of self.new) (lock_of self.old).passes (N.frame like.now) (N.log like.now) }
         ensures count { vec_len result.0 ≡ (lock_of self.old).passes }
         ensures numbers { map number_of result.0.items ≡ range_with_len 0 (lock_of self.old).passes }
         ensures ready { All (IsReady (lock_of self.new)) result.0.items }
@@ -116,7 +116,7 @@ impl<M: Machine> Chronicle<M> {
         passes: u32,
     ) -> Result<(Chronicle<M>, Vec<Pass<M::Entry>>, Vacant<M>), AllocError>
         requires { 0 < passes }
-        ensures lock { IfOk result (λ r. BeginsAs (lock_of r.0) passes (N.frame like.now) (N.log like.now)) }
+        ensures lock { IfOk result (λ r. LockStartsWith (lock_of r.0) passes (N.frame like.now) (N.log like.now)) }
         ensures count { IfOk result (λ r. vec_len r.1 ≡ passes) }
         ensures numbers { IfOk result (λ r. map number_of r.1.items ≡ range_with_len 0 passes) }
         ensures ready { IfOk result (λ r. All (IsReady (lock_of r.0)) r.1.items) }

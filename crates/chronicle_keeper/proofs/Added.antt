@@ -1,4 +1,5 @@
 -- What is added by one author.
+-- Used by `add`, `add_range`, `add_to_both` and `five_noted`.
 use Rattle.std.proofs.Common.{◌≡◌, ℕ, suc, ◌+◌, ◌-◌, ◌≤◌, eqb, cond, Bool, List, [], ◌∷◌, ◌++◌, sym, ap, ◌∙◌, subst, arith, append_assoc, eq-eqb}
 use Rattle.std.specs.Prelude.{Result, Ok, Err, OnOk, OnErr}
 use Rattle.std.proofs.lemmas.List.{append-nil}
@@ -31,7 +32,7 @@ own_grows n m author value entered before after last own (Ok u) still had is sam
     ∙ (ap (λ (l : List (ℕ × ℕ)). l ++ entries_of n ((author, value) ∷ [])) (ap (entries_of n) same ∙ had) ∙ ap (λ (l : List (ℕ × ℕ)). own ++ l) (one_entry n author value is))))
 own_grows n m author value entered before after last own (Err e) still had is same added now = tt
 
--- or have stayed, where it was refused
+-- or have stayed, if it was refused
 own_kept : {R : Type 0} (n m : ℕ) (entered before after last own : List (ℕ × ℕ)) (r : Result (Unit {0}) R) → m ≡ n → entries_of n entered ≡ own → before ≡ entered → OnErr r (after ≡ before) → last ≡ after → OnErr r (entries_of m last ≡ own)
 own_kept n m entered before after last own (Ok u) still had same kept now = tt
 own_kept n m entered before after last own (Err e) still had same kept now = ap (λ (k : ℕ). entries_of k last) still ∙ (ap (entries_of n) (now ∙ (kept ∙ same)) ∙ had)

@@ -1,4 +1,5 @@
 -- The passes that come back from the threads.
+-- Used by `tallied`.
 use Rattle.std.proofs.Common.{◌≡◌, ℕ, zero, suc, ◌<◌, List, [], ◌∷◌, ◌++◌, length, get_or, take, drop, map, sym, refl, ap, ◌∙◌, subst, arith}
 use Rattle.std.specs.Prelude.{Contains, All}
 use Rattle.std.specs.List.{range_with_len}
@@ -37,7 +38,7 @@ module _ (lock : Lock ℕ) (count : ℕ) (old new : List (Pass ℕ)) (numbers : 
       let all : AreAll lock new = record { ready = ready; each = λ k low. subst (λ (l : List ℕ). Contains l k) (sym now) (contains_below lock.passes k low) } in
       subst (AreAll lock) (sym (written n new behind long)) all
 
-  -- and what each has added stands in the log
+  -- and what each has added is in the log
   pub each_added : (n : ℕ) (behind : List (Pass ℕ)) (start log : Log ℕ) → length new ≡ n → start ≡ [] → All (λ p. seen p ≡ start) old → All (λ p. entries_of (number_of p) log ≡ own p) (take n (new ++ drop (length new) behind)) → EachAdded lock.passes count log
   each_added n behind start log long none began kept author low =
       let many : length old ≡ lock.passes = sym (length-map old number_of) ∙ (ap (λ (l : List ℕ). length l) numbers ∙ length-range_with_len 0 lock.passes) in

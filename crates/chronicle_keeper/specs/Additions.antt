@@ -14,4 +14,5 @@ pub record HasAdded (from most : ℕ) (before after : Pass ℕ) : Type 0 where
 
 -- of each author the log has some numbers, at most `most`: those from 0 on, each once and in rising order
 abbrev pub EachAdded : ℕ → ℕ → Log ℕ → Type 0
-EachAdded authors most log = (author : ℕ) → author < authors → (count : ℕ) × (count ≤ most) × (entries_of author log ≡ numbered author 0 count)
+EachAdded authors most log = (author : ℕ) → author < authors → (count : ℕ) × (count ≤ most)
+    × (entries_of author log ≡ numbered author 0 count)

@@ -6,6 +6,6 @@ use Rattle.std.specs.List.{sum_by, range_with_len}
 abbrev pub total_of : List (ℕ × ℕ) → ℕ
 total_of log = sum_by (λ e. e.1) log
 
--- so many numbers of one author, from a number on
+-- `count` numbers of one author, from a number on
 abbrev pub numbered : ℕ → ℕ → ℕ → List (ℕ × ℕ)
 numbered author from count = map (λ value. (author, value)) (range_with_len from count)

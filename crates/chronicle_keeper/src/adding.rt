@@ -25,7 +25,8 @@ pub fn add<R: Wait>(
     ensures ready { IsReady (lock_of shared.now) pass.new }
     ensures number { number_of pass.new ≡ number_of pass.old }
     ensures seen { IsPrefix (seen pass.old) (seen pass.new) }
-    ensures own { MatchResult result (λ _. own pass.new ≡ own pass.old ++ (number_of pass.old, value) ∷ []) (λ _. own pass.new ≡ own pass.old) }
+    ensures own { MatchResult result (λ _. own pass.new ≡ own pass.old
+        ++ (number_of pass.old, value) ∷ []) (λ _. own pass.new ≡ own pass.old) }
     ensures too_large { result ≡ Err Refused.TooLarge → 2 ^ 64 ≤ total_of (seen pass.new) + value }
     ensures memory { result ≡ Err Refused.Memory → total_of (seen pass.new) + value < 2 ^ 64 }
 {
@@ -70,7 +71,7 @@ pub fn add_range<R: Wait>(
     Ok(())
 }
 
-// Each pass adds as many numbers, in a thread of its own where one can be made.
+// Each pass adds the numbers below `count`, up to the first that is refused, in a thread of its own if one can be made.
 fn add_side_by_side<R: Threads + Wait + Sync>(
     rt: &R,
     shared: &Chronicle<Tally>,
@@ -79,7 +80,8 @@ fn add_side_by_side<R: Threads + Wait + Sync>(
 )
     requires { All (IsReady (lock_of shared.now)) passes.old }
     ensures ready { All (IsReady (lock_of shared.now)) passes.new }
-    ensures added { (k : ℕ) (d : _) → k < length passes.old → HasAdded 0 count (slice_index_or passes.old k d) (slice_index_or passes.new k d) }
+    ensures added { (k : ℕ) (d : _) → k < length passes.old
+        → HasAdded 0 count (slice_index_or passes.old k d) (slice_index_or passes.new k d) }
 {
     let threads = passes.len().max(1);
     thread::for_each_mut(
@@ -95,8 +97,8 @@ fn add_side_by_side<R: Threads + Wait + Sync>(
     );
 }
 
-/// So many authors add the numbers below `count` each, side by side, up to the first that is refused. The tally has
-/// entries of these authors alone, and each author's numbers stand there once and in rising order.
+/// This many authors each add the numbers below `count`, side by side, up to the first that is refused. The tally has
+/// entries of these authors alone, and each author's numbers are there once and in rising order.
 pub fn tallied<R: Threads + Wait + Sync>(
     rt: &R,
     alloc: Global,

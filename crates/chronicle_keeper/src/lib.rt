@@ -1,8 +1,8 @@
 //! An example of a user of `chronicle`, with the tests of that lock: a tally that threads share.
 //!
-//! Threads add numbers to one tally, each under the number of its own pass. What each of them added stands in the tally's
-//! log, once and in the order in which it added, and nobody else's entry bears its number. Beside that: a note that meets
-//! its pass, a hold inside a hold, and a machine that keeps a note of another lock.
+//! Threads add numbers to one tally, each under the number of its own pass. What each of them added is in the tally's
+//! log, once and in the order in which it added, and nobody else's entry has its number. Besides that: a note that
+//! meets its pass, a hold inside a hold, and a machine that keeps a note of another lock.
 #![tactic(auto)]
 
 mod adding;

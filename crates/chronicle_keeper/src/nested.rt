@@ -16,7 +16,7 @@ pub struct Owner {
 }
 
 /// Adds a number to both tallies, under the lock of the outer one for as long as it takes.
-/// The inner lock is taken inside that hold alone, so where all go this way, both logs have one order. Where one of the
+/// The inner lock is taken inside that hold alone, so if all go this way, both logs have one order. If one of the
 /// two refuses, the other may have the number.
 pub fn add_to_both<R: Wait>(
     rt: &R,
@@ -31,8 +31,10 @@ pub fn add_to_both<R: Wait>(
     ensures inner { IsReady (lock_of inner.now) owner.new.inner }
     ensures outer_added { HasAdded value 1 owner.old.outer owner.new.outer }
     ensures inner_added { HasAdded value 1 owner.old.inner owner.new.inner }
-    ensures outer_own { OnOk result (own owner.new.outer ≡ own owner.old.outer ++ (number_of owner.old.outer, value) ∷ []) }
-    ensures inner_own { OnOk result (own owner.new.inner ≡ own owner.old.inner ++ (number_of owner.old.inner, value) ∷ []) }
+    ensures outer_own { OnOk result (own owner.new.outer ≡ own owner.old.outer
+        ++ (number_of owner.old.outer, value) ∷ []) }
+    ensures inner_own { OnOk result (own owner.new.inner ≡ own owner.old.inner
+        ++ (number_of owner.old.inner, value) ∷ []) }
 {
     let outer_author = owner.outer.number();
     let inner_author = owner.inner.number();

@@ -1,7 +1,7 @@
 //! Notes: of what a pass has seen, and in the slot of another lock.
 ghost use Rattle.std.specs.Prelude.{◌≡◌, [], ◌∷◌, ◌++◌, All, IfOk, vec_len};
 ghost use Rattle.chronicle.specs.Logs.{entries_of};
-ghost use Rattle.chronicle.specs.Locks.{lock_of, BeginsAs, IsFilled};
+ghost use Rattle.chronicle.specs.Locks.{lock_of, LockStartsWith, IsFilled};
 ghost use Rattle.chronicle.specs.Passes.{IsReady, IsNote, number_of, seen, noted, own};
 ghost use Rattle.chronicle_keeper.specs.Totals.{numbered};
 ghost use Rattle.chronicle_keeper.specs.Additions.{HasAdded};
@@ -27,8 +27,8 @@ impl Machine for Noted {
     ghost log = { λ n. n.tally };
 }
 
-/// Adds 0, 1 and 2, makes a note, adds 3 and 4, and meets the note with the pass. Both have then seen one list, in which
-/// all five entries stand: they are the last of this author.
+/// Adds 0, 1 and 2, makes a note, adds 3 and 4, and meets the note with the pass. Both have then seen one list, in
+/// which all five entries are: they are the last of this author.
 pub fn five_noted<R: Wait>(
     rt: &R,
     shared: &Chronicle<Tally>,
@@ -39,7 +39,8 @@ pub fn five_noted<R: Wait>(
     ensures added { HasAdded 0 5 pass.old pass.new }
     ensures note { IfOk result (IsNote (lock_of shared.now)) }
     ensures one { IfOk result (λ n. noted n ≡ seen pass.new) }
-    ensures five { IfOk result (λ n. entries_of (number_of pass.old) (noted n) ≡ own pass.old ++ numbered (number_of pass.old) 0 5) }
+    ensures five { IfOk result (λ n. entries_of (number_of pass.old) (noted n) ≡ own pass.old
+        ++ numbered (number_of pass.old) 0 5) }
 {
     add_range(rt, shared, pass, 0, 3)?;
     let mut note = shared.note(pass);
@@ -55,7 +56,7 @@ pub fn with_note(
     machine: Noted,
 ) -> Result<(Chronicle<Noted>, Vec<Pass<u64>>), AllocError>
     requires { machine.tally ≡ like.now }
-    ensures lock { IfOk result (λ r. BeginsAs (lock_of r.0) 3 [] like.now) }
+    ensures lock { IfOk result (λ r. LockStartsWith (lock_of r.0) 3 [] like.now) }
     ensures filled { IfOk result (λ r. IsFilled r.0) }
     ensures count { IfOk result (λ r. vec_len r.1 ≡ 3) }
     ensures ready { IfOk result (λ r. All (IsReady (lock_of r.0)) r.1.items) }

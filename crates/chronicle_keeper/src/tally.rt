@@ -11,7 +11,7 @@ use std::marker::Model;
 pub enum Refused {
     /// The sum would be 2^64 or more.
     TooLarge,
-    /// There was no memory.
+    /// Out of memory.
     Memory,
 }
 

@@ -35,7 +35,8 @@ fn four_authors<R: Threads + Wait + Sync + Abort>(rt: &R, alloc: Global) -> Resu
     Ok(())
 }
 
-/// Ten times over: with a `leave` that wakes nobody, an author sleeps for good in most of them, and the test doesn't end.
+/// Ten times over: with a `leave` that wakes nobody, an author sleeps for good in most of them, and the test doesn't
+/// end.
 #[test]
 fn who_waits_is_woken(rt: HostRuntime) -> Result<(), Fail> {
     for _ in 0..10 {

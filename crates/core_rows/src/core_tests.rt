@@ -448,7 +448,7 @@ const COLLECTED: [(Step, &str); 15] = [
     (Step::Collect { shard: 0 }, "ok"),
 ];
 
-// How many versions of w are kept then, of so many gatekeepers of which all but the first are silent.
+// How many versions of w are kept then, with `gates` gatekeepers of which all but the first are silent.
 fn kept_with(rt: &impl Abort, alloc: Global, gates: u32) -> usize {
     let mut core = started(rt, alloc, deleting(rt, alloc, gates));
     run(rt, alloc, &mut core, &COLLECTED);

@@ -519,7 +519,7 @@ fn text_of(rt: &impl Abort, alloc: Global, core: &Core) -> Vec<u8> {
     print_report(alloc, core.script(), &report).expect(rt, "no memory")
 }
 
-// However often v changes, at most four versions of it are kept at the end of a phase, where a run without collections
+// However often v changes, at most four versions of it are kept at the end of a phase, while a run without collections
 // keeps all 51. The report is the same.
 #[test]
 fn fifty_phases_with_collections(rt: HostRuntime) {

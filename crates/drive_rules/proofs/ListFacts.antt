@@ -1,8 +1,9 @@
 -- Lists: pairs of images, the first elements of a list, numbers in a row, and what some members give.
-use Rattle.std.proofs.Common.{◌≡◌, ℕ, zero, suc, ◌+◌, ◌<◌, ◌≤◌, List, [], ◌∷◌, ◌++◌, map, take, length, Contains, AllPairs, Option, None, Some, inl, inr, refl, sym, ap, subst, ◌∙◌, arith}
+-- Used by ReadsLeft, ReadyFor, SentMessages and SomeHead.
+use Rattle.std.proofs.Common.{◌≡◌, ℕ, zero, suc, ◌+◌, ◌<◌, ◌≤◌, List, [], ◌∷◌, ◌++◌, map, take, length, Contains, AllPairs, Option, None, Some, inl, inr, refl, ap, subst, ◌∙◌, arith}
 use Rattle.std.specs.List.{filter_map, cons_option, range_with_len}
-use Rattle.proof_base.proofs.Members.{has_head, has_map, has_none, has_read, has_tail}
-use Rattle.proof_base.proofs.Ordered.{pairs_cons, pairs_head, pairs_none, pairs_tail}
+use Rattle.weave_data.proofs.Members.{has_head, has_map, has_none, has_read, has_tail}
+use Rattle.weave_data.proofs.Ordered.{pairs_cons, pairs_head, pairs_none, pairs_tail}
 
 -- what holds of all pairs of images holds of the elements
 pub pairs-of-images : {A B : Type 0} (f : A → B) (R : B → B → Type 0) (xs : List A) → AllPairs R (map f xs) → AllPairs (λ a b. R (f a) (f b)) xs
@@ -32,20 +33,7 @@ take-front zero (x ∷ front) back long = absurd (omega (arith, long))
 take-front (suc n) [] back long = absurd (omega (arith, long))
 take-front (suc n) (x ∷ front) back long = ap (λ xs. x ∷ xs) (take-front n front back (omega (arith, long)))
 
--- what a member gives is there
-pub filter_map-has : {A B : Type 0} (f : A → Option B) (xs : List A) (x : A) (y : B) → Contains xs x → f x ≡ Some y → Contains (filter_map f xs) y
-filter_map-has f [] x y h e = absurd (has_none x h)
-filter_map-has {B = B} f (z ∷ xs) x y h e =
-    elim (has_read z xs x h) [
-      | inl same ↦ subst (λ o. Contains (cons_option o (filter_map f xs)) y) (sym (ap f same ∙ e)) (has_head y (filter_map f xs))
-      | inr more ↦ later (f z) (filter_map-has f xs x y more e)
-    ]
-  where
-    later : (o : Option B) → Contains (filter_map f xs) y → Contains (cons_option o (filter_map f xs)) y
-    later None h = h
-    later (Some w) h = has_tail w (filter_map f xs) y h
-
--- what is there was given by a member
+-- what a filter gives was given by a member
 pub filter_map-from : {A B : Type 0} (f : A → Option B) (xs : List A) (y : B) → Contains (filter_map f xs) y → (x : A) × Contains xs x × (f x ≡ Some y)
 filter_map-from f [] y h = absurd (has_none y h)
 filter_map-from {A = A} {B = B} f (z ∷ xs) y h = at (f z) refl (filter_map-from f xs y) h

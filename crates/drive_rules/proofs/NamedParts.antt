@@ -1,9 +1,8 @@
 -- A part of a message on a channel is of a commit that names its vertex, and counts the commits there before that one.
+-- Used by ReadsLeft and SomeHead.
 use Rattle.std.proofs.Common.{◌≡◌, ℕ, List, [], ◌∷◌, ◌++◌, Contains, IsTrue, inl, inr, refl, sym, ap, subst, ◌∙◌}
-use Rattle.std.specs.Cmp.{eq_by_cmp_equiv}
-use Rattle.std.specs.Cmp.Lexicographic.{nat_list_cmp_total}
 use Rattle.std.specs.List.{filter}
-use Rattle.proof_base.proofs.Members.{any_from, cut_at, filter_has, has_none, map_has}
+use Rattle.weave_data.proofs.Members.{any_from, cut_at, filter_has, has_none, map_has}
 use Rattle.weave_data.specs.declared.name.Name.{Name}
 use Rattle.weave_data.specs.Names.{same_name}
 use Rattle.graph_ops.specs.Mentions.{is_among, named_by}
@@ -23,11 +22,9 @@ use Rattle.weave_entries.specs.StoreReplay.{Commit, commit_by, commits_of, count
 use Rattle.weave_account.specs.declared.account.Account.{Account}
 use Rattle.weave_account.specs.Account.{gate_log}
 use Rattle.weave_account.specs.Seen.{IsMade, PassesAs}
-use Rattle.drive_rules.proofs.Basis.{Basis}
-
--- a name is itself
-pub same_name-refl : (v : Name) → IsTrue (same_name v v)
-same_name-refl = (eq_by_cmp_equiv nat_list_cmp_total).refl
+use Rattle.weave_account.proofs.SameName.{same_name-refl}
+use Rattle.weave_account.proofs.Basis.{BasisWith}
+use Rattle.drive_rules.specs.LowerLaws.{LawsForReadiness}
 
 -- a member is among the names
 pub among-from : (names : List Name) (v : Name) → Contains names v → IsTrue (is_among names v)
@@ -41,7 +38,7 @@ pub record IsPartBy (deed : StoreDeed) (before : List Commit) (message : Message
   pub named : IsTrue (names_vertex part.vertex commit)
   pub count : part.before ≡ count_naming part.vertex before
 
--- so it is in the messages of a deed that passed
+-- the parts in the messages of a deed that passed are like this
 part-by : (shards author : ℕ) (deed : StoreDeed) (before : List Commit) → PassesAs before (judged_by author deed).ops (judged_by author deed).verdict
     → (log : List GateEntry) (begun : Begun) → begun.stamp ≡ (judged_by author deed).stamp
     → (a : Addressed) → Contains (messages_of shards log begun (judged_by author deed).ops (judged_by author deed).verdict) a
@@ -72,7 +69,7 @@ pub record IsPartOf (account : Account) (message : Message) (part : Part) : Type
   pub by_commit : IsPartBy entry.deed (commits_of before) message part
 
 -- so it is in each message on a channel
-pub part-of : (script : Script) (account : Account) (basis : Basis script account) (shard home : ℕ) (a : Addressed)
+pub part-of : (script : Script) (account : Account) (basis : BasisWith LawsForReadiness script account) (shard home : ℕ) (a : Addressed)
     → Contains (addressed_to shard (gate_log account home)) a → (part : Part) → Contains a.message.parts part → IsPartOf account a.message part
 part-of script account basis shard home a h part k = by-made (basis.laws.accounts.made script account basis.limits basis.is shard home a h)
   where

@@ -1,17 +1,18 @@
 -- The commits that name a vertex: the list cut at one of them, and the one at each place of it.
+-- Used by SomeHead.
 use Rattle.std.proofs.Common.{◌≡◌, ℕ, ◌+◌, ◌<◌, cond, List, [], ◌∷◌, ◌++◌, IsTrue, ◌⊎◌, inl, inr, refl, ap, ◌∙◌, arith}
 use Rattle.std.proofs.lemmas.Bool.{cases_Bool, cases_lt}
 use Rattle.std.proofs.lemmas.List.{append_assoc, append-nil}
 use Rattle.std.proofs.lemmas.List.Concat.{flat_map-append}
 use Rattle.std.proofs.lemmas.List.Elements.{filter-append}
-use Rattle.proof_base.proofs.Ends.{by_last}
+use Rattle.weave_data.proofs.Ends.{by_last}
 use Rattle.weave_data.specs.declared.name.Name.{Name}
 use Rattle.weave_entries.specs.declared.store_log.StoreEntry.{StoreEntry}
 use Rattle.weave_entries.specs.declared.store_log.StoreDeed.{StoreDeed}
 use Rattle.weave_entries.specs.declared.store_log.StoreDeed.TheVariants.{Judged}
 use Rattle.weave_entries.specs.declared.verdict.Verdict.TheVariants.{Committed, Conflict, Refused}
 use Rattle.weave_entries.specs.StoreReplay.{Commit, commit_by, commits_naming, commits_of, count_naming, names_vertex}
-use Rattle.drive_rules.specs.LowerLaws.{LowerLaws}
+use Rattle.drive_rules.specs.LowerLaws.{LawsForReadiness}
 
 -- the commits that name the vertex, cut at one of them
 pub naming-cut : (v : Name) (store before after : List StoreEntry) (entry : StoreEntry) (commit : Commit) → store ≡ before ++ entry ∷ after
@@ -40,7 +41,7 @@ commit-cases (Judged r stamp ops asked (Conflict v newer)) = inl refl
 commit-cases (Judged r stamp ops asked (Refused op reason at)) = inl refl
 
 -- there is one at each place below their count
-pub at-place : (laws : LowerLaws) (v : Name) (log : List StoreEntry) (place : ℕ) → place < count_naming v (commits_of log) → IsAtPlace v log place
+pub at-place : (laws : LawsForReadiness) (v : Name) (log : List StoreEntry) (place : ℕ) → place < count_naming v (commits_of log) → IsAtPlace v log place
 at-place laws v =
     by_last (λ log. (place : ℕ) → place < count_naming v (commits_of log) → IsAtPlace v log place)
     (λ place below. absurd (omega (arith, below)))

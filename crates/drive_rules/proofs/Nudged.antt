@@ -1,5 +1,6 @@
 -- A gatekeeper that has heard a clock that a stamp is at most makes stamps that are after that one, in whatever epochs
 -- the two are.
+-- Used by `known_clocks_may_be_heard`.
 use Rattle.std.proofs.Common.{ℕ, ◌<◌, Contains, IsTrue}
 use Rattle.vector_stamp.specs.declared.clock.Clock.{Clock}
 use Rattle.vector_stamp.specs.declared.clock.Stamp.{Stamp}
@@ -10,9 +11,11 @@ use Rattle.weave_entries.specs.GateReplay.{clock_of, next_stamp, stamps_of}
 use Rattle.weave_account.specs.declared.account.Account.{Account}
 use Rattle.weave_account.specs.Account.{gate_log}
 use Rattle.weave_account.specs.Clocks.{IsKnown}
-use Rattle.drive_rules.proofs.Basis.{Basis, below-eight}
+use Rattle.drive_rules.proofs.Basis.{below-eight}
+use Rattle.weave_account.proofs.Basis.{BasisWith}
+use Rattle.drive_rules.specs.LowerLaws.{LawsForReadiness}
 
-module _ (script : Script) (account : Account) (basis : Basis script account) where
+module _ (script : Script) (account : Account) (basis : BasisWith LawsForReadiness script account) where
   eight : (home : ℕ) → home < script.gates → HasEightCounts (clock_of home (gate_log account home))
   eight home inside = basis.laws.logs.eight home script.shards (gate_log account home) (below-eight script account basis home inside) (basis.is.gatekeepers.logs home)
 

@@ -1,10 +1,11 @@
 -- What a shard has processed: of each channel the first messages, each once, and each of them had arrived.
+-- Used by ReadyFor and SomeHead.
 use Rattle.std.proofs.Common.{◌≡◌, ℕ, ◌+◌, ◌≤◌, nat_eq, cond, List, [], ◌∷◌, ◌++◌, Contains, Some, inl, inr, refl, sym, ap, subst, ◌∙◌, arith}
 use Rattle.std.proofs.lemmas.Bool.{cases_eq, eq-eqb, ne_eqb}
 use Rattle.std.proofs.lemmas.List.{append-nil}
 use Rattle.std.proofs.lemmas.List.Elements.{Contains-append_cases, Contains-append_left, Contains-append_right}
-use Rattle.proof_base.proofs.Entries.{by_entries}
-use Rattle.proof_base.proofs.Members.{has_head, has_none, only}
+use Rattle.weave_data.proofs.Entries.{by_entries}
+use Rattle.weave_data.proofs.Members.{has_head, has_none, only}
 use Rattle.program_defs.specs.declared.script.Script.{Script}
 use Rattle.weave_entries.specs.declared.message.Message.{Message}
 use Rattle.weave_entries.specs.declared.shard_log.ShardEntry.{ShardEntry}
@@ -13,7 +14,7 @@ use Rattle.weave_entries.specs.declared.shard_log.ShardDeed.TheVariants.{Arrived
 use Rattle.weave_entries.specs.ShardReplay.{arrived_at, processed_by, processed_count, processed_of}
 use Rattle.weave_account.specs.declared.account.Account.{Account}
 use Rattle.weave_account.specs.Shards.{Applies, AreShardDeeds, ShardFitsAs}
-use Rattle.drive_rules.specs.LowerLaws.{LowerLaws}
+use Rattle.drive_rules.specs.LowerLaws.{LawsForReadiness}
 
 -- the processed messages of each channel are those with the numbers 1 to its processed number, and had arrived
 pub record AreFirst (log : List ShardEntry) : Type 0 where
@@ -21,7 +22,7 @@ pub record AreFirst (log : List ShardEntry) : Type 0 where
   pub all : (home number : ℕ) → 1 ≤ number → number ≤ processed_count home log → Contains (processed_of log) (home, number)
   pub there : (home number : ℕ) → Contains (processed_of log) (home, number) → (message : Message) × (arrived_at home number log ≡ Some message)
 
-module _ (laws : LowerLaws) where
+module _ (laws : LawsForReadiness) where
   -- a deed that processes nothing keeps them
   still : (log : List ShardEntry) (entry : ShardEntry) → processed_by entry.deed ≡ [] → AreFirst log → AreFirst (log ++ entry ∷ [])
   still log entry none so-far =
@@ -105,7 +106,7 @@ module _ (laws : LowerLaws) where
   deed-keeps script account shard log author (Visited r stamp v n settled) fits so-far = still log (record { author = author; deed = Visited r stamp v n settled }) refl so-far
   deed-keeps script account shard log author (Collected bound) fits so-far = still log (record { author = author; deed = Collected bound }) refl so-far
 
-  -- so it is in each log of the shard
+  -- this holds in each log of the shard
   pub are-first : (script : Script) (account : Account) (shard : ℕ) (log : List ShardEntry) → AreShardDeeds script account shard log → AreFirst log
   are-first script account shard =
       by_entries (λ before (entry : ShardEntry). ShardFitsAs script account shard before entry.deed) AreFirst

@@ -1,21 +1,21 @@
 -- How many vertices a program can still read: at most one, and one for each link of the script. So each visit leaves one
 -- less.
+-- Used by `programs_read_few`.
 use Rattle.std.proofs.Common.{◌≡◌, ◌≢◌, ℕ, ◌≤◌, Bool, true, false, not, cond, ◌==◌, List, [], ◌∷◌, ◌++◌, take, length, Contains, AllPairs, IsTrue, Option, Some, None, inl, inr, refl, sym, ap, subst, ◌∙◌, arith}
-use Rattle.std.specs.Prelude.{IsSomeAnd, count_by}
+use Rattle.std.specs.Prelude.{IsSomeAnd, count_by, is_some, option_to_list}
 use Rattle.std.specs.List.{filter, flat_map}
 use Rattle.std.specs.Map.{keys_of}
 use Rattle.std.proofs.lemmas.List.{get_or_default, length-append, length-map}
 use Rattle.std.proofs.lemmas.List.Elements.{Contains-append_cases, Contains-append_left, Contains-append_right}
-use Rattle.proof_base.proofs.Ends.{by_last, count_push, flat_push}
-use Rattle.proof_base.proofs.Images.{get-has}
-use Rattle.proof_base.proofs.Members.{cut_at, filter_has, find_has, flat_has, has_flat, has_head, has_map, has_none, has_read, has_tail, map_has, only}
-use Rattle.proof_base.proofs.Ordered.{pairs_cons, pairs_head, pairs_none, pairs_tail}
+use Rattle.weave_data.proofs.Ends.{by_last, count_push, flat_push}
+use Rattle.weave_data.proofs.Images.{get-has}
+use Rattle.weave_data.proofs.Members.{cut_at, filter_has, find_has, flat_has, has_flat, has_head, has_map, has_none, has_read, has_tail, map_has, only}
+use Rattle.weave_data.proofs.Ordered.{pairs_cons, pairs_head, pairs_none, pairs_tail}
 use Rattle.weave_data.specs.Names.{same_name, shard_of}
 use Rattle.weave_data.specs.declared.name.Name.{Name}
 use Rattle.graph_ops.specs.Mentions.{is_among}
-use Rattle.graph_ops.specs.Operations.{State}
+use Rattle.graph_ops.specs.Operations.{State, target_of}
 use Rattle.graph_ops.specs.declared.op.Op.{Op}
-use Rattle.graph_ops.specs.declared.op.Op.TheVariants.{Create, Delete, Set, Unset, Link, Unlink, Tag, Untag, Get}
 use Rattle.program_defs.specs.declared.program.Program.{Program}
 use Rattle.program_defs.specs.declared.script.Request.{Request}
 use Rattle.program_defs.specs.declared.script.Script.{Script}
@@ -37,10 +37,11 @@ use Rattle.weave_account.specs.declared.account.Account.{Account}
 use Rattle.weave_account.specs.Account.{commits_in, reads_of, shard_log}
 use Rattle.weave_account.specs.Shards.{ShardFitsAs, update_of}
 use Rattle.drive_rules.specs.Links.{is_link, link_count, ops_of_script}
-use Rattle.drive_rules.proofs.Basis.{Basis}
+use Rattle.drive_rules.specs.LowerLaws.{LawsForReadiness}
 use Rattle.drive_rules.proofs.ListFacts.{in-take}
 use Rattle.drive_rules.proofs.NamedParts.{among-from}
 use Rattle.drive_rules.proofs.Visitable.{LeadsIn, start_of, target_by, updates-lead, visits-in}
+use Rattle.weave_account.proofs.Basis.{BasisWith}
 
 -- Lists
 
@@ -61,7 +62,7 @@ no-longer (x ∷ xs) ys differ among =
     let less = length-append cut.before cut.after in
     omega (arith, rest, long, whole, less)
 
--- keys differ if no two pairs have one key
+-- keys differ if no two pairs have the same key
 keys-differ : (reads : List (Name × State)) → AllPairs (λ (a b : Name × State). a.0 ≢ b.0) reads → AllPairs (λ (a b : Name). a ≢ b) (keys_of reads)
 keys-differ [] pairs = pairs_none (λ (a b : Name). a ≢ b)
 keys-differ (read ∷ reads) pairs =
@@ -76,15 +77,11 @@ abbrev targets_in : Script → List Name
 targets_in script = flat_map target_by (ops_of_script script)
 
 one-target : (op : Op) → length (target_by op) ≡ cond {A = ℕ} (is_link op) 1 0
-one-target (Create v) = refl
-one-target (Delete v) = refl
-one-target (Set v key value) = refl
-one-target (Unset v key) = refl
-one-target (Link v edge target) = refl
-one-target (Unlink v edge) = refl
-one-target (Tag v edge key value) = refl
-one-target (Untag v edge key) = refl
-one-target (Get v) = refl
+one-target op = at (target_of op)
+  where
+    at : (o : Option Name) → length (option_to_list o) ≡ cond {A = ℕ} (is_some o) 1 0
+    at None = refl
+    at (Some target) = refl
 
 targets-many : (ops : List Op) → length (flat_map target_by ops) ≡ count_by is_link ops
 targets-many =
@@ -97,7 +94,7 @@ targets-many =
 
 -- What was read
 
-module _ (script : Script) (account : Account) (basis : Basis script account) where
+module _ (script : Script) (account : Account) (basis : BasisWith LawsForReadiness script account) where
   -- the operations of a commit are the script's
   commit-ops : (commit : Commit) → Contains (commits_in account) commit → (op : Op) → Contains commit.ops op → Contains (ops_of_script script) op
   commit-ops commit h op k =

@@ -1,4 +1,5 @@
 -- What a program has read stays the same at each step but a visit of its own; so, if it has no next vertex, at each step.
+-- Used by `reads_stay`.
 use Rattle.std.proofs.Common.{◌≡◌, ◌≢◌, ℕ, ◌+◌, ◌<◌, ◌≤◌, ◌==◌, Bool, true, false, cond, List, [], ◌∷◌, ◌++◌, length, Option, None, Some, ◌⊎◌, inl, inr, refl, sym, ap, ◌∙◌, get_or, get_or-set_same, get_or-set_other, arith}
 use Rattle.std.specs.Prelude.{filter, slice_set}
 use Rattle.std.proofs.lemmas.Bool.{cases_eq, cases_lt, ne_eqb}
@@ -35,7 +36,7 @@ use Rattle.step_rules.specs.Entries.{account_with, after_begin, after_deliver, a
 use Rattle.step_rules.specs.IsCore.{IsCore, IsStepOf}
 use Rattle.step_rules.specs.Requests.{has_ended, next_vertex}
 use Rattle.step_rules.specs.Trace.{is_ok, state_after}
-use Rattle.drive_rules.specs.LowerLaws.{LowerLaws}
+use Rattle.drive_rules.specs.LowerLaws.{LawsForReadiness}
 
 -- the visits of a request are the same in each shard
 abbrev SameVisits : ℕ → Account → Account → Type 0
@@ -44,7 +45,7 @@ SameVisits r account next = (shard : ℕ) → visits_by r (shard_log next shard)
 same-shards : (r : ℕ) (account next : Account) → next.shards ≡ account.shards → SameVisits r account next
 same-shards r account next same shard = ap (λ (shards : List (List ShardEntry)). visits_by r (get_or shards shard [])) same
 
-module _ (laws : LowerLaws) (r : ℕ) where
+module _ (laws : LawsForReadiness) (r : ℕ) where
   -- one more entry that is no visit of the request leaves its visits
   no-visit : (log : List ShardEntry) (entry : ShardEntry) → filter (λ (visit : OneVisit). visit.request == r) (visit_by entry.author entry.deed) ≡ [] → visits_by r (log ++ entry ∷ []) ≡ visits_by r log
   no-visit log entry none =
@@ -52,7 +53,7 @@ module _ (laws : LowerLaws) (r : ℕ) where
       ∙ filter-append (λ (visit : OneVisit). visit.request == r) (visits_of log) (visit_by entry.author entry.deed)
       ∙ ap (λ more. visits_by r log ++ more) none ∙ append-nil (visits_by r log)
 
-  -- so does one in some shard's log
+  -- the same holds of one in some shard's log
   one-more : (shards : List (List ShardEntry)) (s : ℕ) (entry : ShardEntry) → filter (λ (visit : OneVisit). visit.request == r) (visit_by entry.author entry.deed) ≡ []
       → (shard : ℕ) → visits_by r (get_or (slice_set shards s (get_or shards s [] ++ entry ∷ [])) shard []) ≡ visits_by r (get_or shards shard [])
   one-more shards s entry none shard =
@@ -81,7 +82,7 @@ module _ (laws : LowerLaws) (r : ℕ) where
 visit-of : (a b : ℕ) → Visit a ≡ Visit b → a ≡ b
 visit-of a b e = cc
 
-module _ (laws : LowerLaws) (script : Script) (state : CoreState) (r : ℕ) where
+module _ (laws : LawsForReadiness) (script : Script) (state : CoreState) (r : ℕ) where
   abbrev account : Account
   account = state.account
 

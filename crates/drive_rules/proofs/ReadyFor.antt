@@ -1,14 +1,15 @@
 -- If of each gatekeeper a message later than a program was processed, the shard is ready for the program; and it stays
 -- so, since what is sent and processed is never taken back.
-use Rattle.std.proofs.Common.{◌≡◌, ℕ, zero, suc, ◌+◌, ◌<◌, ◌≤◌, ◌==◌, Bool, true, false, not, cond, List, [], ◌∷◌, ◌++◌, Contains, IsTrue, Option, None, Some, inl, inr, refl, sym, ap, subst, ◌∙◌, append_assoc, arith}
+-- Used by `messages_arrive_as_sent` and `readiness_stays`.
+use Rattle.std.proofs.Common.{◌≡◌, ℕ, ◌+◌, ◌<◌, ◌≤◌, ◌==◌, true, not, cond, List, [], ◌∷◌, ◌++◌, Contains, IsTrue, Option, None, Some, inl, inr, refl, sym, ap, subst, ◌∙◌, append_assoc, arith}
 use Rattle.std.specs.Prelude.{count_by}
 use Rattle.std.specs.List.{find, range_with_len}
-use Rattle.std.proofs.lemmas.Bool.{cases_eq, or_cases, or_left, or_right}
+use Rattle.std.proofs.lemmas.Bool.{cases_eq, or_left, or_right}
 use Rattle.std.proofs.lemmas.List.{append-nil}
 use Rattle.std.proofs.lemmas.List.Concat.{flat_map-append}
 use Rattle.std.proofs.lemmas.List.Elements.{Contains-append_left}
 use Rattle.std.proofs.lemmas.List.Sums.{sum_by-append}
-use Rattle.proof_base.proofs.Members.{find_has, find_lacks, has_head, has_tail}
+use Rattle.weave_data.proofs.Members.{find_has}
 use Rattle.vector_stamp.specs.declared.clock.Stamp.{Stamp}
 use Rattle.vector_stamp.specs.Order.{stamp_before}
 use Rattle.program_defs.specs.declared.script.Script.{Script}
@@ -21,12 +22,13 @@ use Rattle.weave_entries.specs.ShardReplay.{arrived_at, first_unready, head_of, 
 use Rattle.weave_account.specs.declared.account.Account.{Account}
 use Rattle.weave_account.specs.Account.{gate_log, shard_log}
 use Rattle.weave_account.specs.GoesOn.{GoesOn}
-use Rattle.drive_rules.specs.LowerLaws.{LowerLaws}
+use Rattle.drive_rules.specs.LowerLaws.{LawsForReadiness}
 use Rattle.drive_rules.specs.Readiness.{IsPassed}
-use Rattle.drive_rules.proofs.Basis.{Basis}
 use Rattle.drive_rules.proofs.ListFacts.{range-within}
 use Rattle.drive_rules.proofs.Processed.{are-first}
 use Rattle.drive_rules.proofs.SentMessages.{as_sent, arrived-sent, either-sent, number-within}
+use Rattle.weave_account.proofs.Ready.{ready-at}
+use Rattle.weave_account.proofs.Basis.{BasisWith}
 
 -- The logs go on
 
@@ -38,7 +40,7 @@ processed-more home log more =
     omega (arith, count)
 
 -- what arrived is there, after however many entries
-arrived-more : (laws : LowerLaws) (log more : List ShardEntry) (home number : ℕ) (message : Message) → arrived_at home number log ≡ Some message → arrived_at home number (log ++ more) ≡ Some message
+arrived-more : (laws : LawsForReadiness) (log more : List ShardEntry) (home number : ℕ) (message : Message) → arrived_at home number log ≡ Some message → arrived_at home number (log ++ more) ≡ Some message
 arrived-more laws log [] home number message is = ap (arrived_at home number) (append-nil log) ∙ is
 arrived-more laws log (entry ∷ more) home number message is =
     ap (arrived_at home number) (sym (append_assoc log (entry ∷ []) more))
@@ -59,7 +61,7 @@ stays-passed account next on shard stamp home passed =
       done = omega (arith, done, count);
     }
 
-module _ (script : Script) (account : Account) (basis : Basis script account) (shard : ℕ) where
+module _ (script : Script) (account : Account) (basis : BasisWith LawsForReadiness script account) (shard : ℕ) where
   -- what a channel has processed had arrived
   pub processed-arrived : (home number : ℕ) → 1 ≤ number → number ≤ processed_count home (shard_log account shard) → (message : Message) × (arrived_at home number (shard_log account shard) ≡ Some message)
   processed-arrived home number low high =
@@ -97,44 +99,9 @@ module _ (script : Script) (account : Account) (basis : Basis script account) (s
     pub ready-for : ((home : ℕ) → home < script.gates → IsPassed account shard stamp home) → first_unready script.gates stamp (shard_log account shard) ≡ None
     ready-for passed = none-unready (λ home below. passed-ready home (passed home below))
 
--- A shard that is ready
+-- A shard that is ready stays so
 
--- the message that made a channel ready: the last processed one, or the head
-record IsPast (stamp : Stamp) (log : List ShardEntry) (home : ℕ) : Type 0 where
-  number : ℕ
-  message : Message
-  arrived : arrived_at home number log ≡ Some message
-  within : number ≤ processed_count home log + 1
-  later : IsTrue (stamp_before stamp message.stamp)
-
-not-not : (b : Bool) → ¬ IsTrue (not b) → IsTrue b
-not-not true f = refl
-not-not false f = absurd (f refl)
-
-past-some : (stamp : Stamp) (o : Option Message) → IsTrue (is_past stamp o) → (m : Message) × (o ≡ Some m) × IsTrue (stamp_before stamp m.stamp)
-past-some stamp None h = cc
-past-some stamp (Some m) h = (m, refl, h)
-
-has-range : (a n y : ℕ) → a ≤ y → y < a + n → Contains (range_with_len a n) y
-has-range a zero y low high = absurd (omega (arith, low, high))
-has-range a (suc n) y low high =
-    elim (cases_eq y a) [
-      | inl same ↦ subst (λ k. Contains (a ∷ range_with_len (a + 1) n) k) (sym same) (has_head a (range_with_len (a + 1) n))
-      | inr differ ↦ has_tail a (range_with_len (a + 1) n) y (has-range (a + 1) n y (omega (arith, low, differ)) (omega (arith, high)))
-    ]
-
--- it has a later message of each gatekeeper
-ready-at : (gates : ℕ) (stamp : Stamp) (log : List ShardEntry) (home : ℕ) → home < gates → first_unready gates stamp log ≡ None → IsPast stamp log home
-ready-at gates stamp log home below ready =
-    let is : IsTrue (is_ready_for stamp log home) =
-    not-not (is_ready_for stamp log home)
-    (find_lacks (λ g. not (is_ready_for stamp log g)) (range_with_len 0 gates) home ready (has-range 0 gates home (omega arith) (omega (arith, below)))) in
-    elim (or_cases (is_past stamp (last_of home log)) (is_past stamp (head_of home log)) is) [
-      | inl last ↦ (let m = past-some stamp (last_of home log) last in record { number = processed_count home log; message = m.0; arrived = m.1; within = omega arith; later = m.2 })
-      | inr head ↦ (let m = past-some stamp (head_of home log) head in record { number = processed_count home log + 1; message = m.0; arrived = m.1; within = omega arith; later = m.2 })
-    ]
-
-module _ (script : Script) (account next : Account) (basis : Basis script next) (on : GoesOn account next) (shard : ℕ) (stamp : Stamp) where
+module _ (script : Script) (account next : Account) (basis : BasisWith LawsForReadiness script next) (on : GoesOn account next) (shard : ℕ) (stamp : Stamp) where
   -- it stays ready, whether by a processed message or by a head
   pub ready-stays : first_unready script.gates stamp (shard_log account shard) ≡ None → first_unready script.gates stamp (shard_log next shard) ≡ None
   ready-stays ready = none-unready script next basis shard stamp at

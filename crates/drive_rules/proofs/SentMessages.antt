@@ -1,4 +1,5 @@
 -- What is on the channels to a shard: from which gatekeeper it is, under which number, and that what arrived was sent.
+-- Used by `messages_arrive_as_sent`, ReadyFor and SomeHead.
 use Rattle.std.proofs.Common.{◌≡◌, ℕ, zero, suc, ◌+◌, ◌-◌, ◌<◌, ◌≤◌, ◌==◌, ◌&&◌, cond, List, [], ◌∷◌, map, length, get_or, Contains, AllPairs, IsTrue, Option, Some, None, ◌⊎◌, refl, sym, ap, subst, ◌∙◌, arith}
 use Rattle.std.specs.Prelude.{slice_get}
 use Rattle.std.specs.List.{find, range_with_len}
@@ -7,9 +8,9 @@ use Rattle.std.proofs.lemmas.Bool.{and_parts, eqb-true, ne_eqb}
 use Rattle.std.proofs.lemmas.List.{get_or-map, length-map}
 use Rattle.std.proofs.lemmas.List.Elements.{Contains-get_or}
 use Rattle.std.proofs.lemmas.List.FromFn.{get_or-range_with_len, length-range_with_len}
-use Rattle.proof_base.proofs.Members.{cut_at, find_has, flat_has, has_map, has_none, only}
-use Rattle.proof_base.proofs.Images.{within-list}
-use Rattle.proof_base.proofs.Ordered.{pairs_cases}
+use Rattle.weave_data.proofs.Members.{cut_at, find_has, flat_has, has_map, has_none, only}
+use Rattle.weave_data.proofs.Images.{within-list}
+use Rattle.weave_data.proofs.Ordered.{pairs_cases}
 use Rattle.vector_stamp.specs.declared.clock.Stamp.{Stamp}
 use Rattle.vector_stamp.specs.Order.{stamp_before}
 use Rattle.program_defs.specs.declared.script.Script.{Script}
@@ -26,8 +27,10 @@ use Rattle.weave_entries.specs.ShardReplay.{Arrival, arrival_by, arrivals_of, ar
 use Rattle.weave_account.specs.declared.account.Account.{Account}
 use Rattle.weave_account.specs.Account.{gate_log, shard_log}
 use Rattle.weave_account.specs.Shards.{ShardFitsAs}
-use Rattle.drive_rules.proofs.Basis.{Basis, below-eight}
+use Rattle.drive_rules.proofs.Basis.{below-eight}
 use Rattle.drive_rules.proofs.ListFacts.{pairs-of-images}
+use Rattle.weave_account.proofs.Basis.{BasisWith}
+use Rattle.drive_rules.specs.LowerLaws.{LawsForReadiness}
 
 -- a message with its number, as it is on a channel to a shard
 abbrev pub as_sent : ℕ → ℕ → Message → Addressed
@@ -43,7 +46,7 @@ get-map f [] i x less e = absurd (omega (arith, less))
 get-map f (y ∷ xs) zero x less e = ap (λ k. Some (f k)) e
 get-map f (y ∷ xs) (suc i) x less e = get-map f xs i x (omega (arith, less)) e
 
-module _ (script : Script) (account : Account) (basis : Basis script account) (shard : ℕ) where
+module _ (script : Script) (account : Account) (basis : BasisWith LawsForReadiness script account) (shard : ℕ) where
   -- a message that a deed brings was sent
   deed-sent : (before : List ShardEntry) (deed : ShardDeed) → ShardFitsAs script account shard before deed → (a : Arrival) → Contains (arrival_by deed) a
       → Contains (addressed_to shard (gate_log account a.gate)) (as_sent shard a.number a.message)
@@ -121,7 +124,7 @@ module _ (script : Script) (account : Account) (basis : Basis script account) (s
         ∙ ap (slice_get (channel_of shard (gate_log account home))) {x = a.number - 1} {y = h.0} (omega (arith, number))
         ∙ get-map (λ (k : Addressed). k.message) (addressed_to shard (gate_log account home)) h.0 a h.1 h.2
 
-    -- two messages of the channel are one, or one is before the other
+    -- two messages of the channel are the same, or one is before the other
     pub either-sent : (b : Addressed) → Contains (addressed_to shard (gate_log account home)) b → (a ≡ b) ⊎ (IsEarlier a b ⊎ IsEarlier b a)
     either-sent b g = pairs_cases IsEarlier (addressed_to shard (gate_log account home)) earlier a b h g
       where

@@ -1,12 +1,13 @@
 -- If no transaction is in flight and all that was sent to a shard has arrived there, one of its heads can be applied, if
 -- it has a head at all: one that no other head precedes.
+-- Used by `no_shard_is_stuck`.
 use Rattle.std.proofs.Common.{◌≡◌, ℕ, zero, suc, ◌+◌, ◌<◌, ◌≤◌, true, not, ◌==◌, List, [], ◌∷◌, ◌++◌, map, take, length, Contains, AllPairs, IsTrue, Option, Some, None, ◌⊎◌, inl, inr, refl, sym, ap, subst, ◌∙◌, arith}
 use Rattle.std.specs.List.{filter, find}
 use Rattle.std.specs.Option.{option_map}
 use Rattle.std.proofs.lemmas.Bool.{both_ways, cases_Bool, cases_order, cases_eq, cases_lt, eq-eqb}
 use Rattle.std.proofs.lemmas.List.{append_assoc}
-use Rattle.proof_base.proofs.Members.{find_has, flat_has, has_cut, has_filter, has_flat, has_head, has_map, map_has}
-use Rattle.proof_base.proofs.Ordered.{pairs_across}
+use Rattle.weave_data.proofs.Members.{find_has, flat_has, has_cut, has_filter, has_flat, has_head, has_map, map_has}
+use Rattle.weave_data.proofs.Ordered.{pairs_across}
 use Rattle.weave_data.specs.declared.name.Name.{Name}
 use Rattle.weave_data.specs.Names.{same_name, shard_of}
 use Rattle.graph_ops.specs.declared.part.Part.{Part}
@@ -23,15 +24,18 @@ use Rattle.weave_entries.specs.ShardReplay.{Update, applied_messages, arrived_at
 use Rattle.weave_entries.specs.StoreReplay.{Commit, commit_by, commits_naming, commits_of, count_naming, names_vertex}
 use Rattle.weave_account.specs.declared.account.Account.{Account}
 use Rattle.weave_account.specs.Account.{Precedence, commits_in, gate_log, pairs_in, shard_log}
-use Rattle.weave_account.specs.OnTheWay.{IsInFlight, IsOnChannel}
+use Rattle.weave_account.specs.OnTheWay.{CommitIsInFlight, IsOnChannel}
 use Rattle.weave_account.specs.Shards.{update_of}
 use Rattle.drive_rules.specs.Heads.{AllArrived, AllProcessed, CanApply, IsQuiet}
-use Rattle.drive_rules.proofs.Basis.{Basis}
-use Rattle.drive_rules.proofs.ListFacts.{filter_map-from, filter_map-has, take-front, take-has}
-use Rattle.drive_rules.proofs.NamedParts.{IsPartOf, part-of, same_name-refl}
+use Rattle.drive_rules.specs.LowerLaws.{LawsForReadiness}
+use Rattle.drive_rules.proofs.ListFacts.{filter_map-from, take-front, take-has}
+use Rattle.drive_rules.proofs.NamedParts.{IsPartOf, part-of}
 use Rattle.drive_rules.proofs.NamingCommits.{IsAtPlace, at-place, naming-cut}
 use Rattle.drive_rules.proofs.Processed.{AreFirst, are-first}
 use Rattle.drive_rules.proofs.SentMessages.{as_sent, arrived-sent, either-sent, home-inside, home-is, lower-sent, number-within}
+use Rattle.weave_account.proofs.Ready.{filter_map-has}
+use Rattle.weave_account.proofs.SameName.{same_name-refl}
+use Rattle.weave_account.proofs.Basis.{BasisWith}
 
 not-eq : (n k : ℕ) → IsTrue (not (n == k)) → n ≡ k → ⊥
 not-eq n k h e = let t : n == k ≡ true = eq-eqb n k e in let f : not true ≡ true = sym (ap not t) ∙ h in cc
@@ -39,7 +43,7 @@ not-eq n k h e = let t : n == k ≡ true = eq-eqb n k e in let f : not true ≡ 
 some-is : {A : Type 0} (a b : A) → Some a ≡ Some b → a ≡ b
 some-is a b e = cc
 
-module _ (script : Script) (account : Account) (basis : Basis script account) (shard : ℕ) where
+module _ (script : Script) (account : Account) (basis : BasisWith LawsForReadiness script account) (shard : ℕ) where
   abbrev log : List ShardEntry
   log = shard_log account shard
 
@@ -249,7 +253,7 @@ module _ (script : Script) (account : Account) (basis : Basis script account) (s
             let way = basis.laws.accounts.on_the_way script account basis.limits basis.is missing.before (missing.after ++ the.entry ∷ the.after) missing.entry in-store missing.commit missing.commit_is part.vertex missing.named in
             by-place way.home way.place
           where
-            by-place : (home : ℕ) → IsInFlight account missing.commit home ⊎ IsOnChannel script account missing.commit part.vertex (count_naming part.vertex (commits_of missing.before)) home → ⊥
+            by-place : (home : ℕ) → CommitIsInFlight account missing.commit home ⊎ IsOnChannel script account missing.commit part.vertex (count_naming part.vertex (commits_of missing.before)) home → ⊥
             by-place home (inl flying) = (let clash : Some flying.flight ≡ None = sym flying.flies ∙ quiet home in cc)
             by-place home (inr on) = on-its-channel home on
 

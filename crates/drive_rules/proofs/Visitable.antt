@@ -1,6 +1,7 @@
 -- A program visits its start and targets of links that were read, and no other vertex.
-use Rattle.std.proofs.Common.{◌≡◌, ℕ, zero, suc, Bool, true, false, not, cond, List, [], ◌∷◌, map, fold, Contains, Option, Some, None, ◌⊎◌, inl, inr, refl, subst, arith}
-use Rattle.std.specs.Prelude.{⊤, is_some}
+-- Used by ReadsLeft.
+use Rattle.std.proofs.Common.{◌≡◌, ℕ, zero, suc, Bool, true, false, not, cond, List, [], ◌∷◌, map, fold, Contains, Option, Some, None, ◌⊎◌, inl, inr, subst, arith}
+use Rattle.std.specs.Prelude.{IfSome, option_to_list}
 use Rattle.std.specs.List.{All, filter}
 use Rattle.std.specs.Map.{values_of, lookup}
 use Rattle.std.specs.BTreeSet.{insert_key}
@@ -10,20 +11,17 @@ use Rattle.std.specs.declared.cmp.Ordering.TheVariants.{Less, Equal, Greater}
 use Rattle.std.proofs.lemmas.List.Elements.{All-nil, Contains-append_cases}
 use Rattle.std.proofs.lemmas.Map.Views.{All-values-insert_entry, All-map-remove_entry}
 use Rattle.weave_data.specs.Names.{same_name, name_cmp}
-use Rattle.weave_data.specs.Pairs.{at_key, has, put, without, is_full}
+use Rattle.weave_data.specs.Pairs.{put}
 use Rattle.std.specs.BTreeMap.{is_at}
-use Rattle.proof_base.proofs.Members.{filter_has, has_head, has_none, has_read, has_tail, map_has, only}
+use Rattle.weave_data.proofs.Members.{filter_has, has_head, has_none, has_read, has_tail, map_has, only}
 use Rattle.weave_data.specs.declared.name.Name.{Name}
 use Rattle.graph_ops.specs.Mentions.{is_among}
-use Rattle.graph_ops.specs.Operations.{State, Outcome, applied, becomes, refused_if, on_edge}
+use Rattle.graph_ops.specs.Operations.{State, applied, target_of}
 use Rattle.graph_ops.specs.PlainGraph.{PlainGraph}
 use Rattle.graph_ops.specs.VertexOps.{state_after, state_left}
 use Rattle.graph_ops.specs.declared.record.Edge.{Edge}
-use Rattle.graph_ops.specs.declared.record.Record.{Record}
 use Rattle.graph_ops.specs.declared.op.Op.{Op}
-use Rattle.graph_ops.specs.declared.op.Op.TheVariants.{Create, Delete, Set, Unset, Link, Unlink, Tag, Untag, Get}
-use Rattle.graph_ops.specs.declared.op.Reason.{Reason}
-use Rattle.graph_ops.specs.declared.op.Reason.TheVariants.{Exists, NoKey, EdgeExists, NoEdge, Full}
+use Rattle.graph_ops.proofs.EachOp.{EdgesKeep, HasGood, edges-kept}
 use Rattle.program_defs.specs.declared.program.Filter.{Filter}
 use Rattle.program_defs.specs.declared.program.Program.{Program}
 use Rattle.program_defs.specs.declared.program.Program.TheVariants.{Show, Reach, Around, Path}
@@ -33,8 +31,7 @@ use Rattle.weave_entries.specs.ShardReplay.{Update, state_of_updates}
 
 -- the target that an operation brings
 abbrev pub target_by : Op → List Name
-target_by (Link v edge target) = target ∷ []
-target_by _ = []
+target_by op = option_to_list (target_of op)
 
 -- where a program starts
 abbrev pub start_of : Program → Name
@@ -85,16 +82,11 @@ module _ (names : List Name) where
   abbrev pub Leads : List (Name × Edge) → Type 0
   Leads edges = All (λ (edge : Edge). In edge.target) (values_of edges)
 
-  -- so it is of a vertex in this state
+  -- this holds of a vertex in this state
   abbrev pub LeadsIn : State → Type 0
-  LeadsIn None = ⊤
-  LeadsIn (Some now) = Leads now.edges
+  LeadsIn state = HasGood Leads state
 
   -- Operations keep it
-
-  unless-refused : (test : Bool) (reason : Reason) (state : State) (rest : Outcome) → LeadsIn state → LeadsIn (state_left state rest) → LeadsIn (state_left state (refused_if test reason rest))
-  unless-refused true reason state rest before after = before
-  unless-refused false reason state rest before after = after
 
   at-edge : (test : Name → Bool) (edges : List (Name × Edge)) (edge : Edge) → Leads edges → lookup test edges ≡ Some edge → In edge.target
   at-edge test [] edge leads e = cc
@@ -104,39 +96,23 @@ module _ (names : List Name) where
       at true more e = let same : x ≡ edge = cc in subst (λ (y : Edge). In y.target) same (leads 0 x (omega arith))
       at false more e = more e
 
-  with-edge : (name : Name) (edge : Edge) (now : Record) → Leads now.edges → In edge.target → Leads (put name edge now.edges)
-  with-edge name edge now leads target = All-values-insert_entry name_cmp name edge (λ (x : Edge). In x.target) now.edges leads target
+  with-edge : (name : Name) (edge : Edge) (edges : List (Name × Edge)) → Leads edges → In edge.target → Leads (put name edge edges)
+  with-edge name edge edges leads target = All-values-insert_entry name_cmp name edge (λ (x : Edge). In x.target) edges leads target
+
+  leads-kept : EdgesKeep Leads In
+  leads-kept = record {
+    none = All-nil _;
+    link = λ name target edges leads here new spare. with-edge name (record { target = target; tags = [] }) edges leads here;
+    unlink = λ name edges leads. All-map-remove_entry (is_at (name_cmp name)) (λ (e : Name × Edge). e.1) (λ (x : Edge). In x.target) edges leads;
+    retag = λ name edge tags edges leads is. with-edge name (record edge { tags = tags }) edges leads (at-edge (is_at (name_cmp name)) edges edge leads is);
+  }
 
   applied-leads : (op : Op) (state : State) → LeadsIn state → ((w : Name) → Contains (target_by op) w → In w) → LeadsIn (state_left state (applied op state))
-  applied-leads (Create v) state before target = unless-refused (is_some state) Exists state (becomes (record { props = []; edges = [] })) before (All-nil _)
-  applied-leads (Delete v) None before target = tt
-  applied-leads (Delete v) (Some was) before target = tt
-  applied-leads (Set v key value) None before target = tt
-  applied-leads (Set v key value) (Some was) before target = unless-refused (is_full 64 key was.props) Full (Some was) _ before before
-  applied-leads (Unset v key) None before target = tt
-  applied-leads (Unset v key) (Some was) before target = unless-refused (not (has key was.props)) NoKey (Some was) _ before before
-  applied-leads (Link v name to) None before target = tt
-  applied-leads (Link v name to) (Some was) before target =
-      unless-refused (has name was.edges) EdgeExists (Some was) _ before
-      (unless-refused (is_full 1000 name was.edges) Full (Some was) _ before (with-edge name (record { target = to; tags = [] }) was before (target to (has_head to []))))
-  applied-leads (Unlink v name) None before target = tt
-  applied-leads (Unlink v name) (Some was) before target =
-      unless-refused (not (has name was.edges)) NoEdge (Some was) _ before (All-map-remove_entry (is_at (name_cmp name)) (λ (e : Name × Edge). e.1) (λ (x : Edge). In x.target) was.edges before)
-  applied-leads (Tag v name key value) None before target = tt
-  applied-leads (Tag v name key value) (Some was) before target = at (at_key name was.edges) refl
+  applied-leads op state before target = edges-kept Leads In leads-kept op state before (at (target_of op) target)
     where
-      at : (o : Option Edge) → at_key name was.edges ≡ o
-          → LeadsIn (state_left (Some was) (on_edge o (λ (edge : Edge). refused_if (is_full 8 key edge.tags) Full (becomes (record was { edges = put name (record edge { tags = put key value edge.tags }) was.edges })))))
-      at None e = before
-      at (Some edge) e = unless-refused (is_full 8 key edge.tags) Full (Some was) _ before (with-edge name (record edge { tags = put key value edge.tags }) was before (at-edge (is_at (name_cmp name)) was.edges edge before e))
-  applied-leads (Untag v name key) None before target = tt
-  applied-leads (Untag v name key) (Some was) before target = at (at_key name was.edges) refl
-    where
-      at : (o : Option Edge) → at_key name was.edges ≡ o
-          → LeadsIn (state_left (Some was) (on_edge o (λ (edge : Edge). refused_if (not (has key edge.tags)) NoKey (becomes (record was { edges = put name (record edge { tags = without key edge.tags }) was.edges })))))
-      at None e = before
-      at (Some edge) e = unless-refused (not (has key edge.tags)) NoKey (Some was) _ before (with-edge name (record edge { tags = without key edge.tags }) was before (at-edge (is_at (name_cmp name)) was.edges edge before e))
-  applied-leads (Get v) state before target = before
+      at : (o : Option Name) → ((w : Name) → Contains (option_to_list o) w → In w) → IfSome o In
+      at None among = tt
+      at (Some target) among = among target (has_head target [])
 
   ops-lead : (ops : List Op) (state : State) → LeadsIn state → ((op : Op) → Contains ops op → (w : Name) → Contains (target_by op) w → In w) → LeadsIn (state_after ops state)
   ops-lead [] state before targets = before

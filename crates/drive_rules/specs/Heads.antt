@@ -26,4 +26,5 @@ AllProcessed account shard =
 -- the channel of this gatekeeper to a shard has a head, and it waits for no vertex
 abbrev pub CanApply : Account → ℕ → ℕ → Type 0
 CanApply account shard home =
-    (head : Message) × (head_of home (shard_log account shard) ≡ Some head) × (waits_at head (shard_log account shard) ≡ None)
+    (head : Message) × (head_of home (shard_log account shard) ≡ Some head)
+    × (waits_at head (shard_log account shard) ≡ None)

@@ -98,8 +98,8 @@ pub fn known_clocks_may_be_heard()
     the_crates_below_keep_their_laws();
 }
 
-/// If of each gatekeeper a message after a program's stamp was processed, the shard is ready for the program. It stays
-/// so, and so does a shard that is ready in whatever way.
+/// If of each gatekeeper a message after a program's stamp was processed, the shard is ready for the program. A shard
+/// that is ready, in whatever way, stays ready.
 pub fn readiness_stays()
     ensures reached { (script : Script) (account : Account) → IsWithinLimits script → IsAccount script account
         → (shard : ℕ) (stamp : Stamp) → ((home : ℕ) → home < script.gates → IsPassed account shard stamp home)

@@ -1,5 +1,5 @@
 //! The laws of the crates below, in one.
-ghost use Rattle.drive_rules.specs.LowerLaws.{LowerLaws};
+ghost use Rattle.drive_rules.specs.LowerLaws.{LawsForReadiness};
 
 use graph_ops::laws::each_vertex_is_named_once;
 use step_rules::laws::steps_keep_the_core;
@@ -16,9 +16,9 @@ use weave_entries::laws::{
     the_store_replay_goes_on, updates_go_on,
 };
 
-/// The laws of the crates below that the laws of this crate stand on.
+/// The laws of the crates below that the laws of this crate rely on.
 pub(crate) fn the_crates_below_keep_their_laws()
-    ensures { LowerLaws }
+    ensures { LawsForReadiness }
 {
     accounts_were_seen();
     arrivals_stay();

@@ -1,4 +1,5 @@
 -- What was seen, as an account: its logs, place by place.
+-- Used by Adding and Meeting.
 use Rattle.std.proofs.Common.{◌≡◌, ◌≢◌, ◌⊎◌, inl, inr, ℕ, ◌<◌, List, [], length, map, get_or, set, refl, sym, ap, ◌∙◌, subst, arith}
 use Rattle.std.proofs.lemmas.List.{get_or-set_same, get_or-set_other, length-map, length-set}
 use Rattle.std.proofs.Math.ListN.{get_or-map}
@@ -18,9 +19,10 @@ use Rattle.weave_account.specs.Account.{gate_log, shard_log}
 use Rattle.weave_account.specs.GoesOn.{IsBeginningOf}
 use Rattle.seen_logs.specs.Seen.{AreLegal, IsWithin}
 use Rattle.chronicle.specs.Logs.{Log}
+use Rattle.lock_row.proofs.Lists.{mapped_on}
 use Rattle.gate_lock.specs.Entries.{gate_entries, gate_entry, shard_entries, shard_entry, store_entries, store_entry}
 use Rattle.gate_lock.specs.Notes.{account_of}
-use Rattle.gate_lock.proofs.Lists.{alike, mapped_on}
+use Rattle.gate_lock.proofs.Lists.{alike}
 
 module _ (home : ℕ) (own : List GateEntry) (gates : List (Log GateDeed)) (store : Log StoreDeed) (shards : List (Log ShardDeed)) where
   -- the own log is in its place

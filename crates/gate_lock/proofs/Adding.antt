@@ -1,4 +1,5 @@
 -- A gatekeeper with one more entry keeps what its type keeps, if what the entry refers to was seen.
+-- Used by `begin_program`, `begin_tx`, `say`, Calls and Fetching.
 use Rattle.std.proofs.Common.{◌≡◌, inl, inr, ℕ, ◌+◌, ◌<◌, ◌≤◌, Bool, true, cond, nat_eq, count_by, eq-eqb, List, [], ◌∷◌, ◌++◌, length, map, get_or, IsTrue, refl, sym, ap, ◌∙◌, subst, arith, Option, None, Some}
 use Rattle.std.specs.Prelude.{Result, Ok, Err, IfOk, OnErr}
 use Rattle.std.specs.Option.{ForSome}
@@ -6,7 +7,7 @@ use Rattle.std.proofs.lemmas.List.{append-nil, length-append, length-map}
 use mathlib.Core.Logic.{dite}
 use mathlib.Core.List.{IsPrefix}
 use native.Mathlib.Decide.{ℕ_discrete}
-use Rattle.proof_base.proofs.Ends.{count_push, flat_push, split_last}
+use Rattle.weave_data.proofs.Ends.{count_push, flat_push, split_last}
 use Rattle.program_defs.specs.declared.script.Script.{Script}
 use Rattle.vector_stamp.specs.declared.clock.Clock.{Clock}
 use Rattle.vector_stamp.specs.declared.clock.Stamp.{Stamp}
@@ -25,8 +26,8 @@ use Rattle.seen_logs.specs.References.{GateRefersAs}
 use Rattle.seen_logs.specs.Seen.{AreLegal, IsWithin}
 use Rattle.chronicle.specs.Passes.{noted}
 use Rattle.gate_lock.specs.declared.notes.GateNotes.{GateNotes}
-use Rattle.gate_lock.specs.LowerLaws.{LowerLaws}
-use Rattle.gate_lock.specs.Notes.{IsKept, seen_of}
+use Rattle.gate_lock.specs.LowerLaws.{LawsForGateNotes}
+use Rattle.gate_lock.specs.Notes.{GateIsKept, seen_of}
 use Rattle.gate_lock.proofs.Accounts.{at_home, elsewhere, grows}
 
 abbrev entry_by : ℕ → GateDeed → GateEntry
@@ -58,12 +59,12 @@ some_script = record { gates = 0; shards = 0; requests = []; phases = []; steps 
 -- The own log
 
 -- a gatekeeper's log is whole in what it has seen
-pub own_log : (gate : GateView) (notes : GateNotes) → IsKept gate notes → gate_log (seen_of gate notes) gate.home ≡ gate.log
+pub own_log : (gate : GateView) (notes : GateNotes) → GateIsKept gate notes → gate_log (seen_of gate notes) gate.home ≡ gate.log
 own_log gate notes kept =
     at_home gate.home gate.log (map noted notes.gates.items) (noted notes.store) (map noted notes.shards.items)
     (omega (arith, length-map notes.gates.items noted, kept.gates, kept.home))
 
-module _ (laws : LowerLaws) (gate : GateView) (notes : GateNotes) (kept : IsKept gate notes) (small : gate.home < 8) where
+module _ (laws : LawsForGateNotes) (gate : GateView) (notes : GateNotes) (kept : GateIsKept gate notes) (small : gate.home < 8) where
   abbrev known_now : Clock → Type 0
   known_now clock = IsKnown (seen_of gate notes) clock
 
@@ -88,7 +89,7 @@ module _ (laws : LowerLaws) (gate : GateView) (notes : GateNotes) (kept : IsKept
 
 -- One more entry
 
-module _ (laws : LowerLaws) (gate : GateView) (notes : GateNotes) (kept : IsKept gate notes) (author : ℕ) (deed : GateDeed) (spare : ℕ) where
+module _ (laws : LawsForGateNotes) (gate : GateView) (notes : GateNotes) (kept : GateIsKept gate notes) (author : ℕ) (deed : GateDeed) (spare : ℕ) where
   abbrev more : GateView
   more = added gate author deed spare
 
@@ -180,7 +181,7 @@ module _ (laws : LowerLaws) (gate : GateView) (notes : GateNotes) (kept : IsKept
           | inr early ↦ absurd (omega (arith, long, ap L own_before, ap L early.1, length-append front (entry ∷ early.0)))
         ]
 
-    kept_more : GateRefersAs after gate.shards gate.log author deed → IsKept more notes
+    kept_more : GateRefersAs after gate.shards gate.log author deed → GateIsKept more notes
     kept_more refers = record {
       home = kept.home;
       gates = kept.gates;
@@ -191,24 +192,24 @@ module _ (laws : LowerLaws) (gate : GateView) (notes : GateNotes) (kept : IsKept
 
 -- Answers of the gatekeeper's calls
 
-module _ (laws : LowerLaws) (old new : GateView) (notes : GateNotes) (kept : IsKept old notes) (author : ℕ) (deed : GateDeed)
+module _ (laws : LawsForGateNotes) (old new : GateView) (notes : GateNotes) (kept : GateIsKept old notes) (author : ℕ) (deed : GateDeed)
     (adds : Adds old new author deed)
     (rules : IsGateLog new.home new.shards new.log) (hears : HearsAs old.home old.log deed) where
   its_rules : IsGateLog old.home old.shards (old.log ++ entry_by author deed ∷ [])
   its_rules = subst (λ (v : GateView). IsGateLog v.home v.shards v.log) (is_added old new author deed adds) rules
 
   -- with an entry that refers to what was seen, the new entry with it
-  pub kept_after : GateRefersAs (seen_of (added old author deed new.spare) notes) old.shards old.log author deed → IsKept new notes
-  kept_after refers = subst (λ (v : GateView). IsKept v notes) (sym (is_added old new author deed adds))
+  pub kept_after : GateRefersAs (seen_of (added old author deed new.spare) notes) old.shards old.log author deed → GateIsKept new notes
+  kept_after refers = subst (λ (v : GateView). GateIsKept v notes) (sym (is_added old new author deed adds))
       (kept_more laws old notes kept author deed new.spare its_rules hears refers)
 
   -- with an entry that refers to what was seen
-  pub kept_then : GateRefersAs (seen_of old notes) old.shards old.log author deed → IsKept new notes
+  pub kept_then : GateRefersAs (seen_of old notes) old.shards old.log author deed → GateIsKept new notes
   kept_then refers = kept_after (refers_still laws old notes kept author deed new.spare its_rules hears refers)
 
 -- as before
-pub kept_still : (old new : GateView) (notes : GateNotes) → IsKept old notes → new ≡ old → IsKept new notes
-kept_still old new notes kept same = subst (λ (v : GateView). IsKept v notes) (sym same) kept
+pub kept_still : (old new : GateView) (notes : GateNotes) → GateIsKept old notes → new ≡ old → GateIsKept new notes
+kept_still old new notes kept same = subst (λ (v : GateView). GateIsKept v notes) (sym same) kept
 
 -- Begins
 
@@ -219,7 +220,7 @@ pub record IsBegin (deed : Stamp → GateDeed) : Type 0 where
       account shards log author (deed stamp)
   pub hears : (home : ℕ) (log : List GateEntry) (stamp : Stamp) → HearsAs home log (deed stamp)
 
-module _ (laws : LowerLaws) (old new : GateView) (notes : GateNotes) (kept : IsKept old notes) (small : old.home < 8)
+module _ (laws : LawsForGateNotes) (old new : GateView) (notes : GateNotes) (kept : GateIsKept old notes) (small : old.home < 8)
     (rules : IsGateLog old.home old.shards old.log) (author : ℕ)
     (deed : Stamp → GateDeed) (is_begin : IsBegin deed) (last : Option Stamp) (its : ForSome last
     (λ (heard : Stamp). IsKnown (seen_of old notes) heard.clock))
@@ -236,7 +237,7 @@ module _ (laws : LowerLaws) (old new : GateView) (notes : GateNotes) (kept : IsK
       (stamped laws old notes kept author (deed stamp) spare small clock known made)
 
   pub kept_begun : {F : Type 0} (r : Result Stamp F) → IfOk r (λ (stamp : Stamp). stamp ≡ now) → IfOk r
-      (λ (stamp : Stamp). Adds old new author (deed stamp)) → OnErr r (new ≡ old) → IsKept new notes
+      (λ (stamp : Stamp). Adds old new author (deed stamp)) → OnErr r (new ≡ old) → GateIsKept new notes
   kept_begun (Ok stamp) is adds refused =
       kept_after laws old new notes kept author (deed stamp) adds rules_now (is_begin.hears old.home old.log stamp)
       (is_begin.refers (seen_of (added old author (deed stamp) new.spare) notes) old.shards old.log author stamp (stamp_known stamp is new.spare))

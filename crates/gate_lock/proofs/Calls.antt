@@ -1,4 +1,5 @@
 -- The gatekeeper's other calls: they keep what its type keeps.
+-- Used by `begin_program`, `begin_tx`, `finish`, `hear`, `nop` and `send`.
 use Rattle.std.proofs.Common.{◌≡◌, ℕ, ◌<◌, List, refl, sym}
 use Rattle.std.specs.Prelude.{Result, Ok, Err, IfOk, OnOk, OnErr}
 use Rattle.std.specs.Option.{ForSome}
@@ -15,8 +16,8 @@ use Rattle.weave_account.specs.Channels.{SendsJudged}
 use Rattle.weave_account.specs.Clocks.{IsKnown}
 use Rattle.seen_logs.specs.References.{EndsAsSeen}
 use Rattle.gate_lock.specs.declared.notes.GateNotes.{GateNotes}
-use Rattle.gate_lock.specs.LowerLaws.{LowerLaws}
-use Rattle.gate_lock.specs.Notes.{HasJudged, IsKept, seen_of}
+use Rattle.gate_lock.specs.LowerLaws.{LawsForGateNotes}
+use Rattle.gate_lock.specs.Notes.{HasJudged, GateIsKept, seen_of}
 use Rattle.gate_lock.proofs.Adding.{IsBegin, clock_known, hears_known, kept_after, kept_still, kept_then, stamped}
 
 pub begins_tx : (request : ℕ) → IsBegin (λ (stamp : Stamp). BeganTx request stamp)
@@ -25,23 +26,23 @@ begins_tx request = record { event = λ stamp. refl; refers = λ account shards 
 pub begins_program : (request : ℕ) → IsBegin (λ (stamp : Stamp). BeganProgram request stamp)
 begins_program request = record { event = λ stamp. refl; refers = λ account shards log author stamp known. known; hears = λ home log stamp. tt }
 
-module _ (laws : LowerLaws) (old new : GateView) (notes : GateNotes) (kept : IsKept old notes)
+module _ (laws : LawsForGateNotes) (old new : GateView) (notes : GateNotes) (kept : GateIsKept old notes)
     (rules_now : IsGateLog new.home new.shards new.log) (author : ℕ) where
   pub kept_finished : {A F : Type 0} (r : Result A F) (request : ℕ) → EndsAsSeen (seen_of old notes) request → OnOk r
-      (Adds old new author (Finished request)) → OnErr r (new ≡ old) → IsKept new notes
+      (Adds old new author (Finished request)) → OnErr r (new ≡ old) → GateIsKept new notes
   kept_finished (Ok done) request ends adds refused = kept_then laws old new notes kept author (Finished request) adds rules_now tt ends
   kept_finished (Err fault) request ends adds refused = kept_still old new notes kept refused
 
   pub kept_heard : {A F : Type 0} (r : Result A F) (clock : Clock) → old.home < 8 → IsGateLog old.home old.shards old.log → IsKnown
       (seen_of old notes) clock
-      → OnOk r (Adds old new author (Heard clock)) → OnErr r (new ≡ old) → IsKept new notes
+      → OnOk r (Adds old new author (Heard clock)) → OnErr r (new ≡ old) → GateIsKept new notes
   kept_heard (Ok done) clock small rules known adds refused =
       kept_then laws old new notes kept author (Heard clock) adds rules_now (hears_known laws old notes kept small rules clock known) known
   kept_heard (Err fault) clock small rules known adds refused = kept_still old new notes kept refused
 
   pub kept_nop : {F : Type 0} (r : Result ℕ F) (shard : ℕ) → old.home < 8
       → IfOk r (λ (number : ℕ). let stamp = next_stamp old.home (clock_of old.home old.log) in
-      Adds old new author (Nop shard number stamp (low_mark stamp (running_of old.log)))) → OnErr r (new ≡ old) → IsKept new notes
+      Adds old new author (Nop shard number stamp (low_mark stamp (running_of old.log)))) → OnErr r (new ≡ old) → GateIsKept new notes
   kept_nop (Ok number) shard small adds refused =
       let clock = clock_of old.home old.log in
       let stamp = next_stamp old.home clock in
@@ -64,7 +65,7 @@ module _ (laws : LowerLaws) (old new : GateView) (notes : GateNotes) (kept : IsK
   pub kept_sent : {A F : Type 0} (r : Result A F) (ops : List Op) (verdict : Verdict) → ForSome (flight_of old.log)
       (λ (flight : Begun). flight.author ≡ author)
       → ForSome (flight_of old.log) (λ (flight : Begun). HasJudged (seen_of old notes) flight ops verdict)
-      → OnOk r (SendsFlight old new author ops verdict) → OnErr r (new ≡ old) → IsKept new notes
+      → OnOk r (SendsFlight old new author ops verdict) → OnErr r (new ≡ old) → GateIsKept new notes
   kept_sent (Ok done) ops verdict by has sends refused =
       let flight = sends.flight in
       kept_then laws old new notes kept author (Sent flight.request (messages_of old.shards old.log flight ops verdict)) sends.adds rules_now tt

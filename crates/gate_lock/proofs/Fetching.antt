@@ -1,10 +1,11 @@
 -- What a message that is fetched says.
+-- Used by `fetch`.
 use Rattle.std.proofs.Common.{◌≡◌, ℕ, zero, suc, ◌+◌, ◌-◌, ◌<◌, ◌==◌, eqb, ne_eqb, Bool, false, cond, List, [], ◌∷◌, length, map, Contains, sym, ◌∙◌, subst, arith, Option, None, Some}
 use Rattle.std.specs.Prelude.{Result, Ok, Err, IfOk, slice_get}
 use Rattle.std.specs.List.{range_with_len}
 use Rattle.std.specs.Option.{ForSome}
 use Rattle.std.proofs.lemmas.Bool.{eqb-true}
-use Rattle.proof_base.proofs.Members.{filter_has, flat_has, has_head, has_tail}
+use Rattle.weave_data.proofs.Members.{filter_has, flat_has, has_head, has_tail}
 use Rattle.shard_queue.specs.Sent.{sent_as}
 use Rattle.weave_entries.specs.declared.gate_log.GateEntry.{GateEntry}
 use Rattle.weave_entries.specs.declared.message.Addressed.{Addressed}
@@ -14,8 +15,8 @@ use Rattle.weave_entries.specs.GateRules.{IsChannel, IsGateLog}
 use Rattle.gatekeeper.specs.Gates.{GateView}
 use Rattle.weave_account.specs.Seen.{IsMade}
 use Rattle.gate_lock.specs.declared.notes.GateNotes.{GateNotes}
-use Rattle.gate_lock.specs.LowerLaws.{LowerLaws}
-use Rattle.gate_lock.specs.Notes.{IsKept, seen_of}
+use Rattle.gate_lock.specs.LowerLaws.{LawsForGateNotes}
+use Rattle.gate_lock.specs.Notes.{GateIsKept, seen_of}
 use Rattle.gate_lock.proofs.Adding.{own_log}
 
 abbrev number_in : Addressed → ℕ
@@ -86,7 +87,7 @@ sent_there shard number log message channel found =
     } in
     subst (λ (a : Addressed). Contains (addressed_to shard log) a) same at.has
 
-module _ (laws : LowerLaws) (gate : GateView) (notes : GateNotes) (kept : IsKept gate notes) (small : gate.home < 8)
+module _ (laws : LawsForGateNotes) (gate : GateView) (notes : GateNotes) (kept : GateIsKept gate notes) (small : gate.home < 8)
     (rules : IsGateLog gate.home gate.shards gate.log) (shard number : ℕ) where
   is_there : (message : Message) → sent_as number (channel_of shard gate.log) ≡ Some message
       → Contains (addressed_to shard gate.log) (record { shard = shard; number = number; message = message })

@@ -1,8 +1,6 @@
 -- Lists, place by place.
-use Rattle.std.proofs.Common.{◌≡◌, ℕ, zero, suc, List, [], ◌∷◌, ◌++◌, length, map, get_or, refl, sym, ap, ◌∙◌, arith}
-use Rattle.std.proofs.lemmas.List.{map-append}
-use mathlib.Core.List.{IsPrefix}
-use Rattle.weave_account.specs.GoesOn.{IsBeginningOf}
+-- Used by Accounts, Meeting and crate weaver_locks.
+use Rattle.std.proofs.Common.{◌≡◌, ℕ, zero, suc, List, [], ◌∷◌, ◌++◌, length, get_or, refl, arith}
 
 -- lists of one length with the same element at each place
 pub alike : {A : Type 0} (d : A) (xs ys : List A) → length xs ≡ length ys → ((k : ℕ) → get_or xs k d ≡ get_or ys k d) → xs ≡ ys
@@ -24,7 +22,3 @@ append_parts (x ∷ xs) (u ∷ us) ys vs e is =
     let tails : xs ++ ys ≡ us ++ vs = cc in
     let rest = append_parts xs us ys vs (omega arith) tails in
     (λ i. first i ∷ rest.0 i, rest.1)
-
--- the image of a beginning begins the image
-pub mapped_on : {A B : Type 0} (f : A → B) (xs ys : List A) → IsPrefix xs ys → IsBeginningOf (map f xs) (map f ys)
-mapped_on {A} {B} f xs ys on = (map f on.0, ap (λ (l : List A). map f l) (sym on.1) ∙ map-append f xs on.0)

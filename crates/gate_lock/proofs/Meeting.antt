@@ -1,8 +1,8 @@
 -- What the notes have seen after they met the passes.
-use Rattle.std.proofs.Common.{◌≡◌, ◌≢◌, ◌⊎◌, inl, inr, ℕ, ◌<◌, ◌≤◌, List, [], ◌∷◌, ◌++◌, length, map, get_or, refl, sym, ap, ◌∙◌, subst, arith}
+-- Used by `meet`.
+use Rattle.std.proofs.Common.{◌≡◌, ◌≢◌, inl, inr, ℕ, ◌<◌, ◌≤◌, List, [], ◌∷◌, ◌++◌, length, map, get_or, refl, sym, ap, ◌∙◌, subst, arith}
 use Rattle.std.proofs.lemmas.Bool.{cases_lt}
 use Rattle.std.proofs.lemmas.List.{append-nil, get_or_past, length-append, length-map, get_or-map}
-use mathlib.Core.List.{IsPrefix}
 use Rattle.weave_entries.specs.declared.gate_log.GateDeed.{GateDeed}
 use Rattle.weave_entries.specs.declared.gate_log.GateEntry.{GateEntry}
 use Rattle.weave_entries.specs.declared.shard_log.ShardDeed.{ShardDeed}
@@ -17,32 +17,19 @@ use Rattle.chronicle.specs.declared.pass.Pass.{Pass}
 use Rattle.chronicle.specs.declared.note.Note.{Note}
 use Rattle.chronicle.specs.Frames.{Frame}
 use Rattle.chronicle.specs.Logs.{Log}
-use Rattle.chronicle.specs.Locks.{Lock, lock_of, name_of}
+use Rattle.chronicle.specs.Locks.{lock_of, name_of}
 use Rattle.chronicle.specs.Passes.{seen, noted, lock_noted}
+use Rattle.chronicle.proofs.Logs.{head_or, tail_of}
 use Rattle.lock_row.specs.Rows.{names_of}
 use Rattle.lock_row.specs.Meetings.{AllMet, CanMeet, HaveMet}
 use Rattle.lock_row.proofs.Lists.{one_of}
+use Rattle.lock_row.proofs.Meetings.{Met, met_of}
 use Rattle.gate_lock.specs.declared.notes.GateNotes.{GateNotes}
 use Rattle.gate_lock.specs.Frames.{AreReadyBut, gate_frame}
-use Rattle.gate_lock.specs.LowerLaws.{LowerLaws}
-use Rattle.gate_lock.specs.Notes.{IsKept, NotedView, frame_of, seen_by_passes, seen_of}
+use Rattle.gate_lock.specs.LowerLaws.{LawsForGateNotes}
+use Rattle.gate_lock.specs.Notes.{GateIsKept, NotedGateView, frame_of, seen_by_passes, seen_of}
 use Rattle.gate_lock.proofs.Accounts.{at_home, grows, legal_now, same_account}
 use Rattle.gate_lock.proofs.Lists.{append_parts}
-
--- what was seen of a log at a place: by the pass, by the note, and by both after they met
-pub record Met {E : Type 0} (before after note later : Log E) : Type 0 where
-  pub note_on : IsPrefix note later
-  pub pass_on : IsPrefix before later
-  pub one : later ≡ after
-  pub either : (later ≡ before) ⊎ (later ≡ note)
-
-met_of : {E : Type 0} (lock : Lock E) (p q : Pass E) (n m : Note E) → HaveMet lock p q n m → Met (seen p) (seen q) (noted n) (noted m)
-met_of {E} lock p q n m h = record {
-  note_on = subst (λ (l : Log E). IsPrefix (noted n) l) (sym h.one) h.note_before;
-  pass_on = subst (λ (l : Log E). IsPrefix (seen p) l) (sym h.one) h.pass_before;
-  one = h.one;
-  either = elim h.either [ inl is ↦ inl (h.one ∙ is) | inr is ↦ inr (h.one ∙ is) ];
-}
 
 module _ {M E : Type 0} (locks : List (Chronicle M E)) (before after : List (Pass E)) (notes later : List (Note E)) (except : ℕ)
     (met : AllMet locks before after notes later except) (before_long : length before ≡ length locks) (after_long : length after ≡ length locks)
@@ -84,21 +71,13 @@ pub record IsFramed (gate : GateView) (notes : GateNotes) (home gates shards : �
   pub store_note : lock_noted notes.store ≡ store_name
   pub shard_notes : map lock_noted notes.shards.items ≡ shard_names
 
-abbrev head_of : List (List ℕ) → List ℕ
-head_of [] = []
-head_of (x ∷ xs) = x
-
-abbrev tail_of : List (List ℕ) → List (List ℕ)
-tail_of [] = []
-tail_of (x ∷ xs) = xs
-
 pub framed : (gate : GateView) (notes : GateNotes) (home gates shards : ℕ) (gate_names : List (List ℕ)) (store_name : List ℕ) (shard_names : List (List ℕ))
     → length notes.gates.items ≡ gate.gates → length gate_names ≡ gates
     → frame_of gate notes ≡ gate_frame home gates shards gate_names store_name shard_names
     → IsFramed gate notes home gates shards gate_names store_name shard_names
 framed gate notes home gates shards gate_names store_name shard_names noted_all named is =
     let number : (k : ℕ) → get_or (gate.home ∷ gate.gates ∷ gate.shards ∷ []) k 0 ≡ get_or (home ∷ gates ∷ shards ∷ []) k 0 = λ k. ap
-    (λ (f : Frame). get_or (head_of f) k 0) is in
+    (λ (f : Frame). get_or (head_or [] f) k 0) is in
     let names : map lock_noted notes.gates.items ++ lock_noted notes.store ∷ map lock_noted notes.shards.items ≡ gate_names ++ store_name ∷
     shard_names = ap tail_of is in
     let many : gate.gates ≡ gates = number 1 in
@@ -111,7 +90,7 @@ framed gate notes home gates shards gate_names store_name shard_names noted_all 
       gates_are = many;
       shards_are = number 2;
       gate_notes = parts.0;
-      store_note = ap head_of parts.1;
+      store_note = ap (head_or []) parts.1;
       shard_notes = ap tail_of parts.1;
     }
 
@@ -134,65 +113,72 @@ as_many {M} {E} locks notes named =
 
 -- The gatekeeper's notes
 
--- the notes have met the passes
-pub record AreMet {G S H : Type 0} (gate : GateView) (old new : GateNotes) (gate_locks : List (Chronicle G GateDeed))
+-- as many passes and notes as locks, before and after
+pub record AreAsMany {G H : Type 0} (old new : GateNotes) (gate_locks : List (Chronicle G GateDeed))
     (gates gates_now : List (Pass GateDeed))
-    (store_lock : Chronicle S StoreDeed) (store store_now : Pass StoreDeed) (shard_locks : List (Chronicle H ShardDeed))
-    (shards shards_now : List (Pass ShardDeed)) : Type 0 where
-  pub gate_count : gate.gates ≡ length gate_locks
-  pub shard_count : gate.shards ≡ length shard_locks
+    (shard_locks : List (Chronicle H ShardDeed)) (shards shards_now : List (Pass ShardDeed)) : Type 0 where
   pub gate_passes : length gates ≡ length gate_locks
   pub gate_passes_now : length gates_now ≡ length gates
   pub shard_passes : length shards ≡ length shard_locks
   pub shard_passes_now : length shards_now ≡ length shards
   pub gate_notes : length new.gates.items ≡ length old.gates.items
   pub shard_notes : length new.shards.items ≡ length old.shards.items
+
+-- the notes have met the passes
+pub record AreMet {G H : Type 0} (gate : GateView) (old new : GateNotes) (gate_locks : List (Chronicle G GateDeed))
+    (gates gates_now : List (Pass GateDeed)) (store store_now : Pass StoreDeed)
+    (shard_locks : List (Chronicle H ShardDeed))
+    (shards shards_now : List (Pass ShardDeed)) : Type 0 where
+  pub gate_count : gate.gates ≡ length gate_locks
+  pub shard_count : gate.shards ≡ length shard_locks
+  pub many : AreAsMany old new gate_locks gates gates_now shard_locks shards shards_now
   pub gates_met : AllMet gate_locks gates gates_now old.gates.items new.gates.items gate.home
-  pub store_met : HaveMet (lock_of store_lock) store store_now old.store new.store
+  pub store_met : Met (seen store) (seen store_now) (noted old.store) (noted new.store)
   pub shards_met : AllMet shard_locks shards shards_now old.shards.items new.shards.items (length shard_locks)
 
-module _ {G S H : Type 0} (gate : GateView) (old new : GateNotes) (gate_locks : List (Chronicle G GateDeed)) (gates gates_now : List (Pass GateDeed))
-    (store_lock : Chronicle S StoreDeed) (store store_now : Pass StoreDeed) (shard_locks : List (Chronicle H ShardDeed))
+module _ {G H : Type 0} (gate : GateView) (old new : GateNotes) (gate_locks : List (Chronicle G GateDeed))
+    (gates gates_now : List (Pass GateDeed))
+    (store store_now : Pass StoreDeed) (shard_locks : List (Chronicle H ShardDeed))
     (shards shards_now : List (Pass ShardDeed))
-    (kept : IsKept gate old) (met : AreMet gate old new gate_locks gates gates_now store_lock store store_now shard_locks shards shards_now) where
+    (kept : GateIsKept gate old) (met : AreMet gate old new gate_locks gates gates_now store store_now shard_locks shards shards_now) where
   at_gate : (k : ℕ) → k ≢ gate.home
       → Met (get_or (map seen gates) k []) (get_or (map seen gates_now) k []) (get_or (map noted old.gates.items) k [])
       (get_or (map noted new.gates.items) k [])
   at_gate k other =
       let noted_all : length old.gates.items ≡ length gate_locks = omega (arith, kept.gates, met.gate_count) in
-      met_at gate_locks gates gates_now old.gates.items new.gates.items gate.home met.gates_met met.gate_passes
-      (omega (arith, met.gate_passes, met.gate_passes_now)) noted_all (omega (arith, met.gate_notes, noted_all)) k (λ low. other)
-
-  at_store : Met (seen store) (seen store_now) (noted old.store) (noted new.store)
-  at_store = met_of _ _ _ _ _ met.store_met
+      met_at gate_locks gates gates_now old.gates.items new.gates.items gate.home met.gates_met met.many.gate_passes
+      (omega (arith, met.many.gate_passes, met.many.gate_passes_now)) noted_all
+      (omega (arith, met.many.gate_notes, noted_all)) k (λ low. other)
 
   at_shard : (k : ℕ) → Met (get_or (map seen shards) k []) (get_or (map seen shards_now) k []) (get_or (map noted old.shards.items) k [])
       (get_or (map noted new.shards.items) k [])
   at_shard k =
       let noted_all : length old.shards.items ≡ length shard_locks = omega (arith, kept.shards, met.shard_count) in
-      met_at shard_locks shards shards_now old.shards.items new.shards.items (length shard_locks) met.shards_met met.shard_passes
-      (omega (arith, met.shard_passes, met.shard_passes_now)) noted_all (omega (arith, met.shard_notes, noted_all)) k (λ low e. omega (arith, low, e))
+      met_at shard_locks shards shards_now old.shards.items new.shards.items
+      (length shard_locks) met.shards_met met.many.shard_passes
+      (omega (arith, met.many.shard_passes, met.many.shard_passes_now)) noted_all
+      (omega (arith, met.many.shard_notes, noted_all)) k (λ low e. omega (arith, low, e))
 
   low_old : gate.home < length (map noted old.gates.items)
   low_old = omega (arith, length-map old.gates.items noted, kept.gates, kept.home)
 
   low_new : gate.home < length (map noted new.gates.items)
-  low_new = omega (arith, length-map new.gates.items noted, met.gate_notes, kept.gates, kept.home)
+  low_new = omega (arith, length-map new.gates.items noted, met.many.gate_notes, kept.gates, kept.home)
 
   low_passes : gate.home < length (map seen gates)
-  low_passes = omega (arith, length-map gates seen, met.gate_passes, met.gate_count, kept.home)
+  low_passes = omega (arith, length-map gates seen, met.many.gate_passes, met.gate_count, kept.home)
 
   -- the notes have seen no less than they had
   pub notes_on : IsWithin (seen_of gate old) (seen_of gate new)
   notes_on = grows gate.home gate.log gate.log (map noted old.gates.items) (map noted new.gates.items) (noted old.store) (noted new.store)
       (map noted old.shards.items) (map noted new.shards.items) low_old low_new ([], sym (append-nil gate.log)) (λ k other. (at_gate k other).note_on)
-      at_store.note_on (λ k. (at_shard k).note_on)
+      met.store_met.note_on (λ k. (at_shard k).note_on)
 
   -- and no less than the passes had
   pub passes_on : (own : List GateEntry) → IsBeginningOf own gate.log → IsWithin (seen_by_passes gate.home own gates store shards) (seen_of gate new)
   passes_on own on = grows gate.home own gate.log (map seen gates) (map noted new.gates.items) (seen store) (noted new.store)
       (map seen shards) (map noted new.shards.items) low_passes low_new on (λ k other. (at_gate k other).pass_on)
-      at_store.pass_on (λ k. (at_shard k).pass_on)
+      met.store_met.pass_on (λ k. (at_shard k).pass_on)
 
   -- they have seen what the passes have
   pub one_account : seen_of gate new ≡ seen_by_passes gate.home gate.log gates_now store_now shards_now
@@ -202,29 +188,29 @@ module _ {G S H : Type 0} (gate : GateView) (old new : GateNotes) (gate_locks : 
         arith,
         length-map new.gates.items noted,
         length-map gates_now seen,
-        met.gate_notes,
+        met.many.gate_notes,
         kept.gates,
         met.gate_count,
-        met.gate_passes,
-        met.gate_passes_now,
+        met.many.gate_passes,
+        met.many.gate_passes_now,
       ))
       (omega (
         arith,
         length-map new.shards.items noted,
         length-map shards_now seen,
-        met.shard_notes,
+        met.many.shard_notes,
         kept.shards,
         met.shard_count,
-        met.shard_passes,
-        met.shard_passes_now,
+        met.many.shard_passes,
+        met.many.shard_passes_now,
       ))
-      (λ k other. (at_gate k other).one) at_store.one (λ k. (at_shard k).one)
+      (λ k other. (at_gate k other).one) met.store_met.one (λ k. (at_shard k).one)
 
-  module _ (laws : LowerLaws) (legal : AreLegal gate.gates gate.shards (seen_by_passes gate.home [] gates store shards)) where
+  module _ (laws : LawsForGateNotes) (legal : AreLegal gate.gates gate.shards (seen_by_passes gate.home [] gates store shards)) where
     legal_on : AreLegal gate.gates gate.shards (seen_of gate new)
     legal_on = legal_now gate.gates gate.shards gate.home gate.log (map noted old.gates.items) (map seen gates) (map noted new.gates.items)
         (noted old.store) (seen store) (noted new.store) (map noted old.shards.items) (map seen shards) (map noted new.shards.items) low_old low_new
-        kept.legal legal (λ k other. (at_gate k other).either) at_store.either (λ k. (at_shard k).either)
+        kept.legal legal (λ k other. (at_gate k other).either) met.store_met.either (λ k. (at_shard k).either)
 
     -- nothing is new in the own log
     none_new : (before : List GateEntry) (entry : GateEntry) (rest : List GateEntry) → gate_log (seen_of gate new) gate.home ≡ before ++ entry ∷ rest
@@ -237,11 +223,11 @@ module _ {G S H : Type 0} (gate : GateView) (old new : GateNotes) (gate_locks : 
         let L : List GateEntry → ℕ = λ l. length l in
         absurd (omega (arith, more, ap L was, ap L is, ap L at, length-append before (entry ∷ rest)))
 
-    pub kept_met : IsKept gate new
+    pub kept_met : GateIsKept gate new
     kept_met = record {
       home = kept.home;
-      gates = met.gate_notes ∙ kept.gates;
-      shards = met.shard_notes ∙ kept.shards;
+      gates = met.many.gate_notes ∙ kept.gates;
+      shards = met.many.shard_notes ∙ kept.shards;
       legal = legal_on;
       refers = laws.notes gate.gates gate.shards (seen_of gate old) (seen_of gate new) notes_on.gates notes_on.store notes_on.shards legal_on.shard_logs
           gate.home kept.refers none_new;
@@ -249,21 +235,22 @@ module _ {G S H : Type 0} (gate : GateView) (old new : GateNotes) (gate_locks : 
 
 -- The frame of a gatekeeper in a hold
 
-abbrev seen_as : GateView → GateNotes → NotedView
+abbrev seen_as : GateView → GateNotes → NotedGateView
 seen_as gate notes = record { gate = gate; notes = notes }
 
--- of a gatekeeper that contracts see as `now`
-pub at_locks : {G S H : Type 0} (gate : GateView) (notes : GateNotes) (now : NotedView) (home : ℕ)
-    (gate_locks : List (Chronicle G GateDeed)) (store_lock : Chronicle S StoreDeed) (shard_locks : List (Chronicle H ShardDeed))
-    → IsKept gate notes → seen_as gate notes ≡ now
-    → frame_of now.gate now.notes
-    ≡ gate_frame home (length gate_locks) (length shard_locks) (names_of gate_locks) (name_of (lock_of store_lock)) (names_of shard_locks)
-    → IsFramed gate notes home (length gate_locks) (length shard_locks) (names_of gate_locks) (name_of (lock_of store_lock))
-    (names_of shard_locks)
-at_locks {G} {S} {H} gate notes now home gate_locks store_lock shard_locks kept view is =
-    framed gate notes home (length gate_locks) (length shard_locks) (names_of gate_locks) (name_of (lock_of store_lock))
-    (names_of shard_locks) kept.gates (length-map gate_locks (λ (x : Chronicle G GateDeed). name_of (lock_of x)))
-    (ap (λ (v : NotedView). frame_of v.gate v.notes) view ∙ is)
+module _ {G S H : Type 0} (gate : GateView) (notes : GateNotes) (now : NotedGateView) (home : ℕ)
+    (gate_locks : List (Chronicle G GateDeed))
+    (store_lock : Chronicle S StoreDeed) (shard_locks : List (Chronicle H ShardDeed)) where
+  -- of a gatekeeper that contracts see as `now`
+  pub at_locks : GateIsKept gate notes → seen_as gate notes ≡ now
+      → frame_of now.gate now.notes
+      ≡ gate_frame home (length gate_locks) (length shard_locks) (names_of gate_locks) (name_of (lock_of store_lock)) (names_of shard_locks)
+      → IsFramed gate notes home (length gate_locks) (length shard_locks) (names_of gate_locks) (name_of (lock_of store_lock))
+      (names_of shard_locks)
+  at_locks kept view is =
+      framed gate notes home (length gate_locks) (length shard_locks) (names_of gate_locks) (name_of (lock_of store_lock))
+      (names_of shard_locks) kept.gates (length-map gate_locks (λ (x : Chronicle G GateDeed). name_of (lock_of x)))
+      (ap (λ (v : NotedGateView). frame_of v.gate v.notes) view ∙ is)
 
 -- the frame stays if the names do
 pub frame_still : (gate : GateView) (old new : GateNotes) → map lock_noted new.gates.items ≡ map lock_noted old.gates.items
@@ -271,29 +258,23 @@ pub frame_still : (gate : GateView) (old new : GateNotes) → map lock_noted new
     frame_of gate old
 frame_still gate old new gates_are store_is shards_are = λ i. gate_frame gate.home gate.gates gate.shards (gates_are i) (store_is i) (shards_are i)
 
--- what the frame says and what was met, in one
-pub are_met : {G S H : Type 0} (gate : GateView) (old new : GateNotes) (home : ℕ) (gate_locks : List (Chronicle G GateDeed))
-    (gates gates_now : List (Pass GateDeed))
-    (store_lock : Chronicle S StoreDeed) (store store_now : Pass StoreDeed) (shard_locks : List (Chronicle H ShardDeed))
-    (shards shards_now : List (Pass ShardDeed))
-    → IsFramed gate old home (length gate_locks) (length shard_locks) (names_of gate_locks) (name_of (lock_of store_lock)) (names_of shard_locks)
-    → length gates ≡ length gate_locks → length gates_now ≡ length gates → length shards ≡ length shard_locks → length shards_now ≡ length shards
-    → length new.gates.items ≡ length old.gates.items → length new.shards.items ≡ length old.shards.items
-    → AllMet gate_locks gates gates_now old.gates.items new.gates.items home → HaveMet (lock_of store_lock) store store_now old.store new.store
-    → AllMet shard_locks shards shards_now old.shards.items new.shards.items (length shard_locks)
-    → AreMet gate old new gate_locks gates gates_now store_lock store store_now shard_locks shards shards_now
-are_met gate old new home gate_locks gates gates_now store_lock store store_now shard_locks shards shards_now f gate_passes gate_passes_now
-    shard_passes shard_passes_now
-    gate_notes shard_notes gates_met store_met shards_met = record {
-      gate_count = f.gates_are;
-      shard_count = f.shards_are;
-      gate_passes = gate_passes;
-      gate_passes_now = gate_passes_now;
-      shard_passes = shard_passes;
-      shard_passes_now = shard_passes_now;
-      gate_notes = gate_notes;
-      shard_notes = shard_notes;
-      gates_met = subst (λ (h : ℕ). AllMet gate_locks gates gates_now old.gates.items new.gates.items h) (sym f.home_is) gates_met;
-      store_met = store_met;
+module _ {G S H : Type 0} (gate : GateView) (old new : GateNotes) (home : ℕ) (gate_locks : List (Chronicle G GateDeed))
+    (gates gates_now : List (Pass GateDeed)) (store_lock : Chronicle S StoreDeed) (store store_now : Pass StoreDeed)
+    (shard_locks : List (Chronicle H ShardDeed)) (shards shards_now : List (Pass ShardDeed))
+    (frame : IsFramed gate old home (length gate_locks) (length shard_locks) (names_of gate_locks)
+    (name_of (lock_of store_lock)) (names_of shard_locks))
+  where
+    -- what the frame says and what was met, in one
+    pub are_met : AreAsMany old new gate_locks gates gates_now shard_locks shards shards_now
+        → AllMet gate_locks gates gates_now old.gates.items new.gates.items home → HaveMet (lock_of store_lock) store store_now old.store new.store
+        → AllMet shard_locks shards shards_now old.shards.items new.shards.items (length shard_locks)
+        → AreMet gate old new gate_locks gates gates_now store store_now shard_locks shards shards_now
+    are_met many gates_met store_met shards_met = record {
+      gate_count = frame.gates_are;
+      shard_count = frame.shards_are;
+      many = many;
+      gates_met = subst (λ (h : ℕ). AllMet gate_locks gates gates_now old.gates.items new.gates.items h)
+          (sym frame.home_is) gates_met;
+      store_met = met_of _ _ _ _ _ store_met;
       shards_met = shards_met;
     }

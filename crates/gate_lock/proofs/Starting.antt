@@ -1,4 +1,5 @@
 -- Notes of whole logs are enough, if the logs are legal and have all that the gatekeeper's own log refers to.
+-- Used by `notes_of_whole_logs_are_enough`.
 use Rattle.std.proofs.Common.{◌≡◌, ℕ, ◌<◌, ◌≤◌, List, [], ◌∷◌, ◌++◌, length, refl, sym, ap, ◌∙◌, arith}
 use Rattle.std.proofs.lemmas.List.{append-nil, length-append}
 use Rattle.weave_entries.specs.declared.gate_log.GateEntry.{GateEntry}
@@ -9,13 +10,13 @@ use Rattle.weave_account.specs.GoesOn.{IsBeginningOf}
 use Rattle.seen_logs.specs.References.{GateRefersAs}
 use Rattle.seen_logs.specs.Seen.{AreLegal, GateRefersWithin}
 use Rattle.gate_lock.specs.declared.notes.GateNotes.{GateNotes}
-use Rattle.gate_lock.specs.LowerLaws.{LowerLaws}
-use Rattle.gate_lock.specs.Notes.{IsKept, seen_of}
+use Rattle.gate_lock.specs.LowerLaws.{LawsForGateNotes}
+use Rattle.gate_lock.specs.Notes.{GateIsKept, seen_of}
 
 same_on : {A : Type 0} (xs ys : List A) → ys ≡ xs → IsBeginningOf xs ys
 same_on xs ys is = ([], is ∙ sym (append-nil xs))
 
-module _ (laws : LowerLaws) (gate : GateView) (notes : GateNotes) (account : Account) (home : gate.home < gate.gates)
+module _ (laws : LawsForGateNotes) (gate : GateView) (notes : GateNotes) (account : Account) (home : gate.home < gate.gates)
     (gates : length notes.gates.items ≡ gate.gates) (shards : length notes.shards.items ≡ gate.shards)
     (legal : AreLegal gate.gates gate.shards account) (refers : GateRefersWithin gate.shards account gate.home)
     (gates_are : (k : ℕ) → gate_log (seen_of gate notes) k ≡ gate_log account k) (store_is : (seen_of gate notes).store ≡ account.store)
@@ -34,7 +35,7 @@ module _ (laws : LowerLaws) (gate : GateView) (notes : GateNotes) (account : Acc
       let L : List GateEntry → ℕ = λ l. length l in
       absurd (omega (arith, long, ap L (gates_are gate.home), ap L at, length-append front (entry ∷ rest)))
 
-  pub kept_at_start : IsKept gate notes
+  pub kept_at_start : GateIsKept gate notes
   kept_at_start = record {
     home = home;
     gates = gates;

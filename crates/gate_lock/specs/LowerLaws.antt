@@ -1,4 +1,4 @@
--- The laws of the crates below that this crate stands on, in one. No public contract cites this.
+-- The laws of the crates below that this crate relies on, in one record. No public contract cites this.
 use Rattle.std.specs.Prelude.{◌≡◌, ℕ, ◌+◌, ◌<◌, ◌≤◌, List, [], ◌∷◌, ◌++◌, length, Contains, IsTrue}
 use Rattle.program_defs.specs.declared.script.Script.{Script}
 use Rattle.vector_stamp.specs.declared.clock.Clock.{Clock}
@@ -19,7 +19,7 @@ use Rattle.seen_logs.specs.References.{GateRefersAs}
 use Rattle.seen_logs.specs.Seen.{AreLegal, GateRefersWithin, GatesGoOn, IsWithin, ShardsGoOn}
 
 -- what was seen goes on, known clocks may be heard, and messages that were sent are made
-pub record LowerLaws : Type 0 where
+pub record LawsForGateNotes : Type 0 where
   pub hears : (home : ℕ) (log : List GateEntry) (entry : GateEntry)
       → HearsNoMore home log → HearsAs home log entry.deed → HearsNoMore home (log ++ entry ∷ [])
   pub channel : (home shards shard : ℕ) (log : List GateEntry) → home < 8 → IsGateLog home shards log

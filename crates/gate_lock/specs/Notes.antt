@@ -44,20 +44,20 @@ frame_of gate notes = gate_frame gate.home gate.gates gate.shards (map lock_note
     (lock_noted notes.store) (map lock_noted notes.shards.items)
 
 -- a gatekeeper with notes as contracts see it
-pub record NotedView : Type 0 where
+pub record NotedGateView : Type 0 where
   pub gate : GateView
   pub notes : GateNotes
 
 -- What a gatekeeper's type keeps. There is a note of each lock. Each list that was seen is legal, and all that the
 -- log's entries refer to was seen.
-pub record IsKept (gate : GateView) (notes : GateNotes) : Type 0 where
+pub record GateIsKept (gate : GateView) (notes : GateNotes) : Type 0 where
   pub home : gate.home < gate.gates
   pub gates : length notes.gates.items ≡ gate.gates
   pub shards : length notes.shards.items ≡ gate.shards
   pub legal : AreLegal gate.gates gate.shards (seen_of gate notes)
   pub refers : GateRefersWithin gate.shards (seen_of gate notes) gate.home
 
--- these operations were judged so for the transaction in flight, as far as the store's log was seen
+-- this verdict on these operations is that of the transaction in flight, as far as the store's log was seen
 pub record HasJudged (account : Account) (flight : Begun) (ops : List Op) (verdict : Verdict) : Type 0 where
   pub judged : Judgement
   pub is_judged : Contains (judgements_of account.store) judged

@@ -34,7 +34,7 @@ impl<S: Machine, H: Machine> Bare for BareGate<S, H> {
 }
 
 impl<S: Machine<Entry = StoreDeed>, H: Machine<Entry = ShardDeed>> BareGate<S, H> {
-    /// A gatekeeper beside these locks.
+    /// A gatekeeper with these locks.
     pub fn new(gate: Gate, store: &Chronicle<S>, shards: &Vec<Chronicle<H>>) -> BareGate<S, H>
         ensures gate { result.gate ≡ gate }
         ensures store { result.store.value ≡ store.now }

@@ -9,11 +9,11 @@ ghost use Rattle.seen_logs.specs.Seen.{AreLegal, GateRefersWithin};
 ghost use Rattle.chronicle.specs.Logs.{Log};
 ghost use Rattle.gate_lock.specs.declared.notes.GateNotes.{GateNotes};
 ghost use Rattle.gate_lock.specs.Entries.{gate_entries, gate_pair};
-ghost use Rattle.gate_lock.specs.Notes.{IsKept, seen_of};
+ghost use Rattle.gate_lock.specs.Notes.{GateIsKept, seen_of};
 
 use crate::lower_laws::the_crates_below_keep_their_laws;
 
-/// A gatekeeper's log is the one that its lock has as pairs, and the other way round.
+/// A gatekeeper's entries come back from the pairs that its lock has, and the pairs from the entries.
 pub fn entries_come_back()
     ensures log { (log : List GateEntry) → gate_entries (map gate_pair log) ≡ log }
     ensures pairs { (log : Log GateDeed) → map gate_pair (gate_entries log) ≡ log }
@@ -27,7 +27,7 @@ pub fn notes_of_whole_logs_are_enough()
         → AreLegal gate.gates gate.shards account → GateRefersWithin gate.shards account gate.home
         → ((k : ℕ) → gate_log (seen_of gate notes) k ≡ gate_log account k)
         → (seen_of gate notes).store ≡ account.store
-        → ((k : ℕ) → shard_log (seen_of gate notes) k ≡ shard_log account k) → IsKept gate notes }
+        → ((k : ℕ) → shard_log (seen_of gate notes) k ≡ shard_log account k) → GateIsKept gate notes }
 {
     the_crates_below_keep_their_laws();
 }

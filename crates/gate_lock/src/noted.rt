@@ -20,7 +20,7 @@ ghost use Rattle.chronicle.specs.Passes.{IsReady};
 ghost use Rattle.lock_row.specs.Rows.{names_of, AreReady};
 ghost use Rattle.lock_row.specs.Meetings.{AllMet, HaveMet};
 ghost use Rattle.gate_lock.specs.Frames.{gate_frame, AreReadyBut};
-ghost use Rattle.gate_lock.specs.Notes.{frame_of, seen_of, seen_by_passes, HasJudged, IsKept};
+ghost use Rattle.gate_lock.specs.Notes.{frame_of, seen_of, seen_by_passes, HasJudged, GateIsKept};
 
 use crate::copying::copy_of;
 use crate::hearing::hear_with_room;
@@ -42,13 +42,13 @@ pub struct NotedGate {
 }
 
 impl Model for NotedGate {
-    ghost use Rattle.gate_lock.specs.Notes.{NotedView, IsKept};
+    ghost use Rattle.gate_lock.specs.Notes.{NotedGateView, GateIsKept};
 
-    ghost Value = { NotedView };
+    ghost Value = { NotedGateView };
 
     ghost view = { λ n. record { gate = n.gate; notes = n.notes } };
 
-    ghost invariant = { λ n. IsKept n.gate n.notes };
+    ghost invariant = { λ n. GateIsKept n.gate n.notes };
 }
 
 impl Machine for NotedGate {
@@ -66,7 +66,7 @@ impl Machine for NotedGate {
 impl NotedGate {
     /// A gatekeeper with these notes, which have seen all that its log refers to.
     pub fn new(gate: Gate, notes: GateNotes) -> NotedGate
-        requires { IsKept gate notes }
+        requires { GateIsKept gate notes }
         ensures gate { result.gate ≡ gate }
         ensures notes { result.notes ≡ notes }
     {
@@ -83,7 +83,7 @@ impl NotedGate {
 
     /// What it keeps: all that its log refers to was seen, and each list that was seen is legal.
     pub fn shows_what_it_keeps(&self)
-        ensures { IsKept self.now.gate self.now.notes }
+        ensures { GateIsKept self.now.gate self.now.notes }
     {
         let _gate = &self.gate;
     }

@@ -1,4 +1,5 @@
 -- A request is begun at a gatekeeper whose fields are what the replay of its log gives.
+-- Used by `begin_program`, `begin_tx`, `fetch`, `nop` and Messages.
 use Rattle.std.proofs.Common.{◌≡◌, ℕ, ◌^◌, ◌-◌, ◌<◌, ◌≤◌, false, nat_eq, List, [], length, slice_get, is_some, IsTrue, Option, None, Some, inl, inr, refl, sym, ap, subst, ◌∙◌, arith}
 use Rattle.std.specs.Option.{ForSome, option_map, option_and_then}
 use Rattle.vector_stamp.specs.declared.clock.Clock.{Clock}
@@ -36,7 +37,7 @@ HeardIsBefore = (home : ℕ) (clock heard : Clock) → home < 8 → HasEightCoun
 abbrev pub SendsNoneBeyond : Type 0
 SendsNoneBeyond = (home shards shard : ℕ) (log : List GateEntry) → IsGateLog home shards log → shards ≤ shard → channel_of shard log ≡ []
 
--- where the field is empty no transaction is in flight
+-- if the field is empty no transaction is in flight
 pub none_flies : (flight : Option Flight) (flies : Option Begun) → option_map as_begun flight ≡ flies → is_some flight ≡ false → flies ≡ None
 none_flies None flies is none = sym is
 none_flies (Some one) flies is none = absurd (cc)

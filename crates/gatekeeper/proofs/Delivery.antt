@@ -1,17 +1,16 @@
 -- The places of messages go to their channels, one after another.
-use Rattle.std.proofs.Common.{◌≡◌, ◌≢◌, ℕ, zero, suc, ◌+◌, ◌<◌, nat_eq, List, [], ◌∷◌, ◌++◌, length, get_or, slice_get, slice_set, Some, inl, inr, refl, sym, ap, subst, ◌∙◌, arith}
+-- Used by `make_all_room`, `send_all` and `send_one`.
+use Rattle.std.proofs.Common.{◌≡◌, ℕ, ◌+◌, ◌<◌, nat_eq, List, [], ◌∷◌, ◌++◌, length, get_or, slice_get, slice_set, Some, inl, inr, refl, sym, ap, subst, ◌∙◌, arith}
 use Rattle.std.proofs.lemmas.Bool.{cases_Bool, cases_eq, eqb-true, eq-eqb}
-use Rattle.std.proofs.lemmas.List.{append_assoc, append-nil, length-set, get_or-set_same}
-use Rattle.std.proofs.lemmas.Option.{slice_get_read, slice_get_within, slice_get-get_or, get_or_from_slice_get}
+use Rattle.std.proofs.lemmas.List.{append_assoc, append-nil, length-set}
+use Rattle.std.proofs.lemmas.Option.{slice_get_within, slice_get-get_or, get_or_from_slice_get, same_Some}
+use Rattle.weave_data.proofs.Lists.{get_set_here, get_set_other}
 use Rattle.shard_queue.specs.Sent.{Channel}
 use Rattle.weave_entries.specs.declared.message.Addressed.{Addressed}
 use Rattle.weave_entries.specs.GateReplay.{to_shard}
 use Rattle.gatekeeper.specs.declared.places.Place.{Place}
 use Rattle.gatekeeper.specs.Places.{places_to}
 use Rattle.gatekeeper.specs.Messages.{CanAllGo, HasRoomAt, KeepsSent, IsSentOn, AreSent}
-
-pub some_is : {A : Type 0} {x y : A} → Some x ≡ Some y → x ≡ y
-some_is is = cc
 
 to_here : (one : Addressed) (rest : List Addressed) (shard : ℕ) → one.shard ≡ shard → to_shard shard (one ∷ rest) ≡ one ∷ to_shard shard rest
 to_here one rest shard is = rw (eq-eqb one.shard shard is) refl
@@ -74,7 +73,7 @@ goes-step old now next entry all index one rest goes sent =
             let first : HasRoomAt now one.shard = can.0 in
             let found = sent.here first.channel first.at in
             let was = goes.each shard first.channel (ap (λ n. slice_get now n) same ∙ first.at) in
-            let here : found.0 ≡ after = some_is (sym found.1 ∙ ap (λ n. slice_get next n) (sym same) ∙ at) in
+            let here : found.0 ≡ after = same_Some _ _ (sym found.1 ∙ ap (λ n. slice_get next n) (sym same) ∙ at) in
             let grown : after.sent ++ places_to shard entry (index + 1) rest ≡ first.channel.sent ++ places_to shard entry index (one ∷ rest) =
             ap (λ (c : Channel Place). c.sent ++ places_to shard entry (index + 1) rest) (sym here)
             ∙ ap (λ ps. ps ++ places_to shard entry (index + 1) rest) found.2
@@ -92,16 +91,6 @@ pub goes-end : (old now : List (Channel Place)) (entry : ℕ) (all : List Addres
 goes-end old now entry all index goes = record { count = goes.count; each = λ shard after at. let was = goes.each shard after at in (was.0, was.1, sym (append-nil after.sent) ∙ was.2) }
 
 -- Places in a list
-
-pub get_set_here : {A : Type 0} (xs : List A) (place : ℕ) (x : A) → place < length xs → slice_get (slice_set xs place x) place ≡ Some x
-get_set_here xs place x within = slice_get_read (slice_set xs place x) _ place x refl (omega (arith, length-set xs place x)) (sym (get_or-set_same xs place x x within))
-
-pub get_set_other : {A : Type 0} (xs : List A) (place other : ℕ) (x : A) → other ≢ place → slice_get (slice_set xs place x) other ≡ slice_get xs other
-get_set_other [] place other x differ = refl
-get_set_other (y ∷ xs) zero zero x differ = absurd (differ refl)
-get_set_other (y ∷ xs) zero (suc other) x differ = refl
-get_set_other (y ∷ xs) (suc place) zero x differ = refl
-get_set_other (y ∷ xs) (suc place) (suc other) x differ = get_set_other xs place other x (λ e. differ (ap suc e))
 
 pub got_is : {A : Type 0} (xs : List A) (place : ℕ) (x y : A) → slice_get xs place ≡ Some x → y ≡ get_or xs place y → y ≡ x
 got_is xs place x y at is = is ∙ get_or_from_slice_get xs place x y at
@@ -138,7 +127,7 @@ room_stays now next shard keeps had =
     let same = keeps.count in
     let found : slice_get next shard ≡ Some (get_or next shard had.channel) = slice_get-get_or next shard had.channel (omega arith) in
     let was = keeps.each shard (get_or next shard had.channel) found in
-    let is : had.channel ≡ was.0 = some_is (sym had.at ∙ was.1) in
+    let is : had.channel ≡ was.0 = same_Some _ _ (sym had.at ∙ was.1) in
     let room = had.room in
     let more = was.3 in
     let e : had.channel.spare ≡ was.0.spare = ap (λ (c : Channel Place). c.spare) is in

@@ -1,9 +1,9 @@
 -- Fields that are what the replay of the log gives, after one more entry.
-use Rattle.std.proofs.Common.{◌≡◌, ℕ, ◌<◌, ◌≤◌, List, [], ◌∷◌, ◌++◌, All, length, map, slice_get, Contains, IsTrue, Option, None, Some, inl, inr, refl, sym, ap, subst, ◌∙◌}
+-- Used by `begin_program`, `begin_tx`, `epoch`, `finish`, `hear`, `new`, `nop` and `send`.
+use Rattle.std.proofs.Common.{◌≡◌, ℕ, ◌<◌, ◌≤◌, List, [], ◌∷◌, ◌++◌, All, length, map, Contains, IsTrue, Option, None, inl, inr, refl, sym, ap, subst, ◌∙◌}
 use Rattle.std.specs.Map.{lookup}
 use Rattle.std.specs.Option.{option_map}
-use Rattle.std.proofs.lemmas.List.{append-nil, map-append}
-use Rattle.std.proofs.lemmas.List.Sums.{fold-append}
+use Rattle.std.proofs.lemmas.List.{append-nil}
 use Rattle.std.proofs.lemmas.Option.{slice_get_within, get_or_from_slice_get}
 use Rattle.vector_stamp.specs.declared.clock.Clock.{Clock}
 use Rattle.vector_stamp.specs.Clocks.{start_clock}
@@ -12,8 +12,9 @@ use Rattle.weave_entries.specs.declared.message.Message.{Message}
 use Rattle.weave_entries.specs.declared.message.Addressed.{Addressed}
 use Rattle.weave_entries.specs.declared.gate_log.GateEntry.{GateEntry}
 use Rattle.weave_entries.specs.declared.gate_log.GateDeed.{GateDeed}
-use Rattle.weave_entries.specs.GateReplay.{Begun, clock_after, clock_of, flight_after, flight_of, running_after, messages_by, to_shard, stamps_by, stamps_of, running_of, addressed_to, channel_of}
+use Rattle.weave_entries.specs.GateReplay.{Begun, clock_after, flight_after, running_after, messages_by, to_shard, stamps_by, stamps_of, running_of, channel_of}
 use Rattle.weave_entries.specs.GateRules.{FitsAs}
+use Rattle.weave_entries.proofs.Replay.{channel-push, clock-push, flight-push, running-push, stamps-push}
 use Rattle.gatekeeper.specs.declared.begun.Flight.{Flight}
 use Rattle.gatekeeper.specs.Opened.{as_begun}
 use Rattle.gatekeeper.specs.Gates.{HaveBits, IsReplayOf}
@@ -21,27 +22,12 @@ use Rattle.gatekeeper.specs.Running.{same_program, HoldsPrograms}
 use Rattle.gatekeeper.specs.declared.places.Place.{Place}
 use Rattle.gatekeeper.specs.Places.{LeadTo}
 use Rattle.gatekeeper.specs.Messages.{KeepsSent}
-use Rattle.gatekeeper.proofs.Leading.{lead-still}
-use Rattle.proof_base.proofs.Ends.{flat_push}
-use Rattle.proof_base.proofs.Entries.{each_none, each_push}
-use Rattle.proof_base.proofs.Members.{has_none, only}
+use Rattle.gatekeeper.proofs.Leading.{lead-still, LeadAfter}
+use Rattle.weave_data.proofs.Entries.{each_none, each_push}
+use Rattle.weave_data.proofs.Members.{has_none, only}
 use Rattle.std.proofs.lemmas.List.Elements.{Contains-append_cases}
 use Rattle.vector_stamp.specs.declared.clock.Stamp.{Stamp}
 use Rattle.vector_stamp.specs.Order.{has_64_bits}
-
--- the replay with one more entry
-module _ (log : List GateEntry) (entry : GateEntry) where
-  clock-push : (home : ℕ) → clock_of home (log ++ entry ∷ []) ≡ clock_after home (clock_of home log) entry.deed
-  clock-push home = fold-append _ _ log (entry ∷ [])
-
-  flight-push : flight_of (log ++ entry ∷ []) ≡ flight_after (flight_of log) entry.author entry.deed
-  flight-push = fold-append _ _ log (entry ∷ [])
-
-  running-push : running_of (log ++ entry ∷ []) ≡ running_after (running_of log) entry.author entry.deed
-  running-push = fold-append _ _ log (entry ∷ [])
-
-  channel-push : (shard : ℕ) → channel_of shard (log ++ entry ∷ []) ≡ channel_of shard log ++ map (λ (addressed : Addressed). addressed.message) (to_shard shard (messages_by entry.deed))
-  channel-push shard = rw (flat_push (λ (one : GateEntry). to_shard shard (messages_by one.deed)) log entry) (map-append _ (addressed_to shard log) (to_shard shard (messages_by entry.deed)))
 
 -- one stamp, and none
 pub one_bits : (stamp : Stamp) → IsTrue (has_64_bits stamp.clock) → HaveBits (stamp ∷ [])
@@ -50,38 +36,72 @@ one_bits stamp bits one has = subst (λ (s : Stamp). IsTrue (has_64_bits s.clock
 pub no_bits : HaveBits []
 no_bits stamp has = absurd (has_none stamp has)
 
--- each field goes on as the entry says
-pub keeps_on : (home shards : ℕ) (clock : Clock) (flight : Option Flight) (running : List ((ℕ × ℕ) × Clock)) (channels : List (Channel Place)) (nops : List Message) (log : List GateEntry) (author : ℕ) (deed : GateDeed) (next : Clock) (flying : Option Flight) (run : List ((ℕ × ℕ) × Clock)) (sent : List (Channel Place)) (empty : List Message) (longer : List GateEntry) → IsReplayOf home shards clock flight running channels nops log → FitsAs home shards log author deed → HaveBits (stamps_by deed) → longer ≡ log ++ record { author = author; deed = deed } ∷ [] → next ≡ clock_after home clock deed → option_map as_begun flying ≡ flight_after (option_map as_begun flight) author deed → HoldsPrograms run (running_after (running_of log) author deed) → length sent ≡ shards → ((shard : ℕ) (channel : Channel Place) → slice_get sent shard ≡ Some channel → LeadTo empty (log ++ record { author = author; deed = deed } ∷ []) channel.sent (channel_of shard log ++ map (λ (addressed : Addressed). addressed.message) (to_shard shard (messages_by deed)))) → IsReplayOf home shards next flying run sent empty longer
-keeps_on home shards clock flight running channels nops log author deed next flying run sent empty longer kept fits bits longer_is next_is flying_is run_is all_sent sent_is =
-    let entry : GateEntry = record { author = author; deed = deed } in
-    subst (λ (l : List GateEntry). IsReplayOf home shards next flying run sent empty l) (sym longer_is) (record {
-      clock_is = next_is ∙ ap (λ (c : Clock). clock_after home c deed) kept.clock_is ∙ sym (clock-push log entry home);
-      flight_is = flying_is ∙ ap (λ (f : Option Begun). flight_after f author deed) kept.flight_is ∙ sym (flight-push log entry);
-      running_is = subst (HoldsPrograms run) (sym (running-push log entry)) run_is;
-      all_channels = all_sent;
-      channels_are = λ shard channel at. subst (LeadTo empty (log ++ entry ∷ []) channel.sent) (sym (channel-push log entry shard)) (sent_is shard channel at);
-      home_is = kept.home_is;
-      some_shard = kept.some_shard;
-      rules = each_push (λ before (one : GateEntry). FitsAs home shards before one.author one.deed) log entry kept.rules fits;
-      bits = λ stamp has. elim (Contains-append_cases (stamps_of log) (stamps_by deed) stamp (subst (λ (ss : List Stamp). Contains ss stamp) (flat_push (λ (one : GateEntry). stamps_by one.deed) log entry) has)) [
-        | inl earlier ↦ kept.bits stamp earlier
-        | inr new ↦ bits stamp new
-      ];
-    })
+-- with one more entry, of a deed that fits, the clock, the flight and the programs go on as the deed says
+pub record GoesOnBy (home shards : ℕ) (clock : Clock) (flight : Option Flight) (log : List GateEntry) (author : ℕ)
+    (deed : GateDeed)
+    (next : Clock) (flying : Option Flight) (run : List ((ℕ × ℕ) × Clock)) (longer : List GateEntry) : Type 0 where
+  pub fits : FitsAs home shards log author deed
+  pub bits : HaveBits (stamps_by deed)
+  pub log_is : longer ≡ log ++ record { author = author; deed = deed } ∷ []
+  pub clock_is : next ≡ clock_after home clock deed
+  pub flight_is : option_map as_begun flying ≡ flight_after (option_map as_begun flight) author deed
+  pub running_is : HoldsPrograms run (running_after (running_of log) author deed)
 
--- and where it sends nothing, the channels stay
-pub keeps_still : (home shards : ℕ) (clock : Clock) (flight : Option Flight) (running : List ((ℕ × ℕ) × Clock)) (channels : List (Channel Place)) (nops : List Message) (log : List GateEntry) (author : ℕ) (deed : GateDeed) (next : Clock) (flying : Option Flight) (run : List ((ℕ × ℕ) × Clock)) (longer : List GateEntry) → IsReplayOf home shards clock flight running channels nops log → FitsAs home shards log author deed → HaveBits (stamps_by deed) → messages_by deed ≡ [] → longer ≡ log ++ record { author = author; deed = deed } ∷ [] → next ≡ clock_after home clock deed → option_map as_begun flying ≡ flight_after (option_map as_begun flight) author deed → HoldsPrograms run (running_after (running_of log) author deed) → IsReplayOf home shards next flying run channels nops longer
-keeps_still home shards clock flight running channels nops log author deed next flying run longer kept fits bits nothing longer_is next_is flying_is run_is =
-    let entry : GateEntry = record { author = author; deed = deed } in
-    keeps_on home shards clock flight running channels nops log author deed next flying run channels nops longer kept fits bits longer_is next_is flying_is run_is kept.all_channels
-    (λ shard channel at.
-    let lead = lead-still nops [] log (entry ∷ []) channel.sent (channel_of shard log) (kept.channels_are shard channel at) in
-    let same : channel_of shard log ≡ channel_of shard log ++ map (λ (addressed : Addressed). addressed.message) (to_shard shard (messages_by deed)) =
-    sym (append-nil (channel_of shard log)) ∙ ap (λ (ms : List Addressed). channel_of shard log ++ map (λ (addressed : Addressed). addressed.message) (to_shard shard ms)) (sym nothing) in
-    subst (LeadTo nops (log ++ entry ∷ []) channel.sent) same (subst (λ (ns : List Message). LeadTo ns (log ++ entry ∷ []) channel.sent (channel_of shard log)) (append-nil nops) lead))
+module _ (home shards : ℕ) (clock : Clock) (flight : Option Flight) (running : List ((ℕ × ℕ) × Clock))
+    (channels : List (Channel Place))
+    (nops : List Message) (log : List GateEntry) (author : ℕ) (deed : GateDeed) (next : Clock) (flying : Option Flight)
+    (run : List ((ℕ × ℕ) × Clock)) where
+  -- each field goes on as the entry says
+  pub keeps_on : (sent : List (Channel Place)) (empty : List Message) (longer : List GateEntry)
+      → IsReplayOf home shards clock flight running channels nops log
+      → GoesOnBy home shards clock flight log author deed next flying run longer
+      → length sent ≡ shards → LeadAfter empty log author deed sent
+      → IsReplayOf home shards next flying run sent empty longer
+  keeps_on sent empty longer kept goes all_sent sent_is =
+      let entry : GateEntry = record { author = author; deed = deed } in
+      subst (λ (l : List GateEntry). IsReplayOf home shards next flying run sent empty l) (sym goes.log_is) (record {
+        clock_is = goes.clock_is ∙ ap (λ (c : Clock). clock_after home c deed) kept.clock_is
+            ∙ sym (clock-push log entry home);
+        flight_is = goes.flight_is ∙ ap (λ (f : Option Begun). flight_after f author deed) kept.flight_is
+            ∙ sym (flight-push log entry);
+        running_is = subst (HoldsPrograms run) (sym (running-push log entry)) goes.running_is;
+        all_channels = all_sent;
+        channels_are = λ shard channel at.
+            subst (LeadTo empty (log ++ entry ∷ []) channel.sent) (sym (channel-push log entry shard))
+            (sent_is shard channel at);
+        home_is = kept.home_is;
+        some_shard = kept.some_shard;
+        rules = each_push (λ before (one : GateEntry). FitsAs home shards before one.author one.deed) log entry kept.rules goes.fits;
+        bits = λ stamp has. elim (Contains-append_cases (stamps_of log) (stamps_by deed) stamp
+            (subst (λ (ss : List Stamp). Contains ss stamp) (stamps-push log entry) has)) [
+              | inl earlier ↦ kept.bits stamp earlier
+              | inr new ↦ goes.bits stamp new
+            ];
+      })
 
--- the programs may stand in another table, and the log in another place
-pub keeps_programs : (home shards : ℕ) (clock : Clock) (flight : Option Flight) (running : List ((ℕ × ℕ) × Clock)) (channels : List (Channel Place)) (nops : List Message) (log : List GateEntry) (run : List ((ℕ × ℕ) × Clock)) (same : List GateEntry) → IsReplayOf home shards clock flight running channels nops log → HoldsPrograms run (running_of log) → same ≡ log → IsReplayOf home shards clock flight run channels nops same
+  -- and where it sends nothing, the channels stay
+  pub keeps_still : (longer : List GateEntry) → IsReplayOf home shards clock flight running channels nops log
+      → GoesOnBy home shards clock flight log author deed next flying run longer → messages_by deed ≡ []
+      → IsReplayOf home shards next flying run channels nops longer
+  keeps_still longer kept goes nothing =
+      let entry : GateEntry = record { author = author; deed = deed } in
+      keeps_on channels nops longer kept goes kept.all_channels
+      (λ shard channel at.
+      let lead = lead-still nops [] log (entry ∷ []) channel.sent (channel_of shard log) (kept.channels_are shard channel at) in
+      let same : channel_of shard log ≡ channel_of shard log ++ map (λ (addressed : Addressed). addressed.message) (to_shard shard (messages_by deed)) =
+      sym (append-nil (channel_of shard log))
+      ∙ ap (λ (ms : List Addressed). channel_of shard log ++ map (λ (addressed : Addressed). addressed.message)
+      (to_shard shard ms)) (sym nothing) in
+      subst (LeadTo nops (log ++ entry ∷ []) channel.sent) same
+      (subst (λ (ns : List Message). LeadTo ns (log ++ entry ∷ []) channel.sent (channel_of shard log))
+      (append-nil nops) lead))
+
+-- the programs may be in another table, and the log in another place
+pub keeps_programs : (home shards : ℕ) (clock : Clock) (flight : Option Flight) (running : List ((ℕ × ℕ) × Clock))
+    (channels : List (Channel Place)) (nops : List Message) (log : List GateEntry) (run : List ((ℕ × ℕ) × Clock))
+    (same : List GateEntry)
+    → IsReplayOf home shards clock flight running channels nops log → HoldsPrograms run (running_of log) → same ≡ log
+    → IsReplayOf home shards clock flight run channels nops same
 keeps_programs home shards clock flight running channels nops log run same kept holds is =
     subst (λ (l : List GateEntry). IsReplayOf home shards clock flight run channels nops l) (sym is) (record {
       clock_is = kept.clock_is;

@@ -1,11 +1,12 @@
 -- The places of a channel lead to the messages that were sent on it, and still do when more is sent.
+-- Used by Begins, Keeping and Messages.
 use Rattle.std.proofs.Common.{◌≡◌, ℕ, zero, suc, ◌+◌, ◌-◌, nat_eq, List, [], ◌∷◌, ◌++◌, length, map, slice_get, Some, inl, inr, refl, sym, ap, ◌∙◌, arith}
 use Rattle.std.specs.Option.{option_map, option_and_then}
 use Rattle.std.proofs.lemmas.Bool.{cases_Bool}
 use Rattle.std.proofs.lemmas.List.{append_assoc}
 use Rattle.std.proofs.lemmas.Option.{option_and_then_some}
-use Rattle.proof_base.proofs.Lists.{get-here}
-use Rattle.shard_queue.specs.Sent.{sent_as}
+use Rattle.weave_data.proofs.Lists.{get-here, get_kept}
+use Rattle.shard_queue.specs.Sent.{Channel, sent_as}
 use Rattle.vector_stamp.specs.declared.clock.Clock.{Clock}
 use Rattle.vector_stamp.specs.declared.clock.Stamp.{Stamp}
 use Rattle.weave_entries.specs.declared.message.Message.{Message}
@@ -13,17 +14,11 @@ use Rattle.weave_entries.specs.declared.message.Addressed.{Addressed}
 use Rattle.weave_entries.specs.declared.gate_log.GateEntry.{GateEntry}
 use Rattle.weave_entries.specs.declared.gate_log.GateDeed.{GateDeed}
 use Rattle.weave_entries.specs.declared.gate_log.GateDeed.TheVariants.{BeganTx, BeganProgram, Sent, Nop, Heard, Raised, Finished}
-use Rattle.weave_entries.specs.GateReplay.{to_shard}
+use Rattle.weave_entries.specs.GateReplay.{channel_of, messages_by, to_shard}
 use Rattle.gatekeeper.specs.declared.places.Place.{Place}
 use Rattle.gatekeeper.specs.Places.{message_by, message_at, LeadTo, places_to}
 
--- an element stays in its place when more follow
-get_kept : {A : Type 0} (xs ys : List A) (place : ℕ) (x : A) → slice_get xs place ≡ Some x → slice_get (xs ++ ys) place ≡ Some x
-get_kept [] ys place x is = absurd cc
-get_kept (first ∷ xs) ys zero x is = is
-get_kept (first ∷ xs) ys (suc place) x is = get_kept xs ys place x is
-
--- and so does the message of a deed
+-- the message of a deed stays when more nops follow
 by_kept : (nops more : List Message) (deed : GateDeed) (at : ℕ) (message : Message) → message_by nops deed at ≡ Some message → message_by (nops ++ more) deed at ≡ Some message
 by_kept nops more (Nop shard number stamp low) at message is = get_kept nops more at message is
 by_kept nops more (Sent request messages) at message is = is
@@ -78,6 +73,13 @@ module _ (nops : List Message) (log : List GateEntry) where
         | inl first ↦ rw first refl
         | inr some ↦ rw some (lead-get places messages (number - 1) lead)
       ]
+
+-- with one more entry the places on each channel lead to what was sent there before, and then to what the entry sends
+abbrev pub LeadAfter : List Message → List GateEntry → ℕ → GateDeed → List (Channel Place) → Type 0
+LeadAfter nops log author deed channels = (shard : ℕ) (channel : Channel Place)
+    → slice_get channels shard ≡ Some channel
+    → LeadTo nops (log ++ record { author = author; deed = deed } ∷ []) channel.sent
+    (channel_of shard log ++ map (λ (addressed : Addressed). addressed.message) (to_shard shard (messages_by deed)))
 
 length_more : {A : Type 0} (xs : List A) (x : A) → length (xs ++ x ∷ []) ≡ length xs + 1
 length_more [] x = refl

@@ -1,4 +1,5 @@
 -- Meets of clocks, in any order.
+-- Used by Programs.
 use Rattle.std.proofs.Common.{◌≡◌, Bool, not, List, [], ◌∷◌, filter, fold, inl, inr, refl, sym, ap, ◌∙◌}
 use Rattle.std.proofs.lemmas.Bool.{cases_Bool}
 use Rattle.vector_stamp.specs.declared.clock.Clock.{Clock}

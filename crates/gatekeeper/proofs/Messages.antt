@@ -1,11 +1,12 @@
 -- What is sent from a gatekeeper whose fields are what the replay of its log gives.
+-- Used by `commit_messages`, `nop` and `send`.
 use Rattle.std.proofs.Common.{◌≡◌, ℕ, zero, suc, ◌+◌, ◌<◌, ◌≤◌, Bool, true, false, nat_eq, List, [], ◌∷◌, ◌++◌, length, map, filter, get_or, slice_get, Option, Some, inl, inr, refl, sym, ap, subst, ◌∙◌, add-one, arith}
 use Rattle.std.specs.List.{list_any, range_with_len}
 use Rattle.std.specs.Option.{option_map}
 use Rattle.std.proofs.lemmas.Bool.{cases_Bool, cases_lt, cases_eq, eqb-true, eq-eqb}
 use Rattle.std.proofs.lemmas.List.{append-nil, map-append}
 use Rattle.std.proofs.lemmas.List.Elements.{filter-append}
-use Rattle.std.proofs.lemmas.Option.{slice_get_within, slice_get_past, slice_get-get_or}
+use Rattle.std.proofs.lemmas.Option.{slice_get_within, slice_get_past, slice_get-get_or, same_Some}
 use Rattle.vector_stamp.specs.declared.clock.Clock.{Clock}
 use Rattle.vector_stamp.specs.declared.clock.Stamp.{Stamp}
 use Rattle.graph_ops.specs.declared.op.Op.{Op}
@@ -27,11 +28,10 @@ use Rattle.gatekeeper.specs.Gates.{IsReplayOf}
 use Rattle.gatekeeper.specs.declared.places.Place.{Place}
 use Rattle.gatekeeper.specs.Places.{LeadTo, places_to}
 use Rattle.gatekeeper.specs.Messages.{sent_on, sent_at, made_for, with_parted, messages_made, HasRoomAt, KeepsSent, CanAllGo, IsSentOn, AreSent}
-use Rattle.proof_base.proofs.Ends.{filter_map_is}
-use Rattle.proof_base.proofs.Ranges.{range_more, picked_below}
+use Rattle.weave_data.proofs.Ends.{filter_map_is}
+use Rattle.weave_data.proofs.Ranges.{range_more, picked_below}
 use Rattle.gatekeeper.proofs.Begins.{SendsNoneBeyond}
-use Rattle.gatekeeper.proofs.Delivery.{some_is}
-use Rattle.gatekeeper.proofs.Leading.{lead-still, lead-append, lead-length, lead-sent, lead-nop}
+use Rattle.gatekeeper.proofs.Leading.{lead-still, lead-append, lead-length, lead-sent, lead-nop, LeadAfter}
 
 map_same : {A B : Type 0} (f g : A → B) → ((x : A) → f x ≡ g x) → (xs : List A) → map f xs ≡ map g xs
 map_same f g same [] = refl
@@ -39,7 +39,7 @@ map_same f g same (x ∷ xs) = λ i. same x i ∷ map_same f g same xs i
 
 -- Messages with parts
 
--- the parts of a shard are none where it keeps no named vertex, and else some
+-- a shard has no parts if it keeps no named vertex, and some otherwise
 module _ (p : Counted → Bool) (f : Counted → Part) where
   pub data PartsAre : Bool → List Part → Type 0 where
     NoParts : PartsAre false []
@@ -105,7 +105,7 @@ module _ (home shards : ℕ) (clock : Clock) (flight : Option Flight) (running :
   made_is none one low ops (Conflict vertex newer) low_is = refl
   made_is none one low ops (Refused op reason at) low_is = refl
 
-  -- the messages of the transaction in flight can go where there is room, each to a shard of its own
+  -- the messages of the transaction in flight can go if there is room, each to a shard of its own
   module _ (one : Flight) (now : List (Channel Place)) (room : (shard : ℕ) → shard < length channels → HasRoomAt now shard) (ops : List Op) (counts : List Counted) where
     all_from : (p : ℕ → Bool) (first count : ℕ) → first + count ≤ shards → CanAllGo now (map (message_to shards log (as_begun one) ops counts) (filter p (range_with_len first count)))
     all_from p first zero within = tt
@@ -122,14 +122,16 @@ module _ (home shards : ℕ) (clock : Clock) (flight : Option Flight) (running :
   all_can_go one now room ops (Conflict vertex newer) = tt
   all_can_go one now room ops (Refused op reason at) = tt
 
-  -- where the places on a channel lead once there is one more entry
+  -- the messages to which the places on a channel lead once there is one more entry
   lead_longer : (entry : GateEntry) (shard : ℕ) (channel : Channel Place) → slice_get channels shard ≡ Some channel → LeadTo nops (log ++ entry ∷ []) channel.sent (channel_of shard log)
   lead_longer entry shard channel at =
       subst (λ (ns : List Message). LeadTo ns (log ++ entry ∷ []) channel.sent (channel_of shard log)) (append-nil nops)
       (lead-still nops [] log (entry ∷ []) channel.sent (channel_of shard log) (kept.channels_are shard channel at))
 
   -- where they lead once the entry with these messages is in the log
-  pub sent_then : (now next : List (Channel Place)) (author request : ℕ) (messages : List Addressed) → KeepsSent channels now → AreSent now next (length log) messages → (shard : ℕ) (channel : Channel Place) → slice_get next shard ≡ Some channel → LeadTo nops (log ++ record { author = author; deed = Sent request messages } ∷ []) channel.sent (channel_of shard log ++ map (λ (addressed : Addressed). addressed.message) (to_shard shard messages))
+  pub sent_then : (now next : List (Channel Place)) (author request : ℕ) (messages : List Addressed)
+      → KeepsSent channels now
+      → AreSent now next (length log) messages → LeadAfter nops log author (Sent request messages) next
   sent_then now next author request messages keeps sent shard channel at =
       let entry : GateEntry = record { author = author; deed = Sent request messages } in
       let longer : List GateEntry = log ++ entry ∷ [] in
@@ -144,7 +146,10 @@ module _ (home shards : ℕ) (clock : Clock) (flight : Option Flight) (running :
   all_then now next messages keeps sent = sent.count ∙ keeps.count ∙ kept.all_channels
 
   -- and once a nop is in the log and its message in the list
-  nop_leads : (now next : List (Channel Place)) (author target number : ℕ) (stamp : Stamp) (low : Clock) → KeepsSent channels now → IsSentOn now next target (record { entry = length log; at = length nops }) → (shard : ℕ) (channel : Channel Place) → slice_get next shard ≡ Some channel → LeadTo (nops ++ nop_message stamp low ∷ []) (log ++ record { author = author; deed = Nop target number stamp low } ∷ []) channel.sent (channel_of shard log ++ map (λ (addressed : Addressed). addressed.message) (to_shard shard (record { shard = target; number = number; message = nop_message stamp low } ∷ [])))
+  nop_leads : (now next : List (Channel Place)) (author target number : ℕ) (stamp : Stamp) (low : Clock)
+      → KeepsSent channels now
+      → IsSentOn now next target (record { entry = length log; at = length nops })
+      → LeadAfter (nops ++ nop_message stamp low ∷ []) log author (Nop target number stamp low) next
   nop_leads now next author target number stamp low keeps sent shard channel at =
       let entry : GateEntry = record { author = author; deed = Nop target number stamp low } in
       let longer : List GateEntry = log ++ entry ∷ [] in
@@ -157,7 +162,7 @@ module _ (home shards : ℕ) (clock : Clock) (flight : Option Flight) (running :
             let d : Channel Place = get_or now target channel in
             let there : slice_get now target ≡ Some d = slice_get-get_or now target channel (omega arith) in
             let found = sent.here d there in
-            let here : found.0 ≡ channel = some_is (sym found.1 ∙ ap (λ n. slice_get next n) (sym same) ∙ at) in
+            let here : found.0 ≡ channel = same_Some _ _ (sym found.1 ∙ ap (λ n. slice_get next n) (sym same) ∙ at) in
             let a = keeps.each shard d (ap (λ n. slice_get now n) same ∙ there) in
             let places_are : channel.sent ≡ a.0.sent ++ place ∷ [] = ap (λ (c : Channel Place). c.sent) (sym here) ∙ found.2 ∙ ap (λ ps. ps ++ place ∷ []) a.2 in
             let still = lead-still nops (nop_message stamp low ∷ []) log (entry ∷ []) a.0.sent (channel_of shard log) (kept.channels_are shard a.0 a.1) in
@@ -174,10 +179,15 @@ module _ (home shards : ℕ) (clock : Clock) (flight : Option Flight) (running :
             ]
       ]
 
-  pub nop_then : (now next : List (Channel Place)) (author target number : ℕ) (stamp : Stamp) (low : Clock) (empty : List Message) → empty ≡ nops ++ nop_message stamp low ∷ [] → KeepsSent channels now → IsSentOn now next target (record { entry = length log; at = length nops }) → (shard : ℕ) (channel : Channel Place) → slice_get next shard ≡ Some channel → LeadTo empty (log ++ record { author = author; deed = Nop target number stamp low } ∷ []) channel.sent (channel_of shard log ++ map (λ (addressed : Addressed). addressed.message) (to_shard shard (record { shard = target; number = number; message = nop_message stamp low } ∷ [])))
-  nop_then now next author target number stamp low empty is keeps sent shard channel at =
-      subst (λ (ns : List Message). LeadTo ns (log ++ record { author = author; deed = Nop target number stamp low } ∷ []) channel.sent (channel_of shard log ++ map (λ (addressed : Addressed). addressed.message) (to_shard shard (record { shard = target; number = number; message = nop_message stamp low } ∷ [])))) (sym is)
-      (nop_leads now next author target number stamp low keeps sent shard channel at)
+  -- whatever the list is called
+  pub nop_then : (now next : List (Channel Place)) (author target number : ℕ) (stamp : Stamp) (low : Clock)
+      (empty : List Message)
+      → empty ≡ nops ++ nop_message stamp low ∷ [] → KeepsSent channels now
+      → IsSentOn now next target (record { entry = length log; at = length nops })
+      → LeadAfter empty log author (Nop target number stamp low) next
+  nop_then now next author target number stamp low empty is keeps sent =
+      subst (λ (ns : List Message). LeadAfter ns log author (Nop target number stamp low) next) (sym is)
+      (nop_leads now next author target number stamp low keeps sent)
 
   -- the number that a channel gives is the next one
   pub number_told : (now : List (Channel Place)) (shard : ℕ) → KeepsSent channels now → HasRoomAt now shard → length (sent_at shard now) + 1 ≡ next_number shard log

@@ -1,4 +1,5 @@
 -- A table of the running programs.
+-- Used by `end`, `is_running`, `low_mark` and `start`.
 use Rattle.std.proofs.Common.{◌≡◌, ℕ, Bool, true, false, not, cond, ◌&&◌, List, [], ◌∷◌, ◌++◌, filter, fold, None, Some, is_some, inl, inr, refl, sym, ap, ◌∙◌}
 use Rattle.std.specs.Cmp.{nat_eq_equiv}
 use Rattle.std.specs.List.{list_any, AllByRecursion, IsDistinct}
@@ -9,12 +10,12 @@ use Rattle.std.proofs.lemmas.List.Sums.{fold-append}
 use Rattle.std.proofs.lemmas.List.Elements.{filter-append}
 use Rattle.std.proofs.lemmas.Map.{lookup-none, NonePasses}
 use Rattle.std.proofs.lemmas.Map.Keys.{IsDistinct-head, IsDistinct-tail}
+use Rattle.std.proofs.lemmas.Option.{same_Some}
 use Rattle.vector_stamp.specs.declared.clock.Clock.{Clock}
 use Rattle.vector_stamp.specs.declared.clock.Stamp.{Stamp}
 use Rattle.vector_stamp.specs.Clocks.{meet_of}
 use Rattle.weave_entries.specs.GateReplay.{Begun, is_begun}
 use Rattle.gatekeeper.specs.Running.{same_program, met, met_after, HoldsPrograms}
-use Rattle.gatekeeper.proofs.Delivery.{some_is}
 use Rattle.gatekeeper.proofs.Meets.{MeetsCommute, met_with, met-late, met-parted}
 
 abbrev stamp_clock : Begun → Clock
@@ -52,7 +53,7 @@ none_both p (x ∷ xs) =
       | inr fails ↦ rw fails (rw fails (none_both p xs))
     ]
 
--- those that pass one test, where none of them passes the other
+-- those that pass one test, if none of them passes the other
 still_there : {A : Type 0} (p r : A → Bool) → ((x : A) → p x ≡ true → r x ≡ false) → (xs : List A) → filter p (filter (λ x. not (r x)) xs) ≡ filter p xs
 still_there p r other [] = refl
 still_there p r other (x ∷ xs) =
@@ -141,7 +142,7 @@ finished_more es fs running program holds writes q =
 met_is : MeetsCommute → (low m : Clock) (some : List Begun) → Some m ≡ met some → met_with stamp_clock low some ≡ meet_of low m
 met_is laws low m [] is = absurd (cc)
 met_is laws low m (begun ∷ some) is =
-    let e : m ≡ met_with stamp_clock begun.stamp.clock some = some_is is in
+    let e : m ≡ met_with stamp_clock begun.stamp.clock some = same_Some _ _ is in
     met-late laws stamp_clock low begun.stamp.clock some ∙ ap (meet_of low) (sym e)
 
 none_passes : (program : ℕ × ℕ) (es : List ((ℕ × ℕ) × Clock)) → AllByRecursion (λ y. same_program program y ≡ false) (keys_of es) → NonePasses (same_program program) es

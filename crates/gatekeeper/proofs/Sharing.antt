@@ -1,5 +1,6 @@
 -- Operations are put under their vertices, and parts into their shards' lists.
-use Rattle.std.proofs.Common.{◌≡◌, ◌≢◌, ℕ, zero, suc, ◌+◌, ◌<◌, ◌≤◌, Bool, true, false, not, cond, nat_eq, List, [], ◌∷◌, ◌++◌, length, map, filter, drop, get_or, slice_set, Option, None, Some, IsSome, is_some, inl, inr, refl, sym, ap, subst, ◌∙◌, arith}
+-- Used by `commit_messages`, `make_place`, `parts_by_shard`, `parts_of_all`, `parts_of_one` and `put_behind`.
+use Rattle.std.proofs.Common.{◌≡◌, ◌≢◌, ℕ, zero, suc, ◌+◌, ◌<◌, ◌≤◌, Bool, false, not, cond, nat_eq, List, [], ◌∷◌, ◌++◌, length, map, filter, drop, get_or, slice_set, Option, None, Some, IsSome, is_some, inl, inr, refl, sym, ap, subst, ◌∙◌, arith}
 use Rattle.std.proofs.Math.Nat.{mod-lt}
 use Rattle.std.specs.List.{range_with_len, AllByRecursion, IsDistinct}
 use Rattle.std.specs.Map.{lookup}
@@ -9,25 +10,18 @@ use Rattle.std.proofs.lemmas.List.{append-nil, map-append, length-drop, drop_mor
 use Rattle.std.proofs.lemmas.List.Elements.{filter-append}
 use Rattle.std.proofs.lemmas.List.FromFn.{length-map-range_with_len, get_or-map-range_with_len}
 use Rattle.std.proofs.lemmas.Map.Keys.{IsDistinct-head, IsDistinct-tail, IsDistinct-cons}
-use Rattle.weave_data.specs.Names.{same_name, one_name, shard_of}
+use Rattle.weave_data.specs.Names.{same_name, shard_of}
 use Rattle.weave_data.specs.declared.name.Name.{Name}
 use Rattle.graph_ops.specs.Mentions.{first_mentions, named_by}
 use Rattle.graph_ops.specs.Operations.{vertex_of}
 use Rattle.graph_ops.specs.declared.op.Op.{Op}
 use Rattle.graph_ops.specs.declared.part.Part.{Part}
+use Rattle.graph_ops.proofs.States.{here_or_else}
 use Rattle.weave_entries.specs.declared.verdict.Counted.{Counted}
 use Rattle.weave_entries.specs.Sending.{ops_on, part_for, keeps, parts_for}
 use Rattle.gatekeeper.specs.Parts.{ops_at, parts_by_shard, AreOfTheirOwn, HasOpsOf}
 
 -- Operations under their vertices
-
--- what holds at a name, where the names are one, and at every name, where they are two
-here_or_else : (v : Name) (P : Name → Bool → Type 0) → P v true → ((q : Name) → P q false) → (q : Name) → P q (same_name v q)
-here_or_else v P here other q =
-    elim (same_name v q) as (λ b. same_name v q ≡ b → P q b) [
-      | true ↦ λ same. subst (λ k. P k true) (one_name v q same) here
-      | false ↦ λ _. other q
-    ] refl
 
 -- the second table is the first with these operations under the vertex
 abbrev pub Writes : Name → List Op → List (Name × List Op) → List (Name × List Op) → Type 0
@@ -43,7 +37,7 @@ placed v es fs none writes q =
     ap (λ x. unwrap_or x []) (writes q)
     ∙ here_or_else v (λ k b. unwrap_or (cond b (Some []) (lookup (same_name k) es)) [] ≡ ops_at k es) (ap (λ x. unwrap_or x []) (sym none)) (λ k. refl) q
 
--- one more operation stands behind those on its vertex
+-- one more operation follows those on its vertex
 pub behind : (op : Op) (v : Name) (es fs : List (Name × List Op)) (before after : List Op) → v ≡ vertex_of op → lookup (same_name v) es ≡ Some before → (IsSome (lookup (same_name v) es) → Writes v after es fs) → after ≡ before ++ op ∷ [] → (q : Name) → ops_at q fs ≡ ops_at q es ++ ops_on q (op ∷ [])
 behind op v es fs before after is found writes more q =
     ap (λ x. unwrap_or x []) (writes (subst IsSome (sym found) refl) q)
@@ -145,7 +139,7 @@ shard_within shards ops counts name shares some is =
     let long = ap length is ∙ length-map-range_with_len (λ shard. parts_for shards shard ops counts) 0 shards in
     omega arith
 
--- one more part stands at the end of its shard's list
+-- one more part is at the end of its shard's list
 pub share_more : (shards : ℕ) (ops : List Op) (counts : List Counted) (one : Counted) (shard : ℕ) (part : Part) (shares : List (List Part)) (share next : List Part) → 1 ≤ shards → shard ≡ shard_of one.vertex shards → part ≡ part_for ops one → shares ≡ parts_by_shard shards ops counts → share ≡ get_or shares shard share → next ≡ share ++ part ∷ [] → slice_set shares shard next ≡ parts_by_shard shards ops (counts ++ one ∷ [])
 share_more shards ops counts one shard part shares share next some is part_is shares_are share_is next_is =
     let before : ℕ → List Part = λ n. parts_for shards n ops counts in

@@ -3,7 +3,7 @@ use Rattle.std.specs.Prelude.{◌≡◌, Bool, true, false, Result, Ok, Err}
 use Rattle.gatekeeper.specs.declared.fault.GateFault.{GateFault}
 use Rattle.gatekeeper.specs.declared.fault.GateFault.TheVariants.{Busy, Idle, Old, Memory}
 
--- refused with this fault where the test holds, and else only for want of memory
+-- `Ok` if the test is false, refused with this fault if it is true, or out of memory in either case
 abbrev pub IsRefusedWhere : {A : Type 0} → GateFault → Bool → Result A GateFault → Type 0
 IsRefusedWhere fault test (Ok answer) = test ≡ false
 IsRefusedWhere fault test (Err Memory) = Unit {0}

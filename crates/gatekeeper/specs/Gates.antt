@@ -20,7 +20,8 @@ use Rattle.gatekeeper.specs.Running.{HoldsPrograms}
 use Rattle.gatekeeper.specs.declared.begun.Flight.{Flight}
 use Rattle.gatekeeper.specs.declared.places.Place.{Place}
 
--- whose gatekeeper it is, of how many gatekeepers and for how many shards, its log, and for how many more entries there is room
+-- whose gatekeeper it is, of how many gatekeepers and for how many shards, its log, and for how many more entries there
+-- is room
 pub record GateView : Type 0 where
   pub home : ℕ
   pub gates : ℕ
@@ -35,7 +36,7 @@ pub record IsNew (home gates shards : ℕ) (gate : GateView) : Type 0 where
   pub shards_are : gate.shards ≡ shards
   pub log_is : gate.log ≡ []
 
--- one more entry of this author stands in the log, the room is less by at most one, and all else stays
+-- the log has one more entry of this author, spare capacity drops by at most one, and nothing else changes
 pub record Adds (old new : GateView) (author : ℕ) (deed : GateDeed) : Type 0 where
   pub log : new.log ≡ old.log ++ record { author = author; deed = deed } ∷ []
   pub home : new.home ≡ old.home
@@ -49,8 +50,8 @@ pub record SendsFlight (old new : GateView) (author : ℕ) (ops : List Op) (verd
   pub flies : flight_of old.log ≡ Some flight
   pub adds : Adds old new author (Sent flight.request (messages_of old.shards old.log flight ops verdict))
 
--- there is room for so many entries, for no fewer than before, and all else stays
-pub record HasRoom (old new : GateView) (entries : ℕ) : Type 0 where
+-- there is room for this many entries, spare capacity is no less than before, and nothing else changes
+pub record MakesRoom (old new : GateView) (entries : ℕ) : Type 0 where
   pub log : new.log ≡ old.log
   pub home : new.home ≡ old.home
   pub gates : new.gates ≡ old.gates
@@ -62,13 +63,16 @@ pub record HasRoom (old new : GateView) (entries : ℕ) : Type 0 where
 abbrev pub HaveBits : List Stamp → Type 0
 HaveBits stamps = (stamp : Stamp) → Contains stamps stamp → IsTrue (has_64_bits stamp.clock)
 
--- the fields are what the replay of the log gives; the channels lead to the messages, in the log or among those of the nops
-pub record IsReplayOf (home shards : ℕ) (clock : Clock) (flight : Option Flight) (running : List ((ℕ × ℕ) × Clock)) (channels : List (Channel Place)) (nops : List Message) (log : List GateEntry) : Type 0 where
+-- the fields are what the replay of the log gives; the channels lead to the messages, in the log or among those of the
+-- nops
+pub record IsReplayOf (home shards : ℕ) (clock : Clock) (flight : Option Flight) (running : List ((ℕ × ℕ)
+    × Clock)) (channels : List (Channel Place)) (nops : List Message) (log : List GateEntry) : Type 0 where
   pub clock_is : clock ≡ clock_of home log
   pub flight_is : option_map as_begun flight ≡ flight_of log
   pub running_is : HoldsPrograms running (running_of log)
   pub all_channels : length channels ≡ shards
-  pub channels_are : (shard : ℕ) (channel : Channel Place) → slice_get channels shard ≡ Some channel → LeadTo nops log channel.sent (channel_of shard log)
+  pub channels_are : (shard : ℕ) (channel : Channel Place) → slice_get channels shard ≡ Some channel
+      → LeadTo nops log channel.sent (channel_of shard log)
   pub home_is : home < 8
   pub some_shard : 1 ≤ shards
   pub rules : IsGateLog home shards log

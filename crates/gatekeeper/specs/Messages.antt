@@ -48,7 +48,8 @@ has_parts (part ∷ parts) = true
 
 -- the messages of a transaction by its verdict
 abbrev pub messages_made : List (Channel Place) → ℕ → Flight → Clock → List Op → Verdict → List Addressed
-messages_made channels shards flight low ops (Committed number answers counts) = map (made_for channels shards flight low ops counts) (shards_named shards counts)
+messages_made channels shards flight low ops (Committed number answers counts) =
+    map (made_for channels shards flight low ops counts) (shards_named shards counts)
 messages_made channels shards flight low ops (Conflict vertex newer) = []
 messages_made channels shards flight low ops (Refused op reason at) = []
 
@@ -61,9 +62,10 @@ pub record HasRoomAt (channels : List (Channel Place)) (shard : ℕ) : Type 0 wh
 -- what was sent stays on each channel, and the room is no less
 pub record KeepsSent (old new : List (Channel Place)) : Type 0 where
   pub count : length new ≡ length old
-  pub each : (shard : ℕ) (after : Channel Place) → slice_get new shard ≡ Some after → (before : Channel Place) × (slice_get old shard ≡ Some before) × (after.sent ≡ before.sent) × (before.spare ≤ after.spare)
+  pub each : (shard : ℕ) (after : Channel Place) → slice_get new shard ≡ Some after → (before : Channel Place)
+      × (slice_get old shard ≡ Some before) × (after.sent ≡ before.sent) × (before.spare ≤ after.spare)
 
--- there is room for each of these messages, and each goes to a shard of its own
+-- there is room for each of these messages, and they go to distinct shards
 abbrev pub CanAllGo : List (Channel Place) → List Addressed → Type 0
 CanAllGo channels [] = Unit {0}
 CanAllGo channels (one ∷ rest) = HasRoomAt channels one.shard × (to_shard one.shard rest ≡ []) × CanAllGo channels rest
@@ -71,10 +73,12 @@ CanAllGo channels (one ∷ rest) = HasRoomAt channels one.shard × (to_shard one
 -- the place is at the end of the shard's channel, and all other channels are as before
 pub record IsSentOn (old new : List (Channel Place)) (shard : ℕ) (place : Place) : Type 0 where
   pub count : length new ≡ length old
-  pub here : (before : Channel Place) → slice_get old shard ≡ Some before → (after : Channel Place) × (slice_get new shard ≡ Some after) × (after.sent ≡ before.sent ++ place ∷ [])
+  pub here : (before : Channel Place) → slice_get old shard ≡ Some before → (after : Channel Place)
+      × (slice_get new shard ≡ Some after) × (after.sent ≡ before.sent ++ place ∷ [])
   pub others : (other : ℕ) → other ≢ shard → slice_get new other ≡ slice_get old other
 
 -- the places of the messages in this entry are at the end of the channels to their shards
 pub record AreSent (old new : List (Channel Place)) (entry : ℕ) (messages : List Addressed) : Type 0 where
   pub count : length new ≡ length old
-  pub each : (shard : ℕ) (after : Channel Place) → slice_get new shard ≡ Some after → (before : Channel Place) × (slice_get old shard ≡ Some before) × (after.sent ≡ before.sent ++ places_to shard entry 0 messages)
+  pub each : (shard : ℕ) (after : Channel Place) → slice_get new shard ≡ Some after → (before : Channel Place)
+      × (slice_get old shard ≡ Some before) × (after.sent ≡ before.sent ++ places_to shard entry 0 messages)

@@ -1,4 +1,4 @@
--- What was begun at a gatekeeper and has not ended, as the replay of the log tells it.
+-- What was begun at a gatekeeper and has not ended, by the replay of the log.
 use Rattle.weave_entries.specs.GateReplay.{Begun}
 use Rattle.gatekeeper.specs.declared.begun.Flight.{Flight}
 

@@ -24,4 +24,5 @@ AreOfTheirOwn counts = IsDistinct same_name (map (λ (counted : Counted). counte
 
 -- the table has the operations on each of these vertices
 abbrev pub HasOpsOf : List (Name × List Op) → List Op → List Counted → Type 0
-HasOpsOf table ops counts = AllByRecursion (λ (counted : Counted). ops_at counted.vertex table ≡ ops_on counted.vertex ops) counts
+HasOpsOf table ops counts = AllByRecursion (λ (counted : Counted). ops_at counted.vertex table
+    ≡ ops_on counted.vertex ops) counts

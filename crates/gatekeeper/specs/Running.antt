@@ -5,11 +5,11 @@ use Rattle.vector_stamp.specs.declared.clock.Clock.{Clock}
 use Rattle.vector_stamp.specs.Clocks.{meet_of}
 use Rattle.weave_entries.specs.GateReplay.{Begun, is_begun, low_mark}
 
--- whether two programs were begun by one author under one number
+-- whether two programs were begun by the same author under the same number
 abbrev pub same_program : ℕ × ℕ → ℕ × ℕ → Bool
 same_program a b = nat_eq a.0 b.0 && nat_eq a.1 b.1
 
--- the meet of the stamps of these programs, where there is one
+-- the meet of the stamps of these programs, if there is one
 abbrev pub met : List Begun → Option Clock
 met [] = None
 met (begun ∷ rest) = Some (low_mark begun.stamp rest)
@@ -21,4 +21,5 @@ met_after (Some low) clock = meet_of low clock
 
 -- a table has, for each author and number, the meet of the stamps of the programs that are running under them
 abbrev pub HoldsPrograms : List ((ℕ × ℕ) × Clock) → List Begun → Type 0
-HoldsPrograms table running = (program : ℕ × ℕ) → lookup (same_program program) table ≡ met (filter (is_begun program.0 program.1) running)
+HoldsPrograms table running = (program : ℕ × ℕ)
+    → lookup (same_program program) table ≡ met (filter (is_begun program.0 program.1) running)

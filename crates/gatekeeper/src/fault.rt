@@ -11,7 +11,7 @@ pub enum GateFault {
     Idle,
     /// The epoch is not above the gatekeeper's own.
     Old,
-    /// Memory was wanting.
+    /// Out of memory.
     Memory,
 }
 

@@ -10,7 +10,7 @@ ghost use Rattle.weave_entries.specs.GateRules.{IsGateLog};
 ghost use Rattle.weave_entries.specs.Sending.{IsCountsOf};
 ghost use Rattle.gatekeeper.specs.Answers.{IsRefusedWhere};
 ghost use Rattle.gatekeeper.specs.Opened.{as_begun};
-ghost use Rattle.gatekeeper.specs.Gates.{Adds, IsNew, HasRoom, SendsFlight, HaveBits};
+ghost use Rattle.gatekeeper.specs.Gates.{Adds, IsNew, MakesRoom, SendsFlight, HaveBits};
 
 use crate::begun::{Flight, begin, hear};
 use crate::fault::GateFault;
@@ -26,7 +26,8 @@ use weave_data::Items;
 use weave_entries::laws::{channels_rise, counts_are_few, stamps_rise};
 use weave_entries::{GateDeed, GateEntry, Message, Verdict};
 
-/// A gatekeeper. Contracts see whose it is, of how many gatekeepers and for how many shards, its log, and `spare`: for how many more entries there is room.
+/// A gatekeeper. Contracts see whose it is, of how many gatekeepers and for how many shards, its log, and `spare`: for
+/// how many more entries there is room.
 #[derive(Drop)]
 pub struct Gate {
     home: u32,
@@ -84,14 +85,15 @@ impl Gate {
 
     /// Takes the room for that many more entries. The one error is out of memory.
     pub fn reserve(&mut self, _alloc: Global, entries: usize) -> Result<(), AllocError>
-        ensures room { OnOk result (HasRoom self.old self.new entries) }
+        ensures room { OnOk result (MakesRoom self.old self.new entries) }
         ensures refused { OnErr result (self.new ≡ self.old) }
     {
         self.log.reserve(entries)?;
         Ok(())
     }
 
-    /// Begins a transaction, which is in flight from now on. The last stamp that its session began is heard before the tick.
+    /// Begins a transaction, which is in flight from now on. The last stamp that its session began is heard before the
+    /// tick.
     pub fn begin_tx(
         &mut self,
         _alloc: Global,
@@ -126,7 +128,8 @@ impl Gate {
         Ok(stamp)
     }
 
-    /// Begins a program, which is running from now on, at any time. The last stamp that its session began is heard before the tick.
+    /// Begins a program, which is running from now on, at any time. The last stamp that its session began is heard
+    /// before the tick.
     pub fn begin_program(
         &mut self,
         _alloc: Global,
@@ -161,7 +164,8 @@ impl Gate {
     /// Finishes a program that the author began under the request's number.
     pub fn finish(&mut self, _alloc: Global, author: u32, request: u32) -> Result<(), GateFault>
         ensures entry { OnOk result (Adds self.old self.new author (GateDeed.Finished request)) }
-        ensures idle { IsRefusedWhere GateFault.Idle (not (list_any (is_begun author request) (running_of self.old.log))) result }
+        ensures idle { IsRefusedWhere GateFault.Idle
+            (not (list_any (is_begun author request) (running_of self.old.log))) result }
         ensures refused { OnErr result (self.new ≡ self.old) }
     {
         if !is_running(&self.running, author, request) {
@@ -220,7 +224,8 @@ impl Gate {
         ensures number { IfOk result (λ number. number ≡ next_number shard self.old.log) }
         ensures entry { IfOk result (λ number.
             let stamp = next_stamp self.old.home (clock_of self.old.home self.old.log) in
-            Adds self.old self.new author (GateDeed.Nop shard number stamp (low_mark stamp (running_of self.old.log)))) }
+            Adds self.old self.new author
+            (GateDeed.Nop shard number stamp (low_mark stamp (running_of self.old.log)))) }
         ensures busy { IsRefusedWhere GateFault.Busy (is_some (flight_of self.old.log)) result }
         ensures refused { OnErr result (self.new ≡ self.old) }
     {
@@ -290,7 +295,7 @@ impl Gate {
         Ok(())
     }
 
-    /// The message of this number to a shard, or `None` where it was not sent.
+    /// The message of this number to a shard, or `None` if it was not sent.
     pub fn fetch(&self, shard: u32, number: u64) -> Option<&Message>
         ensures { option_copied result ≡ sent_as number (channel_of shard self.now.log) }
     {

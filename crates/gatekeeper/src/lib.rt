@@ -1,6 +1,9 @@
 //! Gatekeepers: they give transactions and programs their stamps, and send commits and empty messages to the shards.
 //!
-//! A `Gate` keeps a log, and contracts see nothing of it but that log, its home, the numbers of gatekeepers and shards, and for how many more entries there is room. Its clock, its transaction in flight, its running programs and its channels are what the replay of the log gives. The log keeps the rules that the definitions state (`IsGateLog`), and `laws` says what follows from them.
+//! A `Gate` keeps a log, and contracts see nothing of it but that log, its home, the numbers of gatekeepers and shards,
+//! and for how many more entries there is room. Its clock, its transaction in flight, its running programs and its
+//! channels are what the replay of the log gives. The log keeps the rules that the definitions state (`IsGateLog`), and
+//! `laws` says what follows from them.
 #![tactic(auto)]
 
 mod begun;
@@ -11,8 +14,6 @@ mod parts;
 mod places;
 mod running;
 mod sending;
-#[cfg(test)]
-mod tests;
 
 pub use begun::Flight;
 pub use fault::GateFault;

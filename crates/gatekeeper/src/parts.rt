@@ -15,7 +15,8 @@ use std::collections::HashMap;
 use weave_data::{Items, Name};
 use weave_entries::Counted;
 
-/// The parts of a commit for each of the shards: those of the vertices that it keeps, in the order of the counts. The one error is out of memory.
+/// The parts of a commit for each of the shards: those of the vertices that it keeps, in the order of the counts. The
+/// one error is out of memory.
 pub fn parts_by_shard(
     alloc: Global,
     shards: u32,
@@ -119,7 +120,7 @@ fn ops_by_vertex(alloc: Global, ops: &[Op]) -> Result<HashMap<Name, Items<Op>>, 
     Ok(table)
 }
 
-// Makes a place for the operations on a vertex, where there is none.
+// Makes a place for the operations on a vertex, if there is none.
 fn make_place(
     alloc: Global,
     table: &mut HashMap<Name, Items<Op>>,

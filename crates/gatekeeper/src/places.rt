@@ -9,14 +9,16 @@ use std::alloc::{AllocError, Global};
 use std::marker::Model;
 use weave_entries::{Addressed, GateDeed, GateEntry, Message};
 
-/// Where a message is: the entry of the log that sent it, and its index among the messages of that entry. The log has no message of a nop, so that index is one in the list of the empty messages. All from 0.
+/// Where a message is: the entry of the log that sent it, and its index among the messages of that entry. The log has
+/// no message of a nop, so that index is one in the list of the empty messages. All from 0.
 #[derive(Clone, Copy)]
 pub struct Place {
     pub entry: usize,
     pub at: usize,
 }
 
-/// The places of what was sent on a channel, in order and numbered from 1. Contracts see the list, and `spare`: for how many more there is room.
+/// The places of what was sent on a channel, in order and numbered from 1. Contracts see the list, and `spare`: for how
+/// many more there is room.
 #[derive(Drop)]
 pub struct Places {
     places: Vec<Place>,
@@ -63,7 +65,7 @@ impl Places {
         self.places.len() as u64
     }
 
-    /// The place of the message of this number, or `None` where it was not sent.
+    /// The place of the message of this number, or `None` if it was not sent.
     pub fn get(&self, number: u64) -> Option<&Place>
         ensures { option_copied result ≡ sent_as number self.now.sent }
     {
@@ -82,7 +84,7 @@ impl Places {
     }
 }
 
-/// The message of this number on a channel, or `None` where it was not sent.
+/// The message of this number on a channel, or `None` if it was not sent.
 pub fn find_message<'a>(
     channel: &Places,
     number: u64,

@@ -10,7 +10,8 @@ use std::collections::HashMap;
 use vector_stamp::laws::meets_commute;
 use vector_stamp::{Clock, Stamp};
 
-/// The meet of the stamps of the running programs, under the author and the request's number of each. There is more than one under both only if a request is begun twice.
+/// The meet of the stamps of the running programs, under the author and the request's number of each. There is more
+/// than one under both only if a request is begun twice.
 pub type Programs = HashMap<(u32, u32), Clock>;
 
 /// The meet of a stamp and the stamps of the running programs.

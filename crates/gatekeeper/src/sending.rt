@@ -26,7 +26,8 @@ pub fn empty_channels(alloc: Global, shards: u32) -> Result<Vec<Places>, AllocEr
     Ok(channels)
 }
 
-/// The messages of a transaction by its verdict: of a commit one to each shard that keeps a named vertex, otherwise none. The one error is out of memory.
+/// The messages of a transaction by its verdict: of a commit one to each shard that keeps a named vertex, otherwise
+/// none. The one error is out of memory.
 pub fn messages_of(
     alloc: Global,
     channels: &[Places],
@@ -148,7 +149,8 @@ pub fn send_one(channels: &mut Vec<Places>, shard: u32, place: Place) -> u64
     channel.push(place)
 }
 
-/// Adds the places of the messages of an entry to the channels of their shards, which have room for them. Each message has a shard of its own.
+/// Adds the places of the messages of an entry to the channels of their shards, which have room for them. Each message
+/// has a shard of its own.
 pub fn send_all(channels: &mut Vec<Places>, entry: usize, messages: &[Addressed])
     requires { CanAllGo channels.old.items messages.now }
     ensures { AreSent channels.old.items channels.new.items entry messages.now }

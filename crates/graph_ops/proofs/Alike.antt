@@ -1,4 +1,5 @@
 -- One transaction on two graphs that have the same states at the vertices that it names.
+-- Used by `other_vertices_change_nothing` and Naming.
 use Rattle.std.proofs.Common.{◌≡◌, ℕ, ◌+◌, List, [], ◌∷◌, ◌++◌, Ok, Err, refl, ap, subst}
 use Rattle.std.specs.Prelude.{if◌then◌else◌, ⊤}
 use Rattle.weave_data.specs.Names.{same_name}

@@ -1,4 +1,5 @@
 -- Names in order of first mention, a name at a time.
+-- Used by `named` and crate order_witness.
 use Rattle.std.proofs.Common.{◌≡◌, ℕ, ◌+◌, ◌<◌, length, get_or, map, drop, Bool, true, false, not, cond, ◌||◌, List, [], ◌∷◌, ◌++◌, refl, sym, ap, ◌∙◌, append_assoc, add-one}
 use Rattle.std.proofs.Math.Seq.{drop-cons}
 use Rattle.std.specs.List.{filter}
@@ -13,7 +14,8 @@ use Rattle.weave_data.specs.Names.{same_name, one_name}
 abbrev pub fresh : List Name → List Name → List Name
 fresh names more = filter (λ w. not (is_among names w)) more
 
-abbrev others : Name → List Name → List Name
+-- those that are not this name
+abbrev pub others : Name → List Name → List Name
 others v more = filter (λ w. not (same_name v w)) more
 
 or_true : (b : Bool) → b || (true || false) ≡ true

@@ -1,10 +1,11 @@
 -- What a transaction names: the vertices of its operations, each once, and no others.
+-- Used by `each_vertex_is_named_once` and `other_vertices_change_nothing`.
 use Rattle.std.proofs.Common.{◌≡◌, ◌≢◌, Bool, true, false, ◌||◌, not, cond, List, [], ◌∷◌, IsTrue, Contains, AllPairs, map, refl, sym, ap, subst, ◌∙◌, arith}
 use Rattle.std.specs.List.{filter}
 use Rattle.std.proofs.lemmas.Bool.{both_ways, not_from_false, or_left, or_right}
 use Rattle.std.proofs.lemmas.List.Kept.{AllPairs-filter}
-use Rattle.proof_base.proofs.Members.{filter_has, any_from, any_has}
-use Rattle.proof_base.proofs.Ordered.{pairs_none, pairs_cons}
+use Rattle.weave_data.proofs.Members.{filter_has, any_from, any_has}
+use Rattle.weave_data.proofs.Ordered.{pairs_none, pairs_cons}
 use Rattle.weave_data.specs.Names.{same_name, one_name}
 use Rattle.weave_data.specs.declared.name.Name.{Name}
 use Rattle.graph_ops.specs.Operations.{vertex_of}

@@ -1,12 +1,13 @@
 -- The rows on an edge's tags.
-use Rattle.std.proofs.Common.{◌≡◌, ℕ, Bool, true, false, not, cond, List, [], ◌∷◌, Option, Some, None, Ok, Err, Result, IfSome, option_map, refl, ap, ◌∙◌, sym, subst}
+-- Used by `change_edge`, `take_back_tag_of` and crate version_parts.
+use Rattle.std.proofs.Common.{◌≡◌, cond, List, [], ◌∷◌, Option, Some, None, Ok, Err, IfSome, option_map, refl, ap, ◌∙◌, sym, subst}
 use Rattle.std.specs.Cmp.Lexicographic.{nat_list_cmp_total}
-use Rattle.std.specs.declared.cmp.Ordering.{Ordering}
 use Rattle.std.specs.declared.cmp.Ordering.TheVariants.{Less, Equal, Greater}
-use Rattle.std.specs.Ordering.{is_eq, match_ordering, ordering_reverse}
+use Rattle.std.specs.Ordering.{is_eq, match_ordering}
 use Rattle.weave_data.specs.Names.{name_cmp}
 use Rattle.weave_data.specs.Pairs.{IsRising, at_key, put}
 use Rattle.weave_data.specs.declared.name.Name.{Name}
+use Rattle.weave_data.proofs.Changing.{found_put}
 use Rattle.graph_ops.specs.Operations.{becomes, on_edge}
 use Rattle.graph_ops.specs.TagChanges.{tags_after, record_after, edge_after, DoesToTags}
 use Rattle.graph_ops.specs.TakingBack.{retagged, with_edge, CanRetag, Does}
@@ -19,35 +20,19 @@ use Rattle.std.specs.Map.{keys_of}
 use Rattle.std.proofs.lemmas.Map.{lookup-none}
 use Rattle.std.proofs.lemmas.Map.Keys.{sorted_tail}
 use Rattle.std.proofs.lemmas.Map.Entries.{none_below_head}
+use Rattle.std.proofs.lemmas.Cmp.{tied_itself}
 use Rattle.graph_ops.specs.declared.record.Edge.{Edge}
 use Rattle.graph_ops.specs.declared.record.Record.{Record}
 use Rattle.graph_ops.specs.declared.tags.TagChange.{TagChange}
 
-own_reverse : (o : Ordering) → o ≡ ordering_reverse o → o ≡ Equal
-own_reverse Less e = cc
-own_reverse Equal e = refl
-own_reverse Greater e = cc
-
-same : (a : List ℕ) → name_cmp a a ≡ Equal
-same a = own_reverse (name_cmp a a) (nat_list_cmp_total.antisymm a a)
-
 -- a value that is put twice
 pub put_over : {X : Type 0} (key : Name) (value before : X) (es : List (Name × X)) → put key value (put key before es) ≡ put key value es
-put_over key value before [] = ap (λ o. match_ordering o ((key, value) ∷ (key, before) ∷ []) ((key, value) ∷ []) ((key, before) ∷ (key, value) ∷ [])) (same key)
+put_over key value before [] = ap (λ o. match_ordering o ((key, value) ∷ (key, before) ∷ []) ((key, value) ∷ []) ((key, before) ∷ (key, value) ∷ [])) (tied_itself nat_list_cmp_total key)
 put_over key value before (e ∷ es) =
     elim (name_cmp key e.0) as (λ o. name_cmp key e.0 ≡ o → put key value (match_ordering o ((key, before) ∷ e ∷ es) ((e.0, before) ∷ es) (e ∷ put key before es)) ≡ match_ordering o ((key, value) ∷ e ∷ es) ((e.0, value) ∷ es) (e ∷ put key value es)) [
-      | Less ↦ λ less. ap (λ o. match_ordering o ((key, value) ∷ (key, before) ∷ e ∷ es) ((key, value) ∷ e ∷ es) ((key, before) ∷ put key value (e ∷ es))) (same key)
+      | Less ↦ λ less. ap (λ o. match_ordering o ((key, value) ∷ (key, before) ∷ e ∷ es) ((key, value) ∷ e ∷ es) ((key, before) ∷ put key value (e ∷ es))) (tied_itself nat_list_cmp_total key)
       | Equal ↦ λ equal. ap (λ o. match_ordering o ((key, value) ∷ (e.0, before) ∷ es) ((e.0, value) ∷ es) ((e.0, before) ∷ put key value es)) equal
       | Greater ↦ λ greater. ap (λ o. match_ordering o ((key, value) ∷ e ∷ put key before es) ((e.0, value) ∷ put key before es) (e ∷ put key value (put key before es))) greater ∙ ap (λ rest. e ∷ rest) (put_over key value before es)
-    ] refl
-
-pub found_put : {X : Type 0} (key : Name) (value : X) (es : List (Name × X)) → at_key key (put key value es) ≡ Some value
-found_put key value [] = ap (λ o. cond (is_eq o) (Some value) None) (same key)
-found_put key value (e ∷ es) =
-    elim (name_cmp key e.0) as (λ o. name_cmp key e.0 ≡ o → at_key key (match_ordering o ((key, value) ∷ e ∷ es) ((e.0, value) ∷ es) (e ∷ put key value es)) ≡ Some value) [
-      | Less ↦ λ less. ap (λ o. cond (is_eq o) (Some value) (at_key key (e ∷ es))) (same key)
-      | Equal ↦ λ equal. ap (λ o. cond (is_eq o) (Some value) (at_key key es)) equal
-      | Greater ↦ λ greater. ap (λ o. cond (is_eq o) (Some e.1) (at_key key (put key value es))) greater ∙ found_put key value es
     ] refl
 
 -- what is there is put again

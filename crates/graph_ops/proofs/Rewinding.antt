@@ -1,4 +1,5 @@
 -- The journal of a transaction, a step at a time.
+-- Used by `apply`, `note`, `rewind` and `undo`.
 use Rattle.std.proofs.Common.{◌≡◌, List, [], ◌∷◌, ◌++◌, IsSome, cond, refl, sym, ap, ◌∙◌, subst}
 use Rattle.std.specs.FinMap as map
 use Rattle.std.specs.List.{AllByRecursion}

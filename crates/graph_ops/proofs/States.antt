@@ -1,4 +1,5 @@
 -- What tables of states result in.
+-- Used by `apply`, `copy`, `copy_slots`, `do_step`, `find`, 8 more and crates gatekeeper and version_graph.
 use Rattle.std.proofs.Common.{◌≡◌, Bool, true, false, cond, List, [], ◌∷◌, ◌++◌, Option, Some, None, IsSome, is_some, Result, Ok, Err, IfOk, OnErr, refl, sym, ap, ◌∙◌, subst}
 use Rattle.std.specs.Cmp.{eq_by_cmp_equiv}
 use Rattle.std.specs.Cmp.Lexicographic.{nat_list_cmp_total}
@@ -27,7 +28,7 @@ use Rattle.graph_ops.specs.declared.op.OpFault.TheVariants.{Refused, Memory}
 use Rattle.graph_ops.specs.declared.back.Back.{Back}
 use Rattle.graph_ops.specs.declared.back.Change.{Change}
 
--- what holds at a name, where the names are one, and at every name, where they are two
+-- what holds at a name, if the two names are the same, and at every name, if they differ
 pub here_or_else : (v : Name) (P : Name → Bool → Type 0) → P v true → ((q : Name) → P q false) → (q : Name) → P q (same_name v q)
 here_or_else v P here other q =
     elim (same_name v q) as (λ b. same_name v q ≡ b → P q b) [
@@ -64,11 +65,11 @@ seen slots vertices view = ap plain_of (sym view) ∙ (λ i q. get_held slots q 
 pub seen_empty : (slots : List (Name × State)) → slots ≡ [] → plain_of (held slots) ≡ empty_graph
 seen_empty slots e = ap (λ all. plain_of (held all)) e ∙ (λ i q. get-empty name_cmp q i)
 
--- finite maps of the same states are one
+-- finite maps of the same states are equal
 pub one_map : (a b : Vertices) → ((q : Name) → map.get a q ≡ map.get b q) → a ≡ b
 one_map a b same = same_map nat_list_cmp_total (slice_cmp-IsAntisymmetric nat_cmp-IsAntisymmetric) a b same
 
--- tables of the same states are one finite map
+-- tables of the same states give the same finite map
 pub unchanged : (slots others : List (Name × State)) (vertices : Vertices) → held others ≡ vertices → states_of slots ≡ states_of others → held slots ≡ vertices
 unchanged slots others vertices view same = one_map _ _ (λ q. get_held slots q ∙ ap (λ graph. graph q) same ∙ sym (get_held others q)) ∙ view
 
@@ -109,7 +110,7 @@ rewritten v was now graph is = λ i q. here_or_else v (λ k b. cond b was (cond 
 pub state_of_written : (v : Name) (now : State) (graph : PlainGraph) → with_state v now graph v ≡ now
 state_of_written v now graph = ap (λ b. cond b now (graph v)) ((eq_by_cmp_equiv nat_list_cmp_total).refl v)
 
--- an operation in the place of its vertex, where `was` stood and `now` was written
+-- an operation in the place of its vertex, where `was` was before and `now` was written
 module _ (op : Op) (v : Name) (e : v ≡ vertex_of op) (es fs : List (Name × State)) (was now : State) (there : at_key v es ≡ Some was) (writes : IsSome (at_key v es) → Writes v now es fs) where
   before : states_of es (vertex_of op) ≡ was
   before = subst (λ k. states_of es k ≡ was) e (sym (state_there v es _ there))

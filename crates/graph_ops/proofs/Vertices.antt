@@ -1,4 +1,5 @@
 -- A transaction, vertex by vertex.
+-- Used by `vertices_are_independent`, Naming and 6 crates above.
 use Rattle.std.proofs.Common.{◌≡◌, ℕ, ◌+◌, Bool, true, false, ◌&&◌, cond, List, [], ◌∷◌, ◌++◌, IsTrue, Ok, Err, is_ok, refl, sym, ap, subst, ◌∙◌}
 use Rattle.std.specs.Prelude.{if◌then◌else◌, ⊤}
 use Rattle.std.proofs.lemmas.Bool.{and_parts, both_ways}

@@ -16,7 +16,7 @@ Vertices = FinMap name_cmp Record
 abbrev pub plain_of : Vertices → PlainGraph
 plain_of vertices = λ v. map.get vertices v
 
--- where the call was refused, and not since it is out of memory, the first refused operation and its reason have P
+-- if the call was refused, not for being out of memory, the first refused operation and its reason have P
 abbrev pub IfTxRefused : {A : Type 0} → Result A TxFault → (Stopped → Type 0) → Type 0
 IfTxRefused (Ok gots) P = Unit {0}
 IfTxRefused (Err (Refused number reason)) P = P (record { op = number; reason = reason })

@@ -18,4 +18,5 @@ CanRewindIn steps slots = CanRewind steps (states_of slots) × HavePlaces steps 
 
 -- the step takes the change from `before` to `now` back
 abbrev pub Keeps : Step → List (Name × State) → List (Name × State) → Type 0
-Keeps step now before = CanTakeBack step.back (states_of now step.v) × (step_back step (states_of now) ≡ states_of before)
+Keeps step now before = CanTakeBack step.back (states_of now step.v)
+    × (step_back step (states_of now) ≡ states_of before)

@@ -1,4 +1,5 @@
 pub mod Codes
+pub mod Fields
 pub mod Graphs
 pub mod Journals
 pub mod Mentions

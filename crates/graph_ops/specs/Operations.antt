@@ -1,5 +1,7 @@
--- What an operation does to the state of its vertex: the table of operations, a case a row, reasons in the order of the row. A record has at most 64 properties and 1,000 edges, an edge 8 tags.
-use Rattle.std.specs.Prelude.{◌≡◌, Bool, not, cond, [], Option, Some, None, is_some, Result, Ok, Err}
+-- The table of operations: what each does to the state of its vertex, a case a row, reasons in the order of the row;
+-- and how each is written. A record has at most 64 properties and 1,000 edges, an edge 8 tags.
+use Rattle.std.specs.Prelude.{◌≡◌, ℕ, Bool, true, false, not, cond, List, [], ◌∷◌, find, codes, Option, Some, None, is_some, Result, Ok, Err}
+use Rattle.std.specs.Str.{bytes_eq}
 use Rattle.weave_data.specs.Pairs.{at_key, has, put, without, is_full}
 use Rattle.weave_data.specs.declared.name.Name.{Name}
 use Rattle.graph_ops.specs.declared.record.Edge.{Edge}
@@ -13,7 +15,7 @@ use Rattle.graph_ops.specs.declared.op.Answered.TheVariants.{Done, Got}
 use Rattle.graph_ops.specs.declared.op.OpFault.{OpFault}
 use Rattle.graph_ops.specs.declared.op.OpFault.TheVariants.{Refused, Memory}
 
--- a vertex's state: its record, or None where it is absent
+-- a vertex's state: its record, or None if it is absent
 abbrev pub State : Type 0
 State = Option Record
 
@@ -21,20 +23,20 @@ State = Option Record
 abbrev pub Outcome : Type 0
 Outcome = Result (State × Answered) Reason
 
--- the vertex has this record now, and there is nothing to tell
+-- the vertex has this record now, and there is nothing to answer
 abbrev pub becomes : Record → Outcome
 becomes now = Ok (Some now, Done)
 
--- refused for the reason where the test holds, and else the rest
+-- refused for the reason if the test holds; otherwise the rest
 abbrev pub refused_if : Bool → Reason → Outcome → Outcome
 refused_if test reason rest = cond test (Err reason) rest
 
--- refused as missing where there is no vertex, and else the rest, for its record
+-- `Missing` if there is no vertex; otherwise the rest, for its record
 abbrev pub on_vertex : State → (Record → Outcome) → Outcome
 on_vertex None rest = Err Missing
 on_vertex (Some was) rest = rest was
 
--- refused for want of the edge where there is none, and else the rest, for that edge
+-- `NoEdge` if there is no such edge; otherwise the rest, for that edge
 abbrev pub on_edge : Option Edge → (Edge → Outcome) → Outcome
 on_edge None rest = Err NoEdge
 on_edge (Some edge) rest = rest edge
@@ -49,13 +51,16 @@ applied (Unset v key) state = on_vertex state (λ was.
     refused_if (not (has key was.props)) NoKey (becomes (record was { props = without key was.props })))
 applied (Link v name target) state = on_vertex state (λ was.
     refused_if (has name was.edges) EdgeExists (
-    refused_if (is_full 1000 name was.edges) Full (becomes (record was { edges = put name (record { target = target; tags = [] }) was.edges }))))
+    refused_if (is_full 1000 name was.edges) Full
+    (becomes (record was { edges = put name (record { target = target; tags = [] }) was.edges }))))
 applied (Unlink v name) state = on_vertex state (λ was.
     refused_if (not (has name was.edges)) NoEdge (becomes (record was { edges = without name was.edges })))
 applied (Tag v name key value) state = on_vertex state (λ was. on_edge (at_key name was.edges) (λ edge.
-    refused_if (is_full 8 key edge.tags) Full (becomes (record was { edges = put name (record edge { tags = put key value edge.tags }) was.edges }))))
+    refused_if (is_full 8 key edge.tags) Full (becomes
+    (record was { edges = put name (record edge { tags = put key value edge.tags }) was.edges }))))
 applied (Untag v name key) state = on_vertex state (λ was. on_edge (at_key name was.edges) (λ edge.
-    refused_if (not (has key edge.tags)) NoKey (becomes (record was { edges = put name (record edge { tags = without key edge.tags }) was.edges }))))
+    refused_if (not (has key edge.tags)) NoKey
+    (becomes (record was { edges = put name (record edge { tags = without key edge.tags }) was.edges }))))
 applied (Get v) state = Ok (state, Got state)
 
 -- the vertex that an operation is on
@@ -70,13 +75,61 @@ vertex_of (Tag v name key value) = v
 vertex_of (Untag v name key) = v
 vertex_of (Get v) = v
 
--- where the call was refused, and not since it is out of memory, the reason has P
+-- How operations are written, and what is told of them
+
+-- an operation's word
+abbrev pub op_word : Op → List ℕ
+op_word (Create v) = codes "create"
+op_word (Delete v) = codes "delete"
+op_word (Set v key value) = codes "set"
+op_word (Unset v key) = codes "unset"
+op_word (Link v name target) = codes "link"
+op_word (Unlink v name) = codes "unlink"
+op_word (Tag v name key value) = codes "tag"
+op_word (Untag v name key) = codes "untag"
+op_word (Get v) = codes "get"
+
+-- the names that it takes, in their order
+abbrev pub op_fields : Op → List Name
+op_fields (Create v) = v ∷ []
+op_fields (Delete v) = v ∷ []
+op_fields (Set v key value) = v ∷ key ∷ value ∷ []
+op_fields (Unset v key) = v ∷ key ∷ []
+op_fields (Link v name target) = v ∷ name ∷ target ∷ []
+op_fields (Unlink v name) = v ∷ name ∷ []
+op_fields (Tag v name key value) = v ∷ name ∷ key ∷ value ∷ []
+op_fields (Untag v name key) = v ∷ name ∷ key ∷ []
+op_fields (Get v) = v ∷ []
+
+-- the operations that take these names
+abbrev pub ops_with : List Name → List Op
+ops_with (v ∷ []) = Create v ∷ Delete v ∷ Get v ∷ []
+ops_with (v ∷ other ∷ []) = Unset v other ∷ Unlink v other ∷ []
+ops_with (v ∷ other ∷ last ∷ []) = Set v other last ∷ Link v other last ∷ Untag v other last ∷ []
+ops_with (v ∷ name ∷ key ∷ value ∷ []) = Tag v name key value ∷ []
+ops_with _ = []
+
+-- the one of them that has this word
+abbrev pub op_with : List ℕ → List Name → Option Op
+op_with word fields = find (λ op. bytes_eq word (op_word op)) (ops_with fields)
+
+-- the operation reads its vertex's state, and changes nothing
+abbrev pub is_get : Op → Bool
+is_get (Get v) = true
+is_get _ = false
+
+-- the vertex to which it makes an edge
+abbrev pub target_of : Op → Option Name
+target_of (Link v name target) = Some target
+target_of _ = None
+
+-- if the call was refused, not for being out of memory, the reason has P
 abbrev pub IfRefused : {A : Type 0} → Result A OpFault → (Reason → Type 0) → Type 0
 IfRefused (Ok answer) P = Unit {0}
 IfRefused (Err (Refused reason)) P = P reason
 IfRefused (Err Memory) P = Unit {0}
 
--- a call came to this outcome on a state, or found no memory; after either fault the state is as before
+-- a call had this outcome on a state, or ran out of memory; after either fault the state is as before
 abbrev pub Performs : Outcome → State → State → Result Answered OpFault → Type 0
 Performs outcome old new (Ok answered) = outcome ≡ Ok (new, answered)
 Performs outcome old new (Err (Refused reason)) = (outcome ≡ Err reason) × (new ≡ old)

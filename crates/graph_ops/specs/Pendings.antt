@@ -15,8 +15,11 @@ pub record Both : Type 0 where
 -- a graph with steps taken back, the last one first
 abbrev pub rewound_map : List Step → Vertices → Vertices
 rewound_map [] vertices = vertices
-rewound_map (step ∷ steps) vertices = with_slot step.v (taken_back step.back (map.get (rewound_map steps vertices) step.v)) (rewound_map steps vertices)
+rewound_map (step ∷ steps) vertices =
+    with_slot step.v (taken_back step.back (map.get (rewound_map steps vertices) step.v)) (rewound_map steps vertices)
 
 -- by which values they are told apart
 abbrev pub coded_both : Coded Both
-coded_both = code_by (Vertices × Vertices) (coded× (map.code coded_name coded_record) (map.code coded_name coded_record)) (λ b. (b.before, b.after)) (λ p. record { before = p.0; after = p.1 }) (λ _. refl)
+coded_both =
+    code_by (Vertices × Vertices) (coded× (map.code coded_name coded_record) (map.code coded_name coded_record))
+    (λ b. (b.before, b.after)) (λ p. record { before = p.0; after = p.1 }) (λ _. refl)

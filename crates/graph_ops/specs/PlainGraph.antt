@@ -1,4 +1,5 @@
--- The plain graph: no stamps, no shards, no versions. A transaction runs its operations in order, and is refused at the first that is refused.
+-- The plain graph: no stamps, no shards, no versions. A transaction runs its operations in order, and is refused at the
+-- first that is refused.
 use Rattle.std.specs.Prelude.{ℕ, ◌+◌, List, [], ◌∷◌, ◌++◌, None, Result, Ok, Err, if◌then◌else◌}
 use Rattle.weave_data.specs.Names.{same_name}
 use Rattle.weave_data.specs.declared.name.Name.{Name}
@@ -9,7 +10,7 @@ use Rattle.graph_ops.specs.declared.op.Answered.{Answered}
 use Rattle.graph_ops.specs.declared.op.Answered.TheVariants as answered
 use Rattle.graph_ops.specs.declared.tx.Got.{Got}
 
--- a state for each name; where it is None, the vertex is absent
+-- a state for each name; if it is None, the vertex is absent
 abbrev pub PlainGraph : Type 0
 PlainGraph = Name → State
 
@@ -21,7 +22,8 @@ empty_graph = λ v. None
 abbrev pub with_state : Name → State → PlainGraph → PlainGraph
 with_state v state graph = λ w. if same_name v w then state else graph w
 
--- what an outcome at a vertex results in for the graph: the graph with the vertex's new state and the answer, or the reason
+-- what an outcome at a vertex results in for the graph: the graph with the vertex's new state and the answer, or the
+-- reason
 abbrev pub in_graph : Name → Outcome → PlainGraph → Result (PlainGraph × Answered) Reason
 in_graph v (Ok (now, answer)) graph = Ok (with_state v now graph, answer)
 in_graph v (Err reason) graph = Err reason
@@ -54,7 +56,7 @@ abbrev pub after : List Got → TxOutcome → TxOutcome
 after gots (Ok passed) = Ok (record passed { gots = gots ++ passed.gots })
 after gots (Err stopped) = Err stopped
 
--- what operation `number` came to, and where it isn't refused the rest, on the graph that it leaves
+-- the outcome of operation `number`; if it isn't refused, then the rest, on the graph that it leaves
 abbrev pub onward : ℕ → Result (PlainGraph × Answered) Reason → (PlainGraph → TxOutcome) → TxOutcome
 onward number (Ok (graph, answer)) rest = after (got number answer) (rest graph)
 onward number (Err reason) rest = Err (record { op = number; reason = reason })

@@ -1,4 +1,4 @@
--- A table of states, as a graph keeps them: a vertex that was changed once keeps its place, also where it is absent.
+-- A table of states, as a graph keeps them: a vertex that was changed once keeps its place, even if it is absent.
 use Rattle.std.specs.Prelude.{List, [], ◌∷◌, Option, Some, None, IsSome}
 use Rattle.std.specs.FinMap as map
 use Rattle.weave_data.specs.Pairs.{at_key}

@@ -29,7 +29,8 @@ record_after was name edge (Err reason) = Err reason
 
 -- what the change of an edge results in
 abbrev pub edge_after : TagChange → Name → Record → Outcome
-edge_after change name was = on_edge (at_key name was.edges) (λ edge. record_after was name edge (tags_after change edge.tags))
+edge_after change name was =
+    on_edge (at_key name was.edges) (λ edge. record_after was name edge (tags_after change edge.tags))
 
 -- a call resulted in this on tags, or was out of memory; after either fault they are as before
 abbrev pub DoesToTags : Result Tags Reason → Tags → Tags → Result (Undo Name) OpFault → Type 0

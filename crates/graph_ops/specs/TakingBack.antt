@@ -22,7 +22,9 @@ with_edge name (Some edge) edges = put name edge edges
 
 -- the edges with a change of one's tags taken back
 abbrev pub retagged : Name → Undo Name → List (Name × Edge) → List (Name × Edge)
-retagged name undo edges = with_edge name (option_map {T = Edge} (λ edge. record edge { tags = undone undo edge.tags }) (at_key name edges)) edges
+retagged name undo edges =
+    with_edge name (option_map {T = Edge} (λ edge. record edge { tags = undone undo edge.tags }) (at_key name edges))
+    edges
 
 -- it can be taken back without memory
 abbrev pub CanRetag : Name → Undo Name → List (Name × Edge) → Type 0
@@ -35,7 +37,8 @@ taken_back Absent state = None
 taken_back (Present was) state = Some was
 taken_back (Props undo) state = option_map {T = Record} (λ now. record now { props = undone undo now.props }) state
 taken_back (Edges undo) state = option_map {T = Record} (λ now. record now { edges = undone undo now.edges }) state
-taken_back (Tags name undo) state = option_map {T = Record} (λ now. record now { edges = retagged name undo now.edges }) state
+taken_back (Tags name undo) state =
+    option_map {T = Record} (λ now. record now { edges = retagged name undo now.edges }) state
 
 -- it can be taken back without memory
 abbrev pub CanTakeBack : Back → State → Type 0
@@ -48,7 +51,8 @@ CanTakeBack (Tags name undo) state = IfSome state (λ now. CanRetag name undo no
 
 -- a call resulted in this outcome on a state, and noted how it is taken back; after either fault the state is as before
 abbrev pub Does : Outcome → State → State → Result Change OpFault → Type 0
-Does outcome old new (Ok change) = (outcome ≡ Ok (new, change.answered)) × CanTakeBack change.back new × (taken_back change.back new ≡ old)
+Does outcome old new (Ok change) = (outcome ≡ Ok (new, change.answered)) × CanTakeBack change.back new
+    × (taken_back change.back new ≡ old)
 Does outcome old new (Err (Refused reason)) = (outcome ≡ Err reason) × (new ≡ old)
 Does outcome old new (Err Memory) = new ≡ old
 

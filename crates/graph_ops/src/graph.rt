@@ -44,7 +44,7 @@ impl Graph {
         }
     }
 
-    /// The record of a vertex, or `None` where it is absent.
+    /// The record of a vertex, or `None` if it is absent.
     pub fn find(&self, v: Name) -> Option<&Record>
         ensures { option_copied result ≡ plain_of self.now v }
     {
@@ -54,12 +54,14 @@ impl Graph {
         state.as_ref()
     }
 
-    /// Runs a transaction: all its operations in order, or none where one is refused. After either fault the graph is as before.
+    /// Runs a transaction: all its operations in order, or none if one is refused. After either fault the graph is as
+    /// before.
     ///
     /// It costs its own operations, whatever the size of the graph and of its records. Only `get` copies a record.
     pub fn run_tx(&mut self, alloc: Global, ops: &[Op]) -> Result<Vec<Got>, TxFault>
         requires { length ops.now < 2 ^ 32 }
-        ensures done { IfOk result (λ gots. transaction ops.now (plain_of self.old) ≡ Ok (record { graph = plain_of self.new; gots = gots.items })) }
+        ensures done { IfOk result (λ gots. transaction ops.now (plain_of self.old)
+            ≡ Ok (record { graph = plain_of self.new; gots = gots.items })) }
         ensures refused { IfTxRefused result (λ stopped. transaction ops.now (plain_of self.old) ≡ Err stopped) }
         ensures unchanged { OnErr result (self.new ≡ self.old) }
     {
@@ -69,10 +71,12 @@ impl Graph {
         }
     }
 
-    /// Runs a transaction that may still be taken back. If it passes, the graph moves into the `Pending`, and an empty one is left. After either fault the graph is as before.
+    /// Runs a transaction that may still be taken back. If it passes, the graph moves into the `Pending`, and an empty
+    /// one is left. After either fault the graph is as before.
     pub fn apply(&mut self, alloc: Global, ops: &[Op]) -> Result<(Vec<Got>, Pending), TxFault>
         requires { length ops.now < 2 ^ 32 }
-        ensures done { IfOk result (λ passed. transaction ops.now (plain_of self.old) ≡ Ok (record { graph = plain_of passed.1.after; gots = passed.0.items })) }
+        ensures done { IfOk result (λ passed. transaction ops.now (plain_of self.old)
+            ≡ Ok (record { graph = plain_of passed.1.after; gots = passed.0.items })) }
         ensures before { IfOk result (λ passed. passed.1.before ≡ self.old) }
         ensures left { OnOk result (plain_of self.new ≡ empty_graph) }
         ensures refused { IfTxRefused result (λ stopped. transaction ops.now (plain_of self.old) ≡ Err stopped) }

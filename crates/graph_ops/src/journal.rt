@@ -16,7 +16,8 @@ use std::alloc::{AllocError, Global};
 use std::collections::HashMap;
 use weave_data::{Copied, Name};
 
-/// States under names. A vertex that was changed once keeps its place, also where it is absent, so that its state can be taken back without memory.
+/// States under names. A vertex that was changed once keeps its place, even if it is absent, so that its state can be
+/// taken back without memory.
 pub(crate) type Slots = HashMap<Name, Option<Record>>;
 
 /// An operation that was done: its vertex, and what takes it back.
@@ -73,10 +74,12 @@ fn note(
     op: &Op,
 ) -> Result<Answered, OpFault>
     requires { CanRewindIn journal.old.items slots.old.entries }
-    ensures done { IfOk result (λ answer. on_graph op.now (states_of slots.old.entries) ≡ Ok (states_of slots.new.entries, answer)) }
+    ensures done { IfOk result (λ answer. on_graph op.now (states_of slots.old.entries)
+        ≡ Ok (states_of slots.new.entries, answer)) }
     ensures refused { IfRefused result (λ reason. on_graph op.now (states_of slots.old.entries) ≡ Err reason) }
     ensures kept { CanRewindIn journal.new.items slots.new.entries }
-    ensures same { rewound journal.new.items (states_of slots.new.entries) ≡ rewound journal.old.items (states_of slots.old.entries) }
+    ensures same { rewound journal.new.items (states_of slots.new.entries)
+        ≡ rewound journal.old.items (states_of slots.old.entries) }
 {
     let v = op.vertex();
     make_place(slots, v)?;
@@ -98,10 +101,12 @@ fn do_step(
     op: &Op,
 ) -> Result<Answered, OpFault>
     requires { CanRewindIn journal.old.items slots.old.entries }
-    ensures done { IfOk result (λ answer. on_graph op.now (states_of slots.old.entries) ≡ Ok (states_of slots.new.entries, answer)) }
+    ensures done { IfOk result (λ answer. on_graph op.now (states_of slots.old.entries)
+        ≡ Ok (states_of slots.new.entries, answer)) }
     ensures refused { IfRefused result (λ reason. on_graph op.now (states_of slots.old.entries) ≡ Err reason) }
     ensures kept { CanRewindIn journal.new.items slots.new.entries }
-    ensures same { rewound journal.new.items (states_of slots.new.entries) ≡ rewound journal.old.items (states_of slots.old.entries) }
+    ensures same { rewound journal.new.items (states_of slots.new.entries)
+        ≡ rewound journal.old.items (states_of slots.old.entries) }
 {
     if let Op::Get { v } = *op {
         return Ok(Answered::Got(read(alloc, slots, v)?));
@@ -128,10 +133,12 @@ fn run_all(
 ) -> Result<Vec<Got>, TxFault>
     requires kept { CanRewindIn journal.old.items slots.old.entries }
     requires few { length ops.now < 2 ^ 32 }
-    ensures done { IfOk result (λ gots. transaction ops.now (states_of slots.old.entries) ≡ Ok (record { graph = states_of slots.new.entries; gots = gots.items })) }
+    ensures done { IfOk result (λ gots. transaction ops.now (states_of slots.old.entries)
+        ≡ Ok (record { graph = states_of slots.new.entries; gots = gots.items })) }
     ensures refused { IfTxRefused result (λ stopped. transaction ops.now (states_of slots.old.entries) ≡ Err stopped) }
     ensures kept { CanRewindIn journal.new.items slots.new.entries }
-    ensures same { rewound journal.new.items (states_of slots.new.entries) ≡ rewound journal.old.items (states_of slots.old.entries) }
+    ensures same { rewound journal.new.items (states_of slots.new.entries)
+        ≡ rewound journal.old.items (states_of slots.old.entries) }
 {
     let mut gots = Vec::new(alloc);
     for (i, op) in ops.iter().enumerate() {
@@ -176,9 +183,11 @@ pub(crate) fn run_or_rewind(
     ops: &[Op],
 ) -> Result<(Vec<Got>, Vec<Step>), TxFault>
     requires { length ops.now < 2 ^ 32 }
-    ensures done { IfOk result (λ passed. transaction ops.now (states_of slots.old.entries) ≡ Ok (record { graph = states_of slots.new.entries; gots = passed.0.items })) }
+    ensures done { IfOk result (λ passed. transaction ops.now (states_of slots.old.entries)
+        ≡ Ok (record { graph = states_of slots.new.entries; gots = passed.0.items })) }
     ensures kept { IfOk result (λ passed. CanRewindIn passed.1.items slots.new.entries) }
-    ensures back { IfOk result (λ passed. rewound passed.1.items (states_of slots.new.entries) ≡ states_of slots.old.entries) }
+    ensures back { IfOk result (λ passed. rewound passed.1.items (states_of slots.new.entries)
+        ≡ states_of slots.old.entries) }
     ensures refused { IfTxRefused result (λ stopped. transaction ops.now (states_of slots.old.entries) ≡ Err stopped) }
     ensures unchanged { OnErr result (states_of slots.new.entries ≡ states_of slots.old.entries) }
 {

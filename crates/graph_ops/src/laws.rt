@@ -25,7 +25,8 @@ pub fn vertices_are_independent()
         ↔ ((v : Name) → IsTrue (none_refused (ops_on v ops) (graph v))) }
 {}
 
-/// On two graphs with the same states at the vertices that it names a transaction ends alike: it passes with the same answers, or is refused at the same operation for the same reason.
+/// On two graphs with the same states at the vertices that it names a transaction ends alike: it passes with the same
+/// answers, or is refused at the same operation for the same reason.
 pub fn other_vertices_change_nothing()
     ensures { (ops : List Op) (first second : PlainGraph)
         → ((v : Name) → IsTrue (is_among (named_by ops) v) → first v ≡ second v)

@@ -1,6 +1,8 @@
 //! The plain property graph: records of vertices, operations on them, and transactions, which run whole or not at all.
 //!
-//! `apply_op` does an operation to its vertex's state, and `Graph::run_tx` a transaction to a graph. Each answers exactly what the definitions in `specs/Operations.antt` and `specs/PlainGraph.antt` say, limits among the reasons of refusal, and changes nothing where it answers a fault.
+//! `apply_op` does an operation to its vertex's state, and `Graph::run_tx` a transaction to a graph. Each answers
+//! exactly what the definitions in `specs/Operations.antt` and `specs/PlainGraph.antt` say, limits among the reasons of
+//! refusal, and changes nothing where it answers a fault.
 #![tactic(auto)]
 
 mod back;
@@ -14,13 +16,11 @@ mod pending;
 mod record;
 mod rows;
 mod tags;
-#[cfg(test)]
-mod tests;
 mod tx;
 
 pub use graph::Graph;
 pub use mentions::named;
-pub use op::{Answered, Op, OpFault, Reason, apply_op};
+pub use op::{Answered, Fields, Op, OpFault, Reason, apply_op};
 pub use part::Part;
 pub use pending::Pending;
 pub use record::{Edge, MOST_EDGES, MOST_PROPS, MOST_TAGS, Record};

@@ -1,6 +1,7 @@
 //! Operations on one vertex.
 ghost use Rattle.std.specs.Prelude.{◌≡◌, Ok, Err, IfOk, OnErr};
-ghost use Rattle.graph_ops.specs.Operations.{applied, vertex_of, IfRefused};
+ghost use Rattle.graph_ops.specs.Fields.{names_in};
+ghost use Rattle.graph_ops.specs.Operations.{applied, is_get, op_fields, op_word, target_of, vertex_of, IfRefused};
 ghost use Rattle.graph_ops.specs.TakingBack.{Does};
 
 use crate::back::Change;
@@ -96,6 +97,19 @@ pub enum Answered {
     Got(Option<Record>),
 }
 
+/// The names that an operation takes.
+#[derive(Clone, Copy)]
+pub enum Fields {
+    /// Its vertex alone.
+    One([Name; 1]),
+    /// Its vertex and another name.
+    Two([Name; 2]),
+    /// Its vertex and two more names.
+    Three([Name; 3]),
+    /// Its vertex and three more names.
+    Four([Name; 4]),
+}
+
 impl Copied for Op {
     fn copy(&self, _alloc: Global) -> Result<Self, AllocError> {
         Ok(*self)
@@ -137,6 +151,74 @@ impl Op {
             | Op::Tag { v, .. }
             | Op::Untag { v, .. }
             | Op::Get { v } => v,
+        }
+    }
+
+    /// Its word in a script.
+    pub fn word(&self) -> &'static [u8]
+        ensures { result.now ≡ op_word self.now }
+    {
+        match *self {
+            Op::Create { .. } => b"create",
+            Op::Delete { .. } => b"delete",
+            Op::Set { .. } => b"set",
+            Op::Unset { .. } => b"unset",
+            Op::Link { .. } => b"link",
+            Op::Unlink { .. } => b"unlink",
+            Op::Tag { .. } => b"tag",
+            Op::Untag { .. } => b"untag",
+            Op::Get { .. } => b"get",
+        }
+    }
+
+    /// The names that it takes, in the order of a script.
+    pub fn fields(&self) -> Fields
+        ensures { names_in result ≡ op_fields self.now }
+    {
+        match *self {
+            Op::Create { v } | Op::Delete { v } | Op::Get { v } => Fields::One([v]),
+            Op::Unset { v, key } => Fields::Two([v, key]),
+            Op::Unlink { v, edge } => Fields::Two([v, edge]),
+            Op::Set { v, key, value } => Fields::Three([v, key, value]),
+            Op::Link { v, edge, target } => Fields::Three([v, edge, target]),
+            Op::Untag { v, edge, key } => Fields::Three([v, edge, key]),
+            Op::Tag {
+                v,
+                edge,
+                key,
+                value,
+            } => Fields::Four([v, edge, key, value]),
+        }
+    }
+
+    /// Whether it only reads.
+    pub fn is_get(&self) -> bool
+        ensures { result ≡ is_get self.now }
+    {
+        matches!(*self, Op::Get { .. })
+    }
+
+    /// The vertex to which it makes an edge.
+    pub fn target(&self) -> Option<Name>
+        ensures { result ≡ target_of self.now }
+    {
+        match *self {
+            Op::Link { target, .. } => Some(target),
+            _ => None,
+        }
+    }
+}
+
+impl Fields {
+    /// The names.
+    pub fn as_slice(&self) -> &[Name]
+        ensures { result.now ≡ names_in self.now }
+    {
+        match self {
+            Fields::One(names) => names,
+            Fields::Two(names) => names,
+            Fields::Three(names) => names,
+            Fields::Four(names) => names,
         }
     }
 }

@@ -9,7 +9,8 @@ use crate::journal::{Slots, Step, rewind};
 use std::alloc::Global;
 use std::marker::Model;
 
-/// A graph that a transaction has changed, and that can go back to what it was. Seen by contracts as the graph before and after.
+/// A graph that a transaction has changed, and that can go back to what it was. Seen by contracts as the graph before
+/// and after.
 #[derive(Drop)]
 pub struct Pending {
     slots: Slots,
@@ -25,7 +26,10 @@ impl Model for Pending {
 
     ghost coded = { coded_both };
 
-    ghost view = { λ p. record { before = rewound_map p.journal.items (held p.slots.entries); after = held p.slots.entries } };
+    ghost view = { λ p. record {
+      before = rewound_map p.journal.items (held p.slots.entries);
+      after = held p.slots.entries;
+    } };
 
     ghost invariant = { λ p. CanRewindIn p.journal.items p.slots.entries };
 }

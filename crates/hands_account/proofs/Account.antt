@@ -1,5 +1,6 @@
 -- The closed logs follow the script, so they are an account: each hand has seen what its own entries refer to, and so
 -- all references are within the closed logs.
+-- Used by `closed_logs_are_an_account` and Example.
 use Rattle.std.proofs.Common.{ℕ}
 use Rattle.program_defs.specs.declared.script.Script.{Script}
 use Rattle.weave_account.specs.declared.account.Account.{Account}

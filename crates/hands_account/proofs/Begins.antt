@@ -1,5 +1,6 @@
 -- Each begin is of a request of the script, at its gatekeeper, after what its session had begun last. This needs no
 -- reference to other logs: begins of the start stay so when the account goes on, and the others are so by their hands.
+-- Used by Account.
 use Rattle.std.proofs.Common.{ℕ, Bool, List, inl, inr}
 use Rattle.program_defs.specs.declared.script.Script.{Script}
 use Rattle.program_defs.specs.declared.script.Work.{Work}

@@ -1,11 +1,12 @@
 -- What the proofs are given, and the entries of the closed logs: each was there at the start, or is of a hand, which
 -- has seen it.
+-- Used by `closed_logs_go_on`, Account, Begins, InTurn, Once, 2 more and crates sessions_account and workers_account.
 use Rattle.std.proofs.Common.{◌≡◌, ℕ, ◌<◌, ◌≤◌, Bool, List, ◌∷◌, ◌++◌, length, drop, Contains, AllPairs, IsTrue, ◌⊎◌, inl, inr, refl, sym, ap, subst, ◌∙◌, arith}
 use Rattle.std.specs.List.{filter, flat_map}
 use Rattle.std.proofs.lemmas.List.{length-append}
 use Rattle.std.proofs.lemmas.List.Concat.{flat_map-append}
-use Rattle.proof_base.proofs.Members.{has_cut, has_flat, has_head}
-use Rattle.proof_base.proofs.Ordered.{pairs_across}
+use Rattle.weave_data.proofs.Members.{has_cut, has_flat, has_head}
+use Rattle.weave_data.proofs.Ordered.{pairs_across}
 use Rattle.program_defs.specs.declared.script.Script.{Script}
 use Rattle.program_defs.specs.Limits.{IsWithinLimits}
 use Rattle.weave_entries.specs.declared.gate_log.GateEntry.{GateEntry}
@@ -15,13 +16,13 @@ use Rattle.weave_account.specs.Account.{gate_log, shard_log}
 use Rattle.weave_account.specs.GoesOn.{IsBeginningOf}
 use Rattle.seen_logs.specs.Closed.{AreOfHands, IsOfHands}
 use Rattle.seen_logs.specs.Seen.{AreLegal, IsOwn, IsWithin, without_sessions}
-use Rattle.hands_account.specs.LowerLaws.{LowerLaws}
+use Rattle.hands_account.specs.LowerLaws.{LawsForHands}
 use Rattle.hands_account.specs.Runs.{IsFollowedByHand, IsRunByHands}
 use Rattle.hands_account.proofs.Places.{earlier-place, filter-across, in-back, less-or, onward, since-place}
 
 -- what the lemmas on the closed logs of a run are given
 pub record IsClosedRun (script : Script) (hands : ℕ) (start : Account) (seen_by : ℕ → Account) (closed : Account) : Type 0 where
-  pub laws : LowerLaws
+  pub laws : LawsForHands
   pub limits : IsWithinLimits script
   pub legal : AreLegal script.gates script.shards closed
   pub of : AreOfHands script.shards hands (without_sessions start) seen_by (without_sessions closed)

@@ -1,19 +1,12 @@
 -- A worked run: from no logs on, hand 0 begins, has judged and sends the only transaction of a script, which creates v.
 -- The closed logs meet all premises of the law, so they are an account.
 use Rattle.std.proofs.Common.{◌≡◌, ◌≢◌, ℕ, zero, suc, ◌<◌, ◌≤◌, List, [], ◌∷◌, ◌++◌, length, Contains, IsTrue, AllPairs, Some, None, inr, refl, ap, subst, ◌∙◌, arith}
-use Rattle.std.specs.Prelude.{IsSomeAnd, codes}
+use Rattle.std.specs.Prelude.{IsSomeAnd}
 use Rattle.std.proofs.lemmas.List.{length-append}
-use Rattle.std.proofs.lemmas.List.Elements.{All-nil}
-use Rattle.proof_base.proofs.Entries.{each_none}
-use Rattle.proof_base.proofs.Members.{has_head, has_none, only}
-use Rattle.proof_base.proofs.Ordered.{pairs_none}
-use Rattle.weave_data.specs.declared.name.Name.{Name}
-use Rattle.graph_ops.specs.declared.op.Op.{Op}
-use Rattle.graph_ops.specs.declared.op.Op.TheVariants.{Create}
-use Rattle.graph_ops.specs.declared.part.Part.{Part}
-use Rattle.vector_stamp.specs.declared.clock.Clock.{Clock}
+use Rattle.weave_data.proofs.Entries.{each_none}
+use Rattle.weave_data.proofs.Members.{has_head, has_none, only}
+use Rattle.weave_data.proofs.Ordered.{pairs_none}
 use Rattle.vector_stamp.specs.declared.clock.Stamp.{Stamp}
-use Rattle.vector_stamp.specs.Order.{count_of}
 use Rattle.program_defs.specs.declared.script.Request.{Request}
 use Rattle.program_defs.specs.declared.script.Script.{Script}
 use Rattle.program_defs.specs.declared.script.Work.TheVariants.{Change}
@@ -27,15 +20,11 @@ use Rattle.weave_entries.specs.declared.session_log.SessionEntry.{SessionEntry}
 use Rattle.weave_entries.specs.declared.session_log.SessionDeed.TheVariants as session
 use Rattle.weave_entries.specs.declared.shard_log.ShardEntry.{ShardEntry}
 use Rattle.weave_entries.specs.declared.store_log.StoreEntry.{StoreEntry}
-use Rattle.weave_entries.specs.declared.store_log.StoreDeed.TheVariants.{Judged}
-use Rattle.weave_entries.specs.declared.verdict.Verdict.{Verdict}
-use Rattle.weave_entries.specs.declared.verdict.Verdict.TheVariants.{Committed}
 use Rattle.weave_entries.specs.Logs.{AtEachEntry}
-use Rattle.weave_entries.specs.GateReplay.{Begun, begun_in, programs_of, ticks_of}
+use Rattle.weave_entries.specs.GateReplay.{Begun, begun_in, programs_of}
 use Rattle.weave_entries.specs.GateRules.{FitsAs, HearsAs, HearsNoMore, IsGateLog}
 use Rattle.weave_entries.specs.SessionReplay.{FitsSession, has_reply_in, session_of, session_stamp_of}
 use Rattle.weave_entries.specs.StoreReplay.{Judgement, judged_by}
-use Rattle.weave_entries.specs.StoreRule.{FitsStore, IsStoreLog}
 use Rattle.weave_account.specs.declared.account.Account.{Account}
 use Rattle.weave_account.specs.Account.{gate_log, is_ended, session_log, shard_log, stamp_of}
 use Rattle.weave_account.specs.Clocks.{IsKnown}
@@ -48,25 +37,18 @@ use Rattle.weave_account.specs.Store.{InTurn}
 use Rattle.seen_logs.specs.Closed.{AreOfHands, IsOfHands}
 use Rattle.seen_logs.specs.References.{GateRefersAs, StoreRefersAs}
 use Rattle.seen_logs.specs.Seen.{AreLegal, AnswersFor, IsOwn, IsSeenByHand, IsWithin, since, without_sessions}
-use Rattle.hands_account.specs.LowerLaws.{LowerLaws}
+use Rattle.hands_account.specs.LowerLaws.{LawsForHands}
 use Rattle.hands_account.specs.Runs.{FinishesItsOwn, IsFollowedByHand, IsRunByHands, own_begun}
 use Rattle.hands_account.proofs.Account.{closed-account}
 use Rattle.hands_account.proofs.Places.{pairs-one, whole}
-use Rattle.hands_account.proofs.ShortLogs.{one, two}
+use Rattle.report_rules.proofs.Examples.{script_of, transaction}
+use Rattle.weave_account.proofs.ExampleLists.{one, only-zero, two}
+use Rattle.weave_account.proofs.ExampleParts.{at-gate, clock, created, creates, creating, first-to, in-session, judges-creation, right-creation, two-known, change}
 
 -- The script
 
-abbrev v : Name
-v = codes "v"
-
-abbrev ops : List Op
-ops = Create v ∷ []
-
-abbrev change : Request
-change = record { name = codes "t"; session = 0; gate = 0; work = Change ops }
-
 abbrev script : Script
-script = record { gates = 1; shards = 1; requests = change ∷ []; phases = []; steps = None }
+script = script_of 1 (change ∷ [])
 
 limits : IsWithinLimits script
 limits = record {
@@ -86,35 +68,26 @@ limits = record {
 
 -- The logs
 
-abbrev clock : ℕ → Clock
-clock n = record { epoch = 0; counts = n ∷ 0 ∷ 0 ∷ 0 ∷ 0 ∷ 0 ∷ 0 ∷ 0 ∷ [] }
-
 abbrev t : Stamp
-t = record { home = 0; clock = clock 1 }
-
-abbrev part : Part
-part = record { vertex = v; before = 0; ops = ops }
+t = record { home = 0; clock = clock 1 0 }
 
 abbrev sent : Message
-sent = record { request = Some 0; stamp = t; low = clock 1; parts = part ∷ [] }
-
-abbrev verdict : Verdict
-verdict = Committed 1 [] (record { vertex = v; before = 0 } ∷ [])
+sent = creating t
 
 abbrev g1 : GateEntry
-g1 = record { author = 0; deed = BeganTx 0 t }
+g1 = at-gate (BeganTx 0 t)
 
 abbrev g2 : GateEntry
-g2 = record { author = 0; deed = Sent 0 (record { shard = 0; number = 1; message = sent } ∷ []) }
+g2 = at-gate (Sent 0 (first-to sent))
 
 abbrev judged : StoreEntry
-judged = record { author = 0; deed = Judged 0 t ops [] verdict }
+judged = judges-creation t
 
 abbrev b1 : SessionEntry
-b1 = record { author = 0; deed = session.Begun 0 t }
+b1 = in-session 0 (session.Begun 0 t)
 
 abbrev b2 : SessionEntry
-b2 = record { author = 0; deed = session.Replied 0 }
+b2 = in-session 0 (session.Replied 0)
 
 abbrev start : Account
 start = no_logs script
@@ -132,43 +105,24 @@ gate-logs : (home : ℕ) → IsGateLog home 1 (gate_log seen home)
 gate-logs zero =
     two (λ before (entry : GateEntry). FitsAs 0 1 before entry.author entry.deed) g1 g2
     (record { alone = refl; begun = record { last = None; eight = λ x at. cc; is = refl } })
-    (record { stamp = t; flight = refl; ops = ops; verdict = verdict; counts = refl; messages_are = refl })
+    (record { stamp = t; flight = refl; ops = creates; verdict = created; counts = refl; messages_are = refl })
 gate-logs (suc home) = each_none _
 
 hears : (home : ℕ) → HearsNoMore home (gate_log seen home)
 hears zero = two (λ before (entry : GateEntry). HearsAs 0 before entry.deed) g1 g2 tt tt
 hears (suc home) = each_none _
 
-store-log : IsStoreLog seen.store
-store-log =
-    one (λ before (entry : StoreEntry). FitsStore before entry.deed) judged
-    (record { new = All-nil _; asked_are = refl; pairs = []; verdict_is = refl })
-
 no-shard : (P : List ShardEntry → ShardEntry → Type 0) (shard : ℕ) → AtEachEntry P (shard_log seen shard)
 no-shard P zero = each_none P
 no-shard P (suc shard) = each_none P
 
 legal : AreLegal 1 1 closed
-legal = record { gate_logs = gate-logs; hears = hears; store_log = store-log; oracle_log = tt; shard_logs = λ shard. no-shard _ shard }
+legal = record { gate_logs = gate-logs; hears = hears; store_log = right-creation t; oracle_log = tt; shard_logs = λ shard. no-shard _ shard }
 
 -- What they refer to was seen, by the only hand
 
-known : IsKnown seen (clock 1)
-known = record { eight = refl; counts = at; raised = λ above. absurd (above refl) }
-  where
-    zeros : (home : ℕ) → count_of (suc home) (clock 1) ≡ 0
-    zeros zero = refl
-    zeros (suc zero) = refl
-    zeros (suc (suc zero)) = refl
-    zeros (suc (suc (suc zero))) = refl
-    zeros (suc (suc (suc (suc zero)))) = refl
-    zeros (suc (suc (suc (suc (suc zero))))) = refl
-    zeros (suc (suc (suc (suc (suc (suc zero)))))) = refl
-    zeros (suc (suc (suc (suc (suc (suc (suc home))))))) = refl
-
-    at : (home : ℕ) → count_of home (clock 1) ≤ ticks_of 0 (gate_log seen home)
-    at zero = omega arith
-    at (suc home) = let none = zeros home in omega (arith, none)
+known : IsKnown seen (clock 1 0)
+known = two-known seen 1 0 (omega arith) (omega arith)
 
 gates : (home : ℕ) → AtEachEntry (λ before (entry : GateEntry). AnswersFor 0 (gate_log start home) before entry.author
     → GateRefersAs seen 1 before entry.author entry.deed) (gate_log seen home)
@@ -212,15 +166,11 @@ hand = record {
   asks_once = λ shard other before rest a b asked_a asked_b stamps lasts. absurd (not-asked shard before _ asked_a.after asked_a.at);
 }
 
-first : (number : ℕ) → number < 1 → 0 ≡ number
-first zero less = refl
-first (suc number) less = absurd (omega (arith, less))
-
 of-hands : AreOfHands 1 1 (without_sessions start) (λ number. seen) (without_sessions closed)
 of-hands =
     record {
       some = omega arith;
-      seen = λ number less. subst (λ n. IsSeenByHand 1 n (without_sessions start) seen) (first number less) hand;
+      seen = λ number less. subst (λ n. IsSeenByHand 1 n (without_sessions start) seen) (only-zero number less) hand;
       own_visits = λ number less shard. no-shard _ shard;
       within = λ number less. record { gates = λ home. whole _; store = whole _; oracle = whole _; shards = λ shard. whole _ };
       gate_entries = gates-of-hand;
@@ -309,13 +259,13 @@ runs empty = record {
   at_start = empty;
   gates = refl;
   shards = refl;
-  follows = λ number less. subst (λ n. IsFollowedByHand script n start seen closed) (first number less) follows;
+  follows = λ number less. subst (λ n. IsFollowedByHand script n start seen closed) (only-zero number less) follows;
   hand_of = λ session. 0;
-  own_sessions = λ number less r given request at. first number less;
+  own_sessions = λ number less r given request at. only-zero number less;
   sessions = sessions;
 }
 
-pub worked-run : LowerLaws → IsAccount script start → IsAccount script closed
+pub worked-run : LawsForHands → IsAccount script start → IsAccount script closed
 worked-run laws empty =
     closed-account {script = script} {hands = 1} {start = start} {seen_by = λ number. seen}
     (record { laws = laws; limits = limits; legal = legal; of = of-hands; runs = runs empty })

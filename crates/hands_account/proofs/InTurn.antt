@@ -1,15 +1,16 @@
 -- The judgements of a session are in its order. Two since the start are of one hand. One of the start comes before a
 -- later one: a judgement refers to its begin, and the session had begun the later request next, or had it in flight.
+-- Used by Account.
 use Rattle.std.proofs.Common.{◌≡◌, ◌≢◌, ℕ, ◌<◌, ◌≤◌, ◌==◌, Bool, not, List, [], ◌∷◌, ◌++◌, length, take, drop, Contains, AllPairs, IsTrue, Option, Some, None, inl, inr, refl, sym, ap, subst, ◌∙◌, append_assoc}
-use Rattle.std.specs.Prelude.{All, IsSomeAnd}
+use Rattle.std.specs.Prelude.{IsSomeAnd}
 use Rattle.std.specs.List.{filter, find, list_any}
 use Rattle.std.specs.Option.{option_map}
 use Rattle.std.proofs.lemmas.Bool.{both_ways, cases_Bool, eq-eqb, eqb-true}
 use Rattle.std.proofs.lemmas.List.{take-append-drop}
 use Rattle.std.proofs.lemmas.List.Concat.{flat_map_single}
 use Rattle.std.proofs.lemmas.List.Elements.{All-contains, Contains-append_cases, Contains-append_left}
-use Rattle.proof_base.proofs.Members.{any_from, any_has, cut_at, find_has, find_lacks, flat_has, has_cut, has_flat, has_map, has_none, map_has, only}
-use Rattle.proof_base.proofs.Ordered.{pairs_across}
+use Rattle.weave_data.proofs.Members.{any_from, any_has, cut_at, find_has, find_lacks, flat_has, has_cut, has_flat, has_map, has_none, map_has, only}
+use Rattle.weave_data.proofs.Ordered.{pairs_across}
 use Rattle.vector_stamp.specs.declared.clock.Stamp.{Stamp}
 use Rattle.vector_stamp.specs.Order.{id_of}
 use Rattle.program_defs.specs.declared.script.Request.{Request}
@@ -23,12 +24,10 @@ use Rattle.weave_entries.specs.declared.gate_log.GateDeed.{GateDeed}
 use Rattle.weave_entries.specs.declared.gate_log.GateDeed.TheVariants.{BeganTx, BeganProgram, Sent, Nop, Heard, Raised, Finished}
 use Rattle.weave_entries.specs.declared.session_log.SessionEntry.{SessionEntry}
 use Rattle.weave_entries.specs.declared.store_log.StoreEntry.{StoreEntry}
-use Rattle.weave_entries.specs.declared.store_log.StoreDeed.{StoreDeed}
-use Rattle.weave_entries.specs.declared.store_log.StoreDeed.TheVariants.{Judged}
 use Rattle.weave_entries.specs.GateReplay.{Begun, begun_by, begun_in, ended_by, ended_in, flight_of, has_ended_in, program_by, tx_by, txs_of}
 use Rattle.weave_entries.specs.SessionReplay.{begins_in, has_begun_in, session_of}
-use Rattle.weave_entries.specs.StoreReplay.{Judgement, judged_by, judgements_of}
-use Rattle.weave_entries.specs.StoreRule.{FitsStore, stamps_judged}
+use Rattle.weave_entries.specs.StoreReplay.{Judgement, judgements_of}
+use Rattle.weave_entries.specs.StoreRule.{stamps_judged}
 use Rattle.weave_account.specs.declared.account.Account.{Account}
 use Rattle.weave_account.specs.Account.{all_begun, gate_log, session_log}
 use Rattle.weave_account.specs.Sessions.{requests_of_session}
@@ -38,6 +37,7 @@ use Rattle.hands_account.proofs.ByHands.{IsClosedRun, IsStoreByHand, follows, ga
 use Rattle.hands_account.proofs.Once.{begun-on, not-both, one-begin}
 use Rattle.hands_account.proofs.Places.{Across, earlier-place, flat-pairs, has-on, in-back, less-or, pairs-by-places, pairs-one, place-of}
 use Rattle.hands_account.proofs.Work.{HasWork, judged-author, judgement, own-judged, work-all}
+use Rattle.seen_logs.proofs.MakesAccount.{fits-new}
 
 -- Requests
 
@@ -81,11 +81,6 @@ after-first n xs rise a b ha hb not_first =
     ]
 
 -- Judgements
-
--- a judgement by the rule has a stamp of none before
-fits-new : (before : List StoreEntry) (author : ℕ) (deed : StoreDeed) → FitsStore before deed
-    → All (λ (judged : Stamp). id_of judged ≢ id_of (judged_by author deed).stamp) (stamps_judged before)
-fits-new before author (Judged request stamp ops asked verdict) fits = fits.new
 
 -- what an entry of the store judges, as a list
 abbrev judges : StoreEntry → List Judgement

@@ -1,5 +1,6 @@
 -- The stamp that a request hears is the last one in its session's log, if the request is the next one there. The first
 -- request of a session has none before it, and the one after a place has the one at that place.
+-- Used by `last_stamps_are_those_of_sessions` and crate workers_account.
 use Rattle.std.proofs.Common.{◌≡◌, ◌≢◌, ℕ, zero, suc, ◌+◌, ◌<◌, ◌==◌, Bool, true, false, cond, List, [], ◌∷◌, ◌++◌, length, map, take, drop, reverse, Contains, AllPairs, IsTrue, Option, Some, None, ◌⊎◌, inl, inr, refl, sym, ap, subst, ◌∙◌, append_assoc, arith}
 use Rattle.std.specs.Prelude.{slice_get}
 use Rattle.std.specs.List.{filter, find, range_with_len}
@@ -10,13 +11,13 @@ use Rattle.std.proofs.lemmas.List.Concat.{flat_map-append}
 use Rattle.std.proofs.lemmas.List.Elements.{Contains-append_left, filter-append, filter_agree}
 use Rattle.std.proofs.lemmas.List.Sums.{fold-append}
 use Rattle.std.proofs.lemmas.Option.{get_or_from_slice_get, slice_get_within}
-use Rattle.proof_base.proofs.Ends.{by_last, flat_push}
-use Rattle.proof_base.proofs.Entries.{each_before, each_last}
-use Rattle.proof_base.proofs.Images.{get-has}
-use Rattle.proof_base.proofs.Lists.{get-here}
-use Rattle.proof_base.proofs.Members.{filter_has, has_last, has_map}
-use Rattle.proof_base.proofs.Ordered.{find_by_key, pairs_cons, pairs_front, pairs_head, pairs_none, pairs_tail}
-use Rattle.proof_base.proofs.Ranges.{range_more}
+use Rattle.weave_data.proofs.Ends.{by_last, flat_push}
+use Rattle.weave_data.proofs.Entries.{each_before, each_last}
+use Rattle.weave_data.proofs.Images.{get-has}
+use Rattle.weave_data.proofs.Lists.{get-here}
+use Rattle.weave_data.proofs.Members.{filter_has, has_last, has_map}
+use Rattle.weave_data.proofs.Ordered.{find_by_key, pairs_cons, pairs_front, pairs_head, pairs_none, pairs_tail}
+use Rattle.weave_data.proofs.Ranges.{range_more}
 use Rattle.vector_stamp.specs.declared.clock.Stamp.{Stamp}
 use Rattle.program_defs.specs.declared.script.Request.{Request}
 use Rattle.program_defs.specs.declared.script.Script.{Script}
@@ -30,8 +31,9 @@ use Rattle.weave_account.specs.Account.{session_log, stamp_of}
 use Rattle.weave_account.specs.Gatekeepers.{last_stamp, request_before}
 use Rattle.weave_account.specs.GoesOn.{IsBeginningOf}
 use Rattle.weave_account.specs.Sessions.{SessionsClause, requests_of_session}
-use Rattle.hands_account.specs.LowerLaws.{LowerLaws}
+use Rattle.hands_account.specs.LowerLaws.{LawsForHands}
 use Rattle.hands_account.proofs.Places.{less-or}
+use Rattle.weave_account.proofs.InSession.{NoneBegun, SomeBegun, last-any}
 
 -- Lists
 
@@ -101,7 +103,7 @@ image-pairs f R S says (x ∷ xs) pairs =
 
 -- The request before
 
-module _ (laws : LowerLaws) (script : Script) (r : ℕ) (request : Request) (at : request_at script r ≡ Some request) where
+module _ (laws : LawsForHands) (script : Script) (r : ℕ) (request : Request) (at : request_at script r ≡ Some request) where
   -- the requests of its session
   abbrev all : List ℕ
   all = requests_of_session script request.session
@@ -167,35 +169,9 @@ module _ (laws : LowerLaws) (script : Script) (r : ℕ) (request : Request) (at 
 
 -- What was begun last
 
--- nothing was begun
-record NoneBegun (state : SessionState) : Type 0 where
-  begun-is : state.begun ≡ 0
-  last-is : state.last ≡ None
-
--- something was begun: at the last place so far, with the last stamp
-record SomeBegun (requests : List ℕ) (state : SessionState) (begins : List (ℕ × Stamp)) : Type 0 where
-  place : ℕ
-  request : ℕ
-  stamp : Stamp
-  begun-is : state.begun ≡ suc place
-  at : slice_get requests place ≡ Some request
-  last-is : state.last ≡ Some stamp
-  there : Contains begins (request, stamp)
-
-abbrev IsAfter : List ℕ → SessionState → List (ℕ × Stamp) → Type 0
+-- the state of a session after these begins
+abbrev pub IsAfter : List ℕ → SessionState → List (ℕ × Stamp) → Type 0
 IsAfter requests state begins = (state.requests ≡ requests) × (NoneBegun state ⊎ SomeBegun requests state begins)
-
--- the last stamp doesn't depend on the session's requests
-last-any : (requests others : List ℕ) (log : List SessionEntry) → (session_of requests log).last ≡ (session_of others log).last
-last-any requests others =
-    by_last (λ log. (session_of requests log).last ≡ (session_of others log).last) refl (λ log entry so_far.
-    ap (λ (s : SessionState). s.last) (fold-append (λ session (e : SessionEntry). session_after session e.deed) (session_start requests) log (entry ∷ []))
-    ∙ by-deed (session_of requests log) (session_of others log) entry.deed so_far
-    ∙ ap (λ (s : SessionState). s.last) (sym (fold-append (λ session (e : SessionEntry). session_after session e.deed) (session_start others) log (entry ∷ []))))
-  where
-    by-deed : (a b : SessionState) (deed : SessionDeed) → a.last ≡ b.last → (session_after a deed).last ≡ (session_after b deed).last
-    by-deed a b (Begun r stamp) e = refl
-    by-deed a b (Replied r) e = e
 
 last-step : (requests : List ℕ) (state : SessionState) (begins : List (ℕ × Stamp)) (deed : SessionDeed) → FitsSession state deed
     → IsAfter requests state begins → IsAfter requests (session_after state deed) (begins ++ begin_by deed)
@@ -225,7 +201,8 @@ last-step requests state begins (Replied r) fits (same, inr some) = (
   }),
 )
 
-last-begun : (number : ℕ) (requests : List ℕ) (log : List SessionEntry) → IsSessionLog number requests log
+-- the state of a session after its log
+pub last-begun : (number : ℕ) (requests : List ℕ) (log : List SessionEntry) → IsSessionLog number requests log
     → IsAfter requests (session_of requests log) (begins_in log)
 last-begun number requests =
     by_last (λ log. IsSessionLog number requests log → IsAfter requests (session_of requests log) (begins_in log))
@@ -252,7 +229,7 @@ its-request script session q n at =
     of None there own = absurd cc
     of (Some request) there own = (request, there, eqb-true request.session session own)
 
-module _ (laws : LowerLaws) (script : Script) (account : Account) (sessions : SessionsClause script account) where
+module _ (laws : LawsForHands) (script : Script) (account : Account) (sessions : SessionsClause script account) where
   -- a begin of a session's log, also of its beginning, has the request's stamp
   stamp-there : (session : ℕ) (log : List SessionEntry) → IsBeginningOf log (session_log account session) → (q : ℕ) (stamp : Stamp)
       → Contains (begins_in log) (q, stamp) → session_stamp_of q (session_log account session) ≡ Some stamp

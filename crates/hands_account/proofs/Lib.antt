@@ -8,5 +8,4 @@ pub mod Programs
 pub mod Account
 pub mod LastStamp
 pub mod Needed
-pub mod ShortLogs
 pub mod Example

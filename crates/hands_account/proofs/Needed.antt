@@ -1,12 +1,13 @@
 -- What a hand made follows the script if the closed logs are an account of it: so what is asked of hands is no more than
 -- an account has, but for the programs that they finish. What a hand has seen is the beginning of the closed logs.
+-- Used by `hands_of_an_account_follow_its_script` and crate workers_account.
 use Rattle.std.proofs.Common.{◌≡◌, ◌≢◌, ℕ, zero, suc, ◌<◌, ◌≤◌, ◌==◌, List, [], ◌∷◌, ◌++◌, length, drop, get_or, Contains, AllPairs, IsTrue, Some, refl, sym, ap, subst, ◌∙◌, append_assoc, arith}
 use Rattle.std.specs.List.{filter, flat_map}
 use Rattle.std.proofs.lemmas.List.{map-append}
 use Rattle.std.proofs.lemmas.List.Concat.{flat_map-append}
 use Rattle.std.proofs.Math.Seq.{drop-append_seam}
-use Rattle.proof_base.proofs.Members.{cut_at, filter_has, map_has}
-use Rattle.proof_base.proofs.Ordered.{pairs_across, pairs_front, pairs_none}
+use Rattle.weave_data.proofs.Members.{cut_at, filter_has, map_has, drop_has}
+use Rattle.weave_data.proofs.Ordered.{pairs_across, pairs_front, pairs_none}
 use Rattle.program_defs.specs.declared.program.Program.{Program}
 use Rattle.program_defs.specs.declared.script.Request.{Request}
 use Rattle.program_defs.specs.declared.script.Script.{Script}
@@ -15,7 +16,7 @@ use Rattle.program_defs.specs.Limits.{IsWithinLimits}
 use Rattle.report_rules.specs.Lookups.{request_at}
 use Rattle.weave_entries.specs.declared.gate_log.GateEntry.{GateEntry}
 use Rattle.weave_entries.specs.Logs.{AtEachEntry}
-use Rattle.weave_entries.specs.GateReplay.{Begun, begun_by, begun_in}
+use Rattle.weave_entries.specs.GateReplay.{Begun, begun_in}
 use Rattle.weave_entries.specs.StoreReplay.{Judgement, judgements_of}
 use Rattle.weave_account.specs.declared.account.Account.{Account}
 use Rattle.weave_account.specs.Account.{gate_log, is_ended, reads_of}
@@ -25,16 +26,17 @@ use Rattle.weave_account.specs.Programs.{ReadsInTurn}
 use Rattle.weave_account.specs.Store.{InTurn}
 use Rattle.seen_logs.specs.Closed.{AreOfHands}
 use Rattle.seen_logs.specs.Seen.{AreLegal, IsOwn, since, without_sessions}
-use Rattle.hands_account.specs.LowerLaws.{LowerLaws}
+use Rattle.hands_account.specs.LowerLaws.{LawsForHands}
 use Rattle.hands_account.specs.Runs.{FinishesOwnPrograms, IsFollowedByHand, IsOwnProgram, own_begun, own_judgements}
-use Rattle.hands_account.proofs.Places.{drop-has, has-on, pairs-append, pairs-filter, pairs-second}
+use Rattle.hands_account.proofs.Places.{has-on, pairs-append, pairs-filter, pairs-second}
 use Rattle.hands_account.proofs.Programs.{apart, reads-move}
 use Rattle.hands_account.proofs.Work.{HasWork, judgement}
+use Rattle.hands_account.proofs.Once.{begins-of}
 
 -- Lists
 
 -- what is made of one of many lists has it among itself, if what is made of all has
-list-within : {A B : Type 0} (R : B → B → Type 0) (f : List A → List B) → f [] ≡ [] → (xss : List (List A)) → AllPairs R (flat_map f xss)
+pub list-within : {A B : Type 0} (R : B → B → Type 0) (f : List A → List B) → f [] ≡ [] → (xss : List (List A)) → AllPairs R (flat_map f xss)
     → (i : ℕ) → AllPairs R (f (get_or xss i []))
 list-within R f none [] pairs i = subst (AllPairs R) (sym none) (pairs_none R)
 list-within R f none (xs ∷ xss) pairs zero = pairs_front R (f xs) (flat_map f xss) pairs
@@ -42,11 +44,7 @@ list-within R f none (xs ∷ xss) pairs (suc i) = list-within R f none xss (pair
 
 -- Hands
 
--- what an entry of a gatekeeper's log began
-abbrev begins-of : GateEntry → List Begun
-begins-of entry = begun_by entry.author entry.deed
-
-module _ (laws : LowerLaws) (script : Script) (hands : ℕ) (start : Account) (seen_by : ℕ → Account) (closed : Account)
+module _ (laws : LawsForHands) (script : Script) (hands : ℕ) (start : Account) (seen_by : ℕ → Account) (closed : Account)
     (limits : IsWithinLimits script) (legal : AreLegal script.gates script.shards closed)
     (of : AreOfHands script.shards hands (without_sessions start) seen_by (without_sessions closed)) (is : IsAccount script closed)
     (number : ℕ) (known : number < hands) where
@@ -81,7 +79,7 @@ module _ (laws : LowerLaws) (script : Script) (hands : ℕ) (start : Account) (s
       let log = (seen_by number).store in
       let among = (filter_has (λ (j : Judgement). j.author == number) (judgements_of (since start.store log)) judged h).0 in
       let entry = map_has judgement (since start.store log) judged among in
-      let there = has-on log closed.store (of.within number known).store entry.0 (drop-has (length start.store) log entry.0 entry.1) in
+      let there = has-on log closed.store (of.within number known).store entry.0 (drop_has (length start.store) log entry.0 entry.1) in
       let cut = cut_at closed.store entry.0 there in
       subst (HasWork script) entry.2 (is.store.judges cut.before entry.0 cut.after cut.is).work
 

@@ -1,11 +1,12 @@
 -- Each request begins once. This needs no reference to other logs: a begin is at its request's gatekeeper, so two of one
 -- request are in one log. A session has one hand, and this begins none twice, and none of the start's.
+-- Used by Account, Begins, InTurn, Needed, Programs and crates sessions_account and workers_account.
 use Rattle.std.proofs.Common.{◌≡◌, ◌≢◌, ℕ, ◌<◌, ◌≤◌, ◌==◌, ◌&&◌, Bool, true, List, [], ◌∷◌, ◌++◌, length, get_or, Contains, AllPairs, IsTrue, Option, Some, None, inl, inr, refl, sym, ap, subst, ◌∙◌, append_assoc, arith}
 use Rattle.std.proofs.lemmas.Bool.{and_parts, eq-eqb, eqb-true}
 use Rattle.std.proofs.lemmas.List.{length-append}
 use Rattle.std.proofs.lemmas.List.Elements.{Contains-append_cases}
-use Rattle.proof_base.proofs.Members.{cut_at, filter_has, flat_has, has_cut, has_filter, has_flat, has_none, only}
-use Rattle.proof_base.proofs.Ordered.{pairs_across, pairs_cases, pairs_front, pairs_none}
+use Rattle.weave_data.proofs.Members.{cut_at, filter_has, flat_has, has_cut, has_filter, has_flat, has_none, only, drop_has}
+use Rattle.weave_data.proofs.Ordered.{pairs_across, pairs_cases, pairs_front, pairs_none}
 use Rattle.program_defs.specs.declared.script.Request.{Request}
 use Rattle.program_defs.specs.declared.script.Script.{Script}
 use Rattle.program_defs.specs.declared.script.Work.{Work}
@@ -22,7 +23,7 @@ use Rattle.weave_account.specs.Gatekeepers.{BeginEachOnce, BeginsAs}
 use Rattle.seen_logs.specs.Seen.{since}
 use Rattle.hands_account.specs.Runs.{own_begun}
 use Rattle.hands_account.proofs.ByHands.{IsGateByHand, IsClosedRun, first, follows, gate-by, gate-case, gates-on, pair-since, pair-there, starts}
-use Rattle.hands_account.proofs.Places.{Across, at-place, drop-has, earlier-place, flat-pairs, has-on, less-or, list-there, pairs-by-places, pairs-one, pairs-second, place-of, since-place}
+use Rattle.hands_account.proofs.Places.{Across, at-place, earlier-place, flat-pairs, has-on, less-or, list-there, pairs-by-places, pairs-one, pairs-second, place-of, since-place}
 
 -- Begins
 
@@ -113,11 +114,11 @@ both-kinds (Change ops) change look = cc
 both-kinds (Look program) change look = cc
 
 -- what an entry began
-abbrev begins-of : GateEntry → List Begun
+abbrev pub begins-of : GateEntry → List Begun
 begins-of entry = begun_by entry.author entry.deed
 
 -- of two begins, that they are of two requests
-abbrev Differ : Begun → Begun → Type 0
+abbrev pub Differ : Begun → Begun → Type 0
 Differ a b = a.request ≢ b.request
 
 module _ {script : Script} {hands : ℕ} {start : Account} {seen_by : ℕ → Account} {closed : Account} (run : IsClosedRun script hands start seen_by closed) where
@@ -226,7 +227,7 @@ module _ {script : Script} {hands : ℕ} {start : Account} {seen_by : ℕ → Ac
       let entry = flat_has begins-of (gate_log closed home) begun h in
       has_flat begun_in closed.gates (gate_log closed home) begun (list-there closed.gates home entry.0 entry.1) h
 
-  -- two begins of one request are one
+  -- two begins of one request are the same
   pub one-begin : (home other : ℕ) (a b : Begun) → Contains (begun_in (gate_log closed home)) a → Contains (begun_in (gate_log closed other)) b
       → a.request ≡ b.request → a ≡ b
   one-begin home other a b ha hb same =
@@ -250,7 +251,7 @@ module _ {script : Script} {hands : ℕ} {start : Account} {seen_by : ℕ → Ac
       let began = (filter_has (λ (c : Begun). c.author == number) (begun_in (since (gate_log start other) log)) b hb).0 in
       let entry = flat_has begins-of (since (gate_log start other) log) b began in
       let seen = has-on log (gate_log closed other) ((run.of.within number known).gates other) entry.0
-      (drop-has (length (gate_log start other)) log entry.0 entry.1) in
+      (drop_has (length (gate_log start other)) log entry.0 entry.1) in
       let of_b = request-in other b (has_flat begins-of (gate_log closed other) entry.0 b seen entry.2) in
       let of_a = request-in home a (begun-on home a ha) in
       let gates = one-gate script any_kind any_kind home other a.request b.request of_a of_b same in

@@ -1,12 +1,13 @@
 -- Lists by places: the place of an element in a part of a list, and relations between elements at two places.
+-- Used by Begins, ByHands, Example, InTurn, 5 more and crates sessions_account, weave_phase and workers_account.
 use Rattle.std.proofs.Common.{◌≡◌, ℕ, zero, suc, ◌<◌, ◌≤◌, Bool, true, false, cond, List, [], ◌∷◌, ◌++◌, length, drop, get_or, Contains, AllPairs, IsTrue, ◌⊎◌, inl, inr, refl, sym, ap, subst, ◌∙◌, append_assoc, arith}
 use Rattle.std.specs.List.{filter, flat_map}
 use Rattle.std.proofs.lemmas.Bool.{cases_order}
 use Rattle.std.proofs.lemmas.List.{append-nil, length-append}
 use Rattle.std.proofs.lemmas.List.Elements.{Contains-append_cases, Contains-append_left, filter-append}
 use Rattle.std.proofs.Math.Seq.{drop-append_seam}
-use Rattle.proof_base.proofs.Members.{cut_at, filter_has, flat_has, has_filter, has_head, has_none, has_read, has_tail}
-use Rattle.proof_base.proofs.Ordered.{pairs_across, pairs_cons, pairs_head, pairs_none, pairs_tail}
+use Rattle.weave_data.proofs.Members.{cut_at, filter_has, flat_has, has_filter, has_head, has_none, has_read, has_tail}
+use Rattle.weave_data.proofs.Ordered.{pairs_across, pairs_cons, pairs_head, pairs_none, pairs_tail}
 use Rattle.weave_account.specs.GoesOn.{IsBeginningOf}
 
 -- of two numbers the first is less, or the second is at most the first
@@ -70,12 +71,6 @@ module _ {A : Type 0} where
   -- what a list has, one that goes on has
   pub has-on : (xs ys : List A) → IsBeginningOf xs ys → (x : A) → Contains xs x → Contains ys x
   has-on xs ys on x h = subst (λ zs. Contains zs x) (sym on.1) (Contains-append_left xs on.0 x h)
-
-  -- what is left of a list is among all
-  pub drop-has : (n : ℕ) (xs : List A) (x : A) → Contains (drop n xs) x → Contains xs x
-  drop-has zero xs x h = h
-  drop-has (suc n) [] x h = absurd (has_none x h)
-  drop-has (suc n) (y ∷ xs) x h = has_tail y xs x (drop-has n xs x h)
 
   -- the element at its place
   pub at-place : (before after : List A) (e d : A) → get_or (before ++ e ∷ after) (length before) d ≡ e

@@ -1,11 +1,12 @@
 -- What each program has read are the vertices of its list of visits. A visit refers to its program's begin, and is of
 -- the hand that made it: so a program has read what that hand has seen, and one of the start has read no more since.
+-- Used by Account, Needed and crate workers_account.
 use Rattle.std.proofs.Common.{◌≡◌, ℕ, ◌≤◌, ◌==◌, List, ◌∷◌, ◌++◌, length, Contains, IsTrue, Some, inl, inr, refl, sym, subst, arith}
 use Rattle.std.specs.List.{flat_map}
 use Rattle.std.proofs.lemmas.Bool.{eq-eqb}
 use Rattle.std.proofs.lemmas.List.Elements.{Contains-append_right}
-use Rattle.proof_base.proofs.Members.{cut_at, flat_has, has_cut, has_filter, has_flat, has_none, only}
-use Rattle.proof_base.proofs.Numbers.{has-in, in-has}
+use Rattle.weave_data.proofs.Members.{cut_at, flat_has, has_cut, has_filter, has_flat, has_none, only}
+use Rattle.weave_data.proofs.Numbers.{has-in, in-has}
 use Rattle.weave_data.specs.declared.name.Name.{Name}
 use Rattle.graph_ops.specs.Operations.{State}
 use Rattle.program_defs.specs.declared.program.Program.{Program}

@@ -1,9 +1,10 @@
 -- What is judged are the operations of its request. This needs no reference to other logs: it is so at the start by the
 -- account there, and later by the hand that judged.
+-- Used by Account, InTurn and Needed.
 use Rattle.std.proofs.Common.{◌≡◌, ℕ, ◌==◌, List, Contains, inl, inr, refl, sym, subst, ◌∙◌}
 use Rattle.std.specs.Prelude.{IsSomeAnd}
 use Rattle.std.proofs.lemmas.Bool.{eq-eqb}
-use Rattle.proof_base.proofs.Members.{cut_at, has_cut, has_filter, has_map, map_has}
+use Rattle.weave_data.proofs.Members.{cut_at, has_cut, has_filter, has_map, map_has}
 use Rattle.program_defs.specs.declared.script.Request.{Request}
 use Rattle.program_defs.specs.declared.script.Script.{Script}
 use Rattle.program_defs.specs.declared.script.Work.TheVariants.{Change}

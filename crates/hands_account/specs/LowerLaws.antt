@@ -1,4 +1,4 @@
--- The laws of the crates below that the laws of this crate stand on, in one. No public contract cites this.
+-- The laws of the crates below that the laws of this crate rely on, in one record. No public contract cites this.
 use Rattle.std.specs.Prelude.{◌≡◌, ◌≢◌, ◌↔◌, ℕ, ◌<◌, ◌≤◌, List, ◌∷◌, ◌++◌, not, ◌==◌, map, take, length, AllPairs, Contains, IsTrue, Some}
 use Rattle.vector_stamp.specs.declared.clock.Stamp.{Stamp}
 use Rattle.program_defs.specs.declared.script.Request.{Request}
@@ -26,7 +26,7 @@ use Rattle.seen_logs.specs.FollowsScript.{BegunProgramsReadInTurn, FollowsScript
 use Rattle.seen_logs.specs.Seen.{AreLegal, IsSeenByHand, since, without_sessions}
 
 -- closed logs refer within and make an account, programs read what was seen, and accounts keep their laws
-pub record LowerLaws : Type 0 where
+pub record LawsForHands : Type 0 where
   -- Closed logs
   pub refer_within : (gates shards hands : ℕ) (start : Account) (seen_by : ℕ → Account) (closed : Account)
       → length closed.gates ≤ 8 → AreLegal gates shards closed → AreOfHands shards hands start seen_by closed

@@ -1,4 +1,4 @@
--- When a script is run by hands: the premises under which the closed logs are an account of it, beside what the logs
+-- When a script is run by hands: the premises under which the closed logs are an account of it, besides what the logs
 -- refer to. They are about what was begun, judged, read and finished.
 use Rattle.std.specs.Prelude.{◌≡◌, ◌≢◌, ◌⊎◌, ℕ, ◌<◌, ◌==◌, List, ◌++◌, filter, length, AllPairs, Contains, IsSomeAnd, IsTrue, Some, ⊤}
 use Rattle.std.specs.Option.{ForSome}
@@ -77,8 +77,8 @@ pub record IsFollowedByHand (script : Script) (number : ℕ) (start seen closed 
   pub finishes : FinishesOwnPrograms number start seen
 
 -- A script is run by hands. The logs at the start are an account of it. At the end there is a log for each of its
--- gatekeepers and shards, and the sessions' logs are those of their requests. Each hand follows the script. Each session
--- has one hand, and a hand was given requests of its own sessions alone: so no request was given to two hands.
+-- gatekeepers and shards, and the sessions' logs are those of their requests. Each hand follows the script. Each
+-- session has one hand, and a hand was given requests of its own sessions alone: so no request was given to two hands.
 pub record IsRunByHands (script : Script) (hands : ℕ) (start : Account) (seen_by : ℕ → Account) (closed : Account)
     : Type 0 where
   pub at_start : IsAccount script start

@@ -1,5 +1,5 @@
 //! The laws of the crates below, in one.
-ghost use Rattle.hands_account.specs.LowerLaws.{LowerLaws};
+ghost use Rattle.hands_account.specs.LowerLaws.{LawsForHands};
 
 use seen_logs::laws::{
     begun_programs_are_enough, closed_logs_refer_within, logs_make_an_account,
@@ -10,9 +10,9 @@ use weave_account::laws::{
 };
 use weave_entries::laws::{begun_and_replied_are_decided, requests_end, sessions_go_in_turn};
 
-/// The laws of the crates below that the laws of this crate stand on.
+/// The laws of the crates below that the laws of this crate rely on.
 pub(crate) fn the_crates_below_keep_their_laws()
-    ensures { LowerLaws }
+    ensures { LawsForHands }
 {
     begun_and_replied_are_decided();
     begun_programs_are_enough();

@@ -1,9 +1,10 @@
 -- What a worker keeps, after it began a request.
+-- Used by `begin`, `start` and `transact`.
 use Rattle.std.proofs.Common.{◌≡◌, ◌≢◌, ℕ, ◌+◌, ◌<◌, ◌≤◌, List, [], ◌∷◌, ◌++◌, Contains, length, map, inl, Ok, Err, refl, ap, ◌∙◌, subst, sym, arith}
 use Rattle.std.specs.Prelude.{Option, None, Some}
 use Rattle.std.specs.Option.{ForSome}
 use Rattle.std.proofs.lemmas.List.{get_or-set_same, length-map}
-use Rattle.proof_base.proofs.Members.{has_flat, has_head, has_last, only}
+use Rattle.weave_data.proofs.Members.{has_flat, has_head, has_last, only}
 use Rattle.graph_ops.specs.declared.op.Op.{Op}
 use Rattle.vector_stamp.specs.declared.clock.Stamp.{Stamp}
 use Rattle.chronicle.specs.Passes.{own}
@@ -27,9 +28,9 @@ use Rattle.weaver_hands.specs.declared.fault.HandFault.TheVariants.{Busy}
 use Rattle.weaver_hands.specs.Leaving.{LeavesAlone, MakesNoVisit}
 use Rattle.weaver_hands.specs.Programs.{IsRunning}
 use Rattle.weaver_hands.specs.Transactions.{Transacts, TransactsAs}
-use Rattle.hands_rows.specs.Going.{WorkersLaws}
+use Rattle.hands_rows.specs.Going.{OwnRequestLaws}
 use Rattle.hands_rows.specs.Workers.{IsWorker}
-use Rattle.hands_rows.proofs.Going.{for-some, just, nothing-there}
+use Rattle.weaver_locks.proofs.Options.{for-some, just, nothing-there}
 use Rattle.hands_rows.proofs.Quiet.{Quietly, none-begins, one-begins-none, quiet-elsewhere, quiet-gate}
 
 -- the hand began this request alone, and may let a gatekeeper hear its stamp
@@ -59,7 +60,7 @@ made-there shared old new gate added is low made =
     ap (λ (a : Account). gate_log a gate) made ∙ get_or-set_same logs gate (gate_log (made_by old) gate ++ added) [] there
 
 -- a hold of a gatekeeper in which a request was begun
-module _ (laws : WorkersLaws) (shared : Shared) (old new : Hand) (gate request : ℕ) (stamp : Stamp) (deed : GateDeed)
+module _ (laws : OwnRequestLaws) (shared : Shared) (old new : Hand) (gate request : ℕ) (stamp : Stamp) (deed : GateDeed)
     (begins : begun_by (hand_number old) deed ≡ record { author = hand_number old; request = request; stamp = stamp } ∷ []) where
   abbrev this : Begun
   this = record { author = hand_number old; request = request; stamp = stamp }
@@ -92,7 +93,7 @@ module _ (laws : WorkersLaws) (shared : Shared) (old new : Hand) (gate request :
       }
 
 -- a transaction
-module _ (laws : WorkersLaws) (shared : Shared) (old new : Hand) (gate request : ℕ) (ops : List Op) (last : Option Stamp) where
+module _ (laws : OwnRequestLaws) (shared : Shared) (old new : Hand) (gate request : ℕ) (ops : List Op) (last : Option Stamp) where
   transact-began : (stamp : Stamp) (verdict : Verdict) → IsHand shared old → gate < gate_count shared
       → Transacts (shard_count shared) old new gate request ops last stamp verdict → Began shared old new request stamp
   transact-began stamp verdict is low did =
@@ -111,7 +112,7 @@ module _ (laws : WorkersLaws) (shared : Shared) (old new : Hand) (gate request :
 
 -- What a worker keeps
 
-module _ (laws : WorkersLaws) (shared : Shared) (old new : Hand) (next : ℕ) (last : Option Stamp) (walk : Option Running)
+module _ (laws : OwnRequestLaws) (shared : Shared) (old new : Hand) (next : ℕ) (last : Option Stamp) (walk : Option Running)
     (request n : ℕ) (stamp : Stamp) (n_is : n ≡ request) (low : next ≤ request) (on : Began shared old new request stamp)
     (is_new : IsHand shared new) (had : IsWorker shared old next last walk) where
   begins-on : ((r : ℕ) → MakesNoVisit old new r) → (other : Option Running) → ForSome other (IsRunning shared new)

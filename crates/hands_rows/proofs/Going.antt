@@ -1,8 +1,8 @@
 -- What a worker keeps stays true after its calls that begin nothing.
-use Rattle.std.proofs.Common.{◌≡◌, ◌≢◌, ℕ, ◌<◌, ◌≤◌, Ok, Err, Result, ◌∙◌, subst, arith}
+-- Used by `apply`, `begin`, `finish`, `nop`, `pull`, `say_and_hear`, `transact` and `visit`.
+use Rattle.std.proofs.Common.{◌≡◌, ◌≢◌, ℕ, ◌<◌, ◌≤◌, Ok, Err, Result, ◌∙◌, arith}
 use Rattle.std.specs.Prelude.{Option, None, Some}
 use Rattle.std.specs.Option.{ForSome}
-use Rattle.std.proofs.lemmas.Option.{none-some, same_Some}
 use Rattle.vector_stamp.specs.declared.clock.Stamp.{Stamp}
 use Rattle.weaver_core.specs.declared.walks.Running.{Running}
 use Rattle.weaver_locks.specs.declared.hand.Hand.{Hand}
@@ -12,24 +12,12 @@ use Rattle.weaver_hands.specs.declared.fault.HandFault.{HandFault}
 use Rattle.weaver_hands.specs.declared.fault.HandFault.TheVariants.{Busy, NotYet, Empty, Waits, Memory}
 use Rattle.weaver_hands.specs.Leaving.{LeavesAlone, MakesNoVisit}
 use Rattle.weaver_hands.specs.Programs.{IsRunning, VisitsAs}
-use Rattle.hands_rows.specs.Going.{WorkersLaws}
+use Rattle.hands_rows.specs.Going.{OwnRequestLaws}
 use Rattle.hands_rows.specs.Workers.{IsWorker}
 use Rattle.hands_rows.proofs.Quiet.{Quietly}
+use Rattle.weaver_locks.proofs.Options.{for-some, just, nothing-there}
 
-pub nothing-there : {A : Type 0} (P : A → Type 0) → (let none : Option A = None in ForSome none P)
-nothing-there P x is = absurd (none-some x is)
-
-pub for-some : {A : Type 0} (P Q : A → Type 0) (o : Option A) → ((x : A) → P x → Q x) → ForSome o P → ForSome o Q
-for-some P Q o on had x is = on x (had x is)
-
-pub just : {A : Type 0} (P : A → Type 0) (x : A) → P x → ForSome (Some x) P
-just P x holds y is = subst P (same_Some x y is) holds
-
--- the last stamp, if it was asked for
-pub asked-last : (P : Stamp → Type 0) (asked last : Option Stamp) → ForSome asked (λ stamp. last ≡ Some stamp) → ForSome last P → ForSome asked P
-asked-last P asked last same holds x is = holds x (same x is)
-
-module _ (laws : WorkersLaws) (shared : Shared) (old new : Hand) (next : ℕ) (last : Option Stamp) (walk : Option Running)
+module _ (laws : OwnRequestLaws) (shared : Shared) (old new : Hand) (next : ℕ) (last : Option Stamp) (walk : Option Running)
     (on : Quietly shared old new) (is_new : IsHand shared new) (had : IsWorker shared old next last walk) where
   -- all but the program
   pub goes-on : ((r : ℕ) → next ≤ r → MakesNoVisit old new r) → (other : Option Running) → ForSome other (IsRunning shared new)
@@ -75,7 +63,7 @@ visit-same gates shards old new was is (Err Empty) none = absurd none
 visit-same gates shards old new was is (Err (Waits vertex)) none = absurd none
 
 -- the program has read its next vertex, or tried to
-pub visits-on : WorkersLaws → (shared : Shared) (old new : Hand) (next : ℕ) (last : Option Stamp) (walk : Option Running) (was is : Running)
+pub visits-on : OwnRequestLaws → (shared : Shared) (old new : Hand) (next : ℕ) (last : Option Stamp) (walk : Option Running) (was is : Running)
     → Quietly shared old new → IsHand shared new → IsWorker shared old next last walk → walk ≡ Some was
     → ((r : ℕ) → r ≢ was.request → LeavesAlone old new r) → is.request ≡ was.request → IsRunning shared new is
     → IsWorker shared new next last (Some is)

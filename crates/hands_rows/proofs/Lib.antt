@@ -4,4 +4,3 @@ pub mod Crossing
 pub mod Going
 pub mod Opening
 pub mod Quiet
-pub mod Table

@@ -1,6 +1,7 @@
 -- Calls that begin nothing: what was not begun stays so, and what may be heard still may.
+-- Used by `apply`, `begin`, `finish`, `nop`, `pull`, `say_and_hear`, `visit`, Began and Going.
 use Rattle.std.proofs.Common.{◌≡◌, ℕ, Bool, true, false, List, [], ◌∷◌, Contains, Ok, Err, Result, refl, ap, ◌∙◌, subst, sym}
-use Rattle.proof_base.proofs.Members.{has_none, only}
+use Rattle.weave_data.proofs.Members.{has_none, only}
 use Rattle.program_defs.specs.declared.program.Answer.{Answer}
 use Rattle.vector_stamp.specs.declared.clock.Stamp.{Stamp}
 use Rattle.weave_entries.specs.declared.gate_log.GateDeed.{GateDeed}
@@ -19,7 +20,7 @@ use Rattle.weaver_hands.specs.Leaving.{MadeNone}
 use Rattle.weaver_hands.specs.Messages.{AppliesAs, PullsAs}
 use Rattle.weaver_hands.specs.Programs.{FinishesAs, VisitsAs}
 use Rattle.weaver_hands.specs.Telling.{NopsAs, TellsAs}
-use Rattle.hands_rows.specs.Going.{WorkersLaws}
+use Rattle.hands_rows.specs.Going.{OwnRequestLaws}
 
 -- the hand has begun nothing
 pub record Quietly (shared : Shared) (old new : Hand) : Type 0 where
@@ -47,7 +48,7 @@ one-begins-none hand deed none entry begun h there =
     let here = subst (λ (e : GateEntry). Contains (begun_by e.author e.deed) begun) (sym (only (gate_entry_by hand deed) entry h)) there in
     has_none begun (subst (λ (l : List Begun). Contains l begun) none here)
 
-module _ (laws : WorkersLaws) (shared : Shared) (old new : Hand) (number_is : hand_number new ≡ hand_number old) where
+module _ (laws : OwnRequestLaws) (shared : Shared) (old new : Hand) (number_is : hand_number new ≡ hand_number old) where
   -- a hold of a gatekeeper
   pub quiet-gate : (gate : ℕ) (added : List GateEntry) → made_by new ≡ with_gate_entries gate added (made_by old) → BeginNone added
       → Quietly shared old new
@@ -68,7 +69,7 @@ module _ (laws : WorkersLaws) (shared : Shared) (old new : Hand) (number_is : ha
 gates-of : (old new : Account) → new ≡ old → new.gates ≡ old.gates
 gates-of old new same = ap (λ (a : Account). a.gates) same
 
-module _ (laws : WorkersLaws) (shared : Shared) (old new : Hand) where
+module _ (laws : OwnRequestLaws) (shared : Shared) (old new : Hand) where
   quiet-none : MadeNone old new → Quietly shared old new
   quiet-none none = quiet-elsewhere laws shared old new none.number (gates-of (made_by old) (made_by new) none.made)
 

@@ -1,4 +1,4 @@
--- What a worker's calls stand on: laws of the crates below, in one.
+-- What a worker's calls rely on: laws of the crates below, in one record.
 use Rattle.std.specs.Prelude.{◌≡◌, ◌≢◌, ◌<◌, ℕ, List, [], Contains, Option}
 use Rattle.vector_stamp.specs.declared.clock.Stamp.{Stamp}
 use Rattle.path_program.specs.declared.any.AnyProgram.{AnyProgram}
@@ -18,7 +18,7 @@ use Rattle.weaver_hands.specs.Programs.{own_reads, IsRunning}
 use Rattle.weaver_hands.specs.Transactions.{Starts}
 
 -- what was not begun stays so, stamps may be heard again, and programs run until they are finished
-pub record WorkersLaws : Type 0 where
+pub record OwnRequestLaws : Type 0 where
   pub fresh_at_gate : (old new : Hand) (gate : ℕ) (added : List GateEntry)
       → made_by new ≡ with_gate_entries gate added (made_by old) → (r : ℕ)
       → ((entry : GateEntry) (begun : Begun) → Contains added entry

@@ -2,7 +2,6 @@
 use Rattle.std.specs.Prelude.{◌≡◌, ◌≤◌, ◌<◌, ℕ, List, [], length, slice_index_or, Option, None}
 use Rattle.std.specs.Option.{ForSome}
 use Rattle.vector_stamp.specs.declared.clock.Stamp.{Stamp}
-use Rattle.shard_node.specs.Shards.{ShardView}
 use Rattle.weaver_core.specs.declared.walks.Running.{Running}
 use Rattle.weaver_locks.specs.declared.hand.Hand.{Hand}
 use Rattle.weaver_locks.specs.declared.shared.Shared.{Shared}
@@ -23,12 +22,12 @@ pub record IsWorker (shared : Shared) (hand : Hand) (next : ℕ) (last : Option 
   pub below : ForSome walk (λ program. program.request < next)
 
 -- what the worker keeps is true of its hand
-abbrev pub IsReady : Shared → Worker → Type 0
-IsReady shared worker = IsWorker shared worker.hand worker.next worker.last worker.walk
+abbrev pub IsReadyWorker : Shared → Worker → Type 0
+IsReadyWorker shared worker = IsWorker shared worker.hand worker.next worker.last worker.walk
 
--- so it is, and its hand has this number
+-- the worker is ready, and its hand has this number
 pub record IsNumbered (shared : Shared) (number : ℕ) (worker : Worker) : Type 0 where
-  pub ready : IsReady shared worker
+  pub ready : IsReadyWorker shared worker
   pub number_is : hand_number worker.hand ≡ number
 
 -- the workers are those with the numbers from 0
@@ -43,7 +42,3 @@ worker_of hand = record { hand = hand; next = 0; last = None; walk = None; ended
 -- and back
 abbrev pub hand_in : Worker → Hand
 hand_in worker = worker.hand
-
--- a shard before its first entry
-abbrev pub IsNewShard : ℕ → ℕ → ShardView → Type 0
-IsNewShard number gates shard = shard ≡ record { number = number; gates = gates; log = [] }

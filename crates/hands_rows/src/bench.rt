@@ -2,8 +2,9 @@
 ghost use Rattle.std.specs.Prelude.{◌≡◌, ◌≤◌, ◌<◌, ℕ, map, slice_index_or, vec_len};
 ghost use Rattle.gatekeeper.specs.Gates.{GateView, IsNew};
 ghost use Rattle.shard_node.specs.Shards.{ShardView};
+ghost use Rattle.weaver_locks.specs.Closing.{IsNewShard};
 ghost use Rattle.weaver_locks.specs.Locks.{gate_count, hands_of, shard_count};
-ghost use Rattle.hands_rows.specs.Workers.{AreWorkers, IsNewShard, hand_in, worker_of};
+ghost use Rattle.hands_rows.specs.Workers.{AreWorkers, hand_in, worker_of};
 
 use crate::calls::workers_keep_their_laws;
 use crate::worker::Worker;

@@ -2,7 +2,7 @@
 ghost use Rattle.std.specs.Prelude.{◌≡◌, ◌<◌, ◌≤◌, Some};
 ghost use Rattle.std.specs.Option.{ForSome};
 ghost use Rattle.weaver_locks.specs.Locks.{shard_count};
-ghost use Rattle.hands_rows.specs.Going.{WorkersLaws};
+ghost use Rattle.hands_rows.specs.Going.{OwnRequestLaws};
 
 use crate::worker::Worker;
 use std::process::Abort;
@@ -14,9 +14,9 @@ use weaver_locks::laws::{
     own_entries_are_those_seen, what_was_begun_may_be_heard, what_was_not_begun_stays,
 };
 
-/// What a worker's calls stand on.
+/// What a worker's calls rely on.
 pub fn workers_keep_their_laws()
-    ensures { WorkersLaws }
+    ensures { OwnRequestLaws }
 {
     begun_programs_run();
     own_entries_are_those_seen();

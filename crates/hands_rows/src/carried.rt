@@ -2,7 +2,7 @@
 ghost use Rattle.std.specs.Prelude.{◌≡◌, ◌<◌, ◌≤◌};
 ghost use Rattle.weaver_locks.specs.Hands.{hand_number};
 ghost use Rattle.weaver_locks.specs.Locks.{gate_count, shard_count};
-ghost use Rattle.hands_rows.specs.Workers.{IsReady};
+ghost use Rattle.hands_rows.specs.Workers.{IsReadyWorker};
 
 use crate::calls::workers_keep_their_laws;
 use crate::worker::Worker;
@@ -22,11 +22,11 @@ pub fn pull<R: Wait>(
     shard: u32,
     number: u64,
 ) -> Result<bool, HandFault>
-    requires worker { IsReady shared.now me.old }
+    requires worker { IsReadyWorker shared.now me.old }
     requires gate { gate < gate_count shared.now }
     requires shard { shard < shard_count shared.now }
     requires number { 1 ≤ number }
-    ensures worker { IsReady shared.now me.new }
+    ensures worker { IsReadyWorker shared.now me.new }
     ensures number { hand_number me.new.hand ≡ hand_number me.old.hand }
 {
     calls_leave_others_alone();
@@ -43,10 +43,10 @@ pub fn apply<R: Wait>(
     shard: u32,
     gate: u32,
 ) -> Result<(), HandFault>
-    requires worker { IsReady shared.now me.old }
+    requires worker { IsReadyWorker shared.now me.old }
     requires shard { shard < shard_count shared.now }
     requires gate { gate < gate_count shared.now }
-    ensures worker { IsReady shared.now me.new }
+    ensures worker { IsReadyWorker shared.now me.new }
     ensures number { hand_number me.new.hand ≡ hand_number me.old.hand }
 {
     calls_leave_others_alone();
@@ -63,10 +63,10 @@ pub fn say_and_hear<R: Wait>(
     from: u32,
     to: u32,
 ) -> Result<(), HandFault>
-    requires worker { IsReady shared.now me.old }
+    requires worker { IsReadyWorker shared.now me.old }
     requires from { from < gate_count shared.now }
     requires to { to < gate_count shared.now }
-    ensures worker { IsReady shared.now me.new }
+    ensures worker { IsReadyWorker shared.now me.new }
     ensures number { hand_number me.new.hand ≡ hand_number me.old.hand }
 {
     calls_leave_others_alone();
@@ -83,10 +83,10 @@ pub fn nop<R: Wait>(
     gate: u32,
     shard: u32,
 ) -> Result<(), HandFault>
-    requires worker { IsReady shared.now me.old }
+    requires worker { IsReadyWorker shared.now me.old }
     requires gate { gate < gate_count shared.now }
     requires shard { shard < shard_count shared.now }
-    ensures worker { IsReady shared.now me.new }
+    ensures worker { IsReadyWorker shared.now me.new }
     ensures number { hand_number me.new.hand ≡ hand_number me.old.hand }
 {
     calls_leave_others_alone();

@@ -2,7 +2,7 @@
 ghost use Rattle.std.specs.Prelude.{◌≡◌, ◌≤◌, length};
 ghost use Rattle.weaver_locks.specs.Hands.{hand_number};
 ghost use Rattle.weaver_locks.specs.Locks.{gate_count};
-ghost use Rattle.hands_rows.specs.Workers.{IsReady};
+ghost use Rattle.hands_rows.specs.Workers.{IsReadyWorker};
 
 use crate::calls::{gate_of, last_of, not_begun, shard_of};
 use crate::carried::{apply, nop, pull, say_and_hear};
@@ -85,8 +85,8 @@ pub fn play<R: Wait + Abort>(
     call: &Call,
 ) -> Vec<u8>
     requires gates { gate_count shared.now ≡ 2 }
-    requires worker { IsReady shared.now me.old }
-    ensures worker { IsReady shared.now me.new }
+    requires worker { IsReadyWorker shared.now me.old }
+    ensures worker { IsReadyWorker shared.now me.new }
     ensures number { hand_number me.new.hand ≡ hand_number me.old.hand }
 {
     match call {
@@ -118,8 +118,8 @@ fn play_transact<R: Wait + Abort>(
     after: bool,
 ) -> Vec<u8>
     requires gates { gate_count shared.now ≡ 2 }
-    requires worker { IsReady shared.now me.old }
-    ensures worker { IsReady shared.now me.new }
+    requires worker { IsReadyWorker shared.now me.old }
+    ensures worker { IsReadyWorker shared.now me.new }
     ensures number { hand_number me.new.hand ≡ hand_number me.old.hand }
 {
     let asked = request_of(rt, script, request);
@@ -150,8 +150,8 @@ fn play_begin<R: Wait + Abort>(
     request: u32,
 ) -> Vec<u8>
     requires gates { gate_count shared.now ≡ 2 }
-    requires worker { IsReady shared.now me.old }
-    ensures worker { IsReady shared.now me.new }
+    requires worker { IsReadyWorker shared.now me.old }
+    ensures worker { IsReadyWorker shared.now me.new }
     ensures number { hand_number me.new.hand ≡ hand_number me.old.hand }
 {
     let asked = request_of(rt, script, request);
@@ -173,8 +173,8 @@ fn play_start<R: Wait + Abort>(
     after: bool,
 ) -> Vec<u8>
     requires gates { gate_count shared.now ≡ 2 }
-    requires worker { IsReady shared.now me.old }
-    ensures worker { IsReady shared.now me.new }
+    requires worker { IsReadyWorker shared.now me.old }
+    ensures worker { IsReadyWorker shared.now me.new }
     ensures number { hand_number me.new.hand ≡ hand_number me.old.hand }
 {
     let asked = request_of(rt, script, request);
@@ -187,8 +187,8 @@ fn play_start<R: Wait + Abort>(
 }
 
 fn play_visit<R: Wait + Abort>(rt: &R, alloc: Global, shared: &Shared, me: &mut Worker) -> Vec<u8>
-    requires worker { IsReady shared.now me.old }
-    ensures worker { IsReady shared.now me.new }
+    requires worker { IsReadyWorker shared.now me.old }
+    ensures worker { IsReadyWorker shared.now me.new }
     ensures number { hand_number me.new.hand ≡ hand_number me.old.hand }
 {
     let read = visit(rt, alloc, shared, me);
@@ -196,8 +196,8 @@ fn play_visit<R: Wait + Abort>(rt: &R, alloc: Global, shared: &Shared, me: &mut 
 }
 
 fn play_finish<R: Wait + Abort>(rt: &R, alloc: Global, shared: &Shared, me: &mut Worker) -> Vec<u8>
-    requires worker { IsReady shared.now me.old }
-    ensures worker { IsReady shared.now me.new }
+    requires worker { IsReadyWorker shared.now me.old }
+    ensures worker { IsReadyWorker shared.now me.new }
     ensures number { hand_number me.new.hand ≡ hand_number me.old.hand }
 {
     finish(rt, alloc, shared, me);
@@ -221,8 +221,8 @@ fn play_pull<R: Wait + Abort>(
     number: u64,
 ) -> Vec<u8>
     requires gates { gate_count shared.now ≡ 2 }
-    requires worker { IsReady shared.now me.old }
-    ensures worker { IsReady shared.now me.new }
+    requires worker { IsReadyWorker shared.now me.old }
+    ensures worker { IsReadyWorker shared.now me.new }
     ensures number { hand_number me.new.hand ≡ hand_number me.old.hand }
 {
     if number == 0 {
@@ -246,8 +246,8 @@ fn play_apply<R: Wait + Abort>(
     gate: u32,
 ) -> Vec<u8>
     requires gates { gate_count shared.now ≡ 2 }
-    requires worker { IsReady shared.now me.old }
-    ensures worker { IsReady shared.now me.new }
+    requires worker { IsReadyWorker shared.now me.old }
+    ensures worker { IsReadyWorker shared.now me.new }
     ensures number { hand_number me.new.hand ≡ hand_number me.old.hand }
 {
     let gate = gate_of(rt, gate);
@@ -265,8 +265,8 @@ fn play_say_and_hear<R: Wait + Abort>(
     to: u32,
 ) -> Vec<u8>
     requires gates { gate_count shared.now ≡ 2 }
-    requires worker { IsReady shared.now me.old }
-    ensures worker { IsReady shared.now me.new }
+    requires worker { IsReadyWorker shared.now me.old }
+    ensures worker { IsReadyWorker shared.now me.new }
     ensures number { hand_number me.new.hand ≡ hand_number me.old.hand }
 {
     let from = gate_of(rt, from);
@@ -284,8 +284,8 @@ fn play_nop<R: Wait + Abort>(
     shard: u32,
 ) -> Vec<u8>
     requires gates { gate_count shared.now ≡ 2 }
-    requires worker { IsReady shared.now me.old }
-    ensures worker { IsReady shared.now me.new }
+    requires worker { IsReadyWorker shared.now me.old }
+    ensures worker { IsReadyWorker shared.now me.new }
     ensures number { hand_number me.new.hand ≡ hand_number me.old.hand }
 {
     let gate = gate_of(rt, gate);

@@ -3,7 +3,7 @@ ghost use Rattle.std.specs.Prelude.{◌≡◌, ◌<◌, ◌≤◌, ◌^◌, Some
 ghost use Rattle.std.specs.Option.{ForSome};
 ghost use Rattle.weaver_locks.specs.Hands.{hand_number};
 ghost use Rattle.weaver_locks.specs.Locks.{gate_count};
-ghost use Rattle.hands_rows.specs.Workers.{IsReady};
+ghost use Rattle.hands_rows.specs.Workers.{IsReadyWorker};
 
 use crate::calls::{only_busy, workers_keep_their_laws};
 use crate::worker::Worker;
@@ -27,12 +27,12 @@ pub fn transact<R: Wait + Abort>(
     ops: &[Op],
     last: Option<Stamp>,
 ) -> Option<(Stamp, Verdict)>
-    requires worker { IsReady shared.now me.old }
+    requires worker { IsReadyWorker shared.now me.old }
     requires gate { gate < gate_count shared.now }
     requires request { me.old.next ≤ request }
     requires few { length ops.now < 2 ^ 31 }
     requires last { ForSome last (λ stamp. me.old.last ≡ Some stamp) }
-    ensures worker { IsReady shared.now me.new }
+    ensures worker { IsReadyWorker shared.now me.new }
     ensures number { hand_number me.new.hand ≡ hand_number me.old.hand }
 {
     calls_leave_others_alone();
@@ -60,10 +60,10 @@ pub fn begin<R: Wait>(
     request: u32,
     gate: u32,
 ) -> Option<Stamp>
-    requires worker { IsReady shared.now me.old }
+    requires worker { IsReadyWorker shared.now me.old }
     requires gate { gate < gate_count shared.now }
     requires request { me.old.next ≤ request }
-    ensures worker { IsReady shared.now me.new }
+    ensures worker { IsReadyWorker shared.now me.new }
     ensures number { hand_number me.new.hand ≡ hand_number me.old.hand }
 {
     workers_keep_their_laws();

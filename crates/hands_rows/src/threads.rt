@@ -3,7 +3,7 @@
 ghost use Rattle.std.specs.Prelude.{◌≡◌, ◌<◌, ◌≤◌, ℕ, All, length, slice_index_or, vec_len};
 ghost use Rattle.weaver_locks.specs.Hands.{hand_number};
 ghost use Rattle.weaver_locks.specs.Locks.{gate_count, shard_count};
-ghost use Rattle.hands_rows.specs.Workers.{AreWorkers, IsReady};
+ghost use Rattle.hands_rows.specs.Workers.{AreWorkers, IsReadyWorker};
 
 use crate::calls::{gate_of, last_of, not_begun, shard_of};
 use crate::carried::{apply, nop, pull, say_and_hear};
@@ -59,8 +59,8 @@ fn transact_when_free<R: Wait + Abort>(
     asked: &Request,
 )
     requires gates { gate_count shared.now ≡ 2 }
-    requires worker { IsReady shared.now me.old }
-    ensures worker { IsReady shared.now me.new }
+    requires worker { IsReadyWorker shared.now me.old }
+    ensures worker { IsReadyWorker shared.now me.new }
     ensures number { hand_number me.new.hand ≡ hand_number me.old.hand }
 {
     let ops = ops_of(rt, asked);
@@ -88,8 +88,8 @@ fn bring<R: Wait + Abort>(
 )
     requires gate { gate < gate_count shared.now }
     requires shard { shard < shard_count shared.now }
-    requires worker { IsReady shared.now me.old }
-    ensures worker { IsReady shared.now me.new }
+    requires worker { IsReadyWorker shared.now me.old }
+    ensures worker { IsReadyWorker shared.now me.new }
     ensures number { hand_number me.new.hand ≡ hand_number me.old.hand }
 {
     for _ in 0..TRIES {
@@ -114,8 +114,8 @@ fn process<R: Wait + Abort>(
 )
     requires gate { gate < gate_count shared.now }
     requires shard { shard < shard_count shared.now }
-    requires worker { IsReady shared.now me.old }
-    ensures worker { IsReady shared.now me.new }
+    requires worker { IsReadyWorker shared.now me.old }
+    ensures worker { IsReadyWorker shared.now me.new }
     ensures number { hand_number me.new.hand ≡ hand_number me.old.hand }
 {
     for _ in 0..TRIES {
@@ -144,8 +144,8 @@ fn nudge<R: Wait + Abort>(
     requires home { home < 2 }
     requires gate { gate < 2 }
     requires shard { shard < shard_count shared.now }
-    requires worker { IsReady shared.now me.old }
-    ensures worker { IsReady shared.now me.new }
+    requires worker { IsReadyWorker shared.now me.old }
+    ensures worker { IsReadyWorker shared.now me.new }
     ensures number { hand_number me.new.hand ≡ hand_number me.old.hand }
 {
     let told = say_and_hear(rt, alloc, shared, me, home, gate);
@@ -178,8 +178,8 @@ fn walk<R: Wait + Abort>(
 )
     requires gates { gate_count shared.now ≡ 2 }
     requires home { home < 2 }
-    requires worker { IsReady shared.now me.old }
-    ensures worker { IsReady shared.now me.new }
+    requires worker { IsReadyWorker shared.now me.old }
+    ensures worker { IsReadyWorker shared.now me.new }
     ensures number { hand_number me.new.hand ≡ hand_number me.old.hand }
 {
     for _ in 0..TRIES {
@@ -220,8 +220,8 @@ fn run_program<R: Wait + Abort>(
     program: &Program,
 )
     requires gates { gate_count shared.now ≡ 2 }
-    requires worker { IsReady shared.now me.old }
-    ensures worker { IsReady shared.now me.new }
+    requires worker { IsReadyWorker shared.now me.old }
+    ensures worker { IsReadyWorker shared.now me.new }
     ensures number { hand_number me.new.hand ≡ hand_number me.old.hand }
 {
     let home = gate_of(rt, gate);
@@ -242,8 +242,8 @@ fn serve<R: Wait + Abort>(
     request: u32,
 )
     requires gates { gate_count shared.now ≡ 2 }
-    requires worker { IsReady shared.now me.old }
-    ensures worker { IsReady shared.now me.new }
+    requires worker { IsReadyWorker shared.now me.old }
+    ensures worker { IsReadyWorker shared.now me.new }
     ensures number { hand_number me.new.hand ≡ hand_number me.old.hand }
 {
     let asked = request_of(rt, script, request);
@@ -272,8 +272,8 @@ fn work<R: Wait + Abort>(
     requests: u32,
 )
     requires gates { gate_count shared.now ≡ 2 }
-    requires worker { IsReady shared.now me.old }
-    ensures worker { IsReady shared.now me.new }
+    requires worker { IsReadyWorker shared.now me.old }
+    ensures worker { IsReadyWorker shared.now me.new }
     ensures number { hand_number me.new.hand ≡ hand_number me.old.hand }
 {
     let mut channels = Channels { next: [1, 1, 1, 1] };
@@ -284,7 +284,7 @@ fn work<R: Wait + Abort>(
     }
 }
 
-/// Each hand works, on so many threads as can be made up to this number.
+/// Each hand works, on this many threads, or on fewer if no more can be made.
 pub fn work_side_by_side<R: Threads + Wait + Sync + Abort>(
     rt: &R,
     alloc: Global,
@@ -296,8 +296,8 @@ pub fn work_side_by_side<R: Threads + Wait + Sync + Abort>(
 )
     requires threads { 0 < threads }
     requires gates { gate_count shared.now ≡ 2 }
-    requires workers { All (IsReady shared.now) workers.old }
-    ensures ready { All (IsReady shared.now) workers.new }
+    requires workers { All (IsReadyWorker shared.now) workers.old }
+    ensures ready { All (IsReadyWorker shared.now) workers.new }
     ensures numbers { (k : ℕ) (w : _) → k < length workers.old
         → hand_number (slice_index_or workers.new k w).hand
         ≡ hand_number (slice_index_or workers.old k w).hand }
@@ -307,8 +307,8 @@ pub fn work_side_by_side<R: Threads + Wait + Sync + Abort>(
         workers,
         threads,
         &|place, worker: &mut Worker|
-            requires { (gate_count shared.now ≡ 2) × IsReady shared.now worker.old }
-            ensures { IsReady shared.entry.now worker.new
+            requires { (gate_count shared.now ≡ 2) × IsReadyWorker shared.now worker.old }
+            ensures { IsReadyWorker shared.entry.now worker.new
                 × (hand_number worker.new.hand ≡ hand_number worker.old.hand) }
         {
             work(

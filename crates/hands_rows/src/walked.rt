@@ -3,7 +3,7 @@ ghost use Rattle.std.specs.Prelude.{◌≡◌, ◌<◌, ◌≤◌, Some};
 ghost use Rattle.std.specs.Option.{ForSome};
 ghost use Rattle.weaver_locks.specs.Hands.{hand_number};
 ghost use Rattle.weaver_locks.specs.Locks.{gate_count};
-ghost use Rattle.hands_rows.specs.Workers.{IsReady};
+ghost use Rattle.hands_rows.specs.Workers.{IsReadyWorker};
 
 use crate::calls::workers_keep_their_laws;
 use crate::worker::{Ended, Worker};
@@ -30,11 +30,11 @@ pub fn start<R: Wait + Abort>(
     program: &Program,
     last: Option<Stamp>,
 ) -> Stamp
-    requires worker { IsReady shared.now me.old }
+    requires worker { IsReadyWorker shared.now me.old }
     requires gate { gate < gate_count shared.now }
     requires request { me.old.next ≤ request }
     requires last { ForSome last (λ stamp. me.old.last ≡ Some stamp) }
-    ensures worker { IsReady shared.now me.new }
+    ensures worker { IsReadyWorker shared.now me.new }
     ensures number { hand_number me.new.hand ≡ hand_number me.old.hand }
 {
     calls_leave_others_alone();
@@ -62,8 +62,8 @@ pub fn visit<R: Wait + Abort>(
     shared: &Shared,
     me: &mut Worker,
 ) -> Result<(), HandFault>
-    requires worker { IsReady shared.now me.old }
-    ensures worker { IsReady shared.now me.new }
+    requires worker { IsReadyWorker shared.now me.old }
+    ensures worker { IsReadyWorker shared.now me.new }
     ensures number { hand_number me.new.hand ≡ hand_number me.old.hand }
 {
     calls_leave_others_alone();
@@ -89,8 +89,8 @@ pub fn reads_more(rt: &impl Abort, me: &Worker) -> bool {
 
 /// Finishes the worker's program, and keeps its answer. It may wait.
 pub fn finish<R: Wait + Abort>(rt: &R, alloc: Global, shared: &Shared, me: &mut Worker)
-    requires worker { IsReady shared.now me.old }
-    ensures worker { IsReady shared.now me.new }
+    requires worker { IsReadyWorker shared.now me.old }
+    ensures worker { IsReadyWorker shared.now me.new }
     ensures number { hand_number me.new.hand ≡ hand_number me.old.hand }
 {
     calls_leave_others_alone();

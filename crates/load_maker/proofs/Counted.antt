@@ -1,10 +1,12 @@
 -- What counters keep while lists grow.
+-- Used by `draw_ops` and `draw_requests`.
 use Rattle.std.proofs.Common.{◌≡◌, ℕ, ◌+◌, List, [], ◌∷◌, ◌++◌, cond, length, sym, ap, ◌∙◌, arith}
 use Rattle.std.specs.Prelude.{count_by, sum_by}
 use Rattle.std.proofs.lemmas.List.Sums.{sum_by_push}
 use Rattle.graph_ops.specs.declared.op.Op.{Op}
 use Rattle.program_defs.specs.declared.script.Request.{Request}
-use Rattle.weave_script.specs.Limits.{is_get, gets_of, programs_of}
+use Rattle.graph_ops.specs.Operations.{is_get}
+use Rattle.weave_script.specs.Limits.{gets_of, programs_of}
 use Rattle.load_maker.specs.Words.{Words, drawn_list}
 use Rattle.load_maker.specs.Generated.{request_numbered, request_of}
 use Rattle.load_maker.proofs.Drawing.{list_length}

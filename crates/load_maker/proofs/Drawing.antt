@@ -1,4 +1,5 @@
 -- What is kept from item to item of a list that is drawn.
+-- Used by Counted, DrawnValues, ValidParts and ValidScripts.
 use Rattle.std.proofs.Common.{◌≡◌, ℕ, zero, suc, ◌+◌, List, [], ◌∷◌, ◌++◌, length, refl, ap, arith}
 use Rattle.std.specs.List.{AllByRecursion}
 use Rattle.std.proofs.lemmas.List.{length-append}
@@ -22,15 +23,3 @@ pub list_more : {A : Type 0} (item : List A → Words → A × Words) (n : ℕ) 
     → drawn_list item (n + 1) words ≡ (let before = drawn_list item n words in let last = item before.0 before.1 in (before.0 ++ last.0 ∷ [], last.1))
 unfolding drawn_list
 list_more item n words = let e : n + 1 ≡ suc n = omega arith in ap (λ n. drawn_list item n words) e
-
-pub all-push : {A : Type 0} (P : A → Type 0) (xs : List A) (x : A) → AllByRecursion P xs → P x → AllByRecursion P (xs ++ x ∷ [])
-all-push P [] x h k = (k, tt)
-all-push P (y ∷ xs) x h k = (h.0, all-push P xs x h.1 k)
-
-pub all-append : {A : Type 0} (P : A → Type 0) (xs ys : List A) → AllByRecursion P xs → AllByRecursion P ys → AllByRecursion P (xs ++ ys)
-all-append P [] ys h k = k
-all-append P (x ∷ xs) ys h k = (h.0, all-append P xs ys h.1 k)
-
-pub all-map : {A : Type 0} (P Q : A → Type 0) → ((x : A) → P x → Q x) → (xs : List A) → AllByRecursion P xs → AllByRecursion Q xs
-all-map P Q f [] h = tt
-all-map P Q f (x ∷ xs) h = (f x h.0, all-map P Q f xs h.1)

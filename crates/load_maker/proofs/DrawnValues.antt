@@ -1,4 +1,5 @@
 -- Values that are made of draws.
+-- Used by `draw_op`, `draw_ops`, `draw_program`, `draw_requests`, `draw_step`, `draw_steps` and RequestForms.
 use Rattle.std.proofs.Common.{◌≡◌, ℕ, ◌+◌, ◌%◌, List, [], ◌∷◌, ◌++◌, sym, ap, ◌∙◌}
 use Rattle.load_maker.specs.Words.{Words, later, draw, drawn_list}
 use Rattle.load_maker.proofs.Drawing.{list_more}

@@ -5,6 +5,7 @@ use Rattle.graph_ops.specs.declared.op.Op.TheVariants.{Create, Set, Tag, Unlink}
 use Rattle.program_defs.specs.declared.program.Program.TheVariants.{Path}
 use Rattle.program_defs.specs.declared.script.Step.TheVariants.{Begin, Judge, Send, Say, Hear, Deliver, Apply, Reply}
 use Rattle.program_defs.specs.declared.script.Work.TheVariants.{Change, Look}
+use Rattle.program_defs.specs.declared.script.Script.{Script}
 use Rattle.load_maker.specs.Words.{Words, drawn_list}
 use Rattle.load_maker.specs.Generated.{numbered, operation_of, operation_of_form, program_of, program_of_form, request_numbered, script_from, step_of, step_of_form, work_of_kind}
 
@@ -25,18 +26,22 @@ a_program : script_from 1 (in_order (17 ∷ 5 ∷ 20 ∷ 3 ∷ 41 ∷ 2 ∷ 9 �
 unfolding script_from drawn_list request_numbered work_of_kind program_of program_of_form step_of step_of_form
 a_program = refl
 
+-- the script of one transaction
+abbrev one_transaction : Script
+one_transaction = record {
+  gates = 3;
+  shards = 4;
+  requests = record {
+    name = numbered (codes "r") 0;
+    session = 0;
+    gate = 1;
+    work = Change (Set (numbered (codes "v") 0) (numbered (codes "k") 2) (numbered (codes "x") 2) ∷ Tag (numbered (codes "v") 39) (numbered (codes "e") 1) (numbered (codes "k") 3) (numbered (codes "x") 9) ∷ Create (numbered (codes "v") 21) ∷ Unlink (numbered (codes "v") 0) (numbered (codes "e") 5) ∷ []);
+  } ∷ [];
+  phases = [];
+  steps = Some (Judge 2 ∷ Send 0 ∷ Say 1 ∷ Reply 0 ∷ []);
+}
+
 a_transaction : script_from 1 (in_order (6 ∷ 4 ∷ 13 ∷ 7 ∷ 80 ∷ 11 ∷ 6 ∷ 12 ∷ 39 ∷ 6 ∷ 7 ∷ 3 ∷ 9 ∷ 21 ∷ 8 ∷ 40 ∷ 15 ∷ 11 ∷ 2 ∷ 5 ∷ 13 ∷ 3 ∷ 24 ∷ 4 ∷ 9 ∷ 9 ∷ []))
-    ≡ record {
-      gates = 3;
-      shards = 4;
-      requests = record {
-        name = numbered (codes "r") 0;
-        session = 0;
-        gate = 1;
-        work = Change (Set (numbered (codes "v") 0) (numbered (codes "k") 2) (numbered (codes "x") 2) ∷ Tag (numbered (codes "v") 39) (numbered (codes "e") 1) (numbered (codes "k") 3) (numbered (codes "x") 9) ∷ Create (numbered (codes "v") 21) ∷ Unlink (numbered (codes "v") 0) (numbered (codes "e") 5) ∷ []);
-      } ∷ [];
-      phases = [];
-      steps = Some (Judge 2 ∷ Send 0 ∷ Say 1 ∷ Reply 0 ∷ []);
-    }
+    ≡ one_transaction
 unfolding script_from drawn_list request_numbered work_of_kind operation_of operation_of_form step_of step_of_form
 a_transaction = refl

@@ -1,4 +1,5 @@
 -- What each form of an operation, a program and a step is.
+-- Used by `draw_op`, `draw_program` and `draw_step`.
 use Rattle.std.proofs.Common.{◌≡◌, ℕ, ◌<◌, ◌%◌, true, false, ◌==◌, sym, ap, ◌∙◌, arith}
 use Rattle.std.specs.Prelude.{nat_lt, codes, None}
 use Rattle.std.proofs.lemmas.Bool.{cond-true, cond-false, lt-ltb, le-ltb, ne_eqb}

@@ -1,4 +1,5 @@
 -- The script that the parts make.
+-- Used by `make`.
 use Rattle.std.proofs.Common.{◌≡◌, ℕ, ◌*◌, ◌≤◌, List, [], Some, sym, ap, ◌∙◌, subst}
 use Rattle.rand_pcg.specs.Lcg.{Lcg}
 use Rattle.program_defs.specs.declared.script.Request.{Request}

@@ -1,4 +1,5 @@
 -- Names of one letter: drawn ones are names, those of different numbers differ, and those of vertices are 40.
+-- Used by ValidParts and ValidScripts.
 use Rattle.std.proofs.Common.{inl, inr, ◌≡◌, ℕ, zero, suc, ◌≤◌, ◌<◌, ◌%◌, Bool, true, false, cond, ◌&&◌, List, [], ◌∷◌, ◌++◌, length, IsTrue, refl, sym, ap, ◌∙◌, subst, arith}
 use Rattle.std.specs.Prelude.{nat_le, codes}
 use Rattle.std.specs.Fmt.{decimal}
@@ -12,11 +13,12 @@ use Rattle.std.proofs.lemmas.Fmt.{decimal_injective}
 use Rattle.std.proofs.lemmas.Map.Made.{length-le_from_is_member}
 use Rattle.weave_data.specs.Names.{is_name, same_name, one_name}
 use Rattle.weave_data.specs.declared.name.Name.{Name}
+use Rattle.graph_ops.proofs.Vertices.{itself}
 use Rattle.graph_ops.specs.Mentions.{is_among, with_name}
 use Rattle.weave_script.specs.Limits.{with_names}
 use Rattle.load_maker.specs.Generated.{numbered}
-use Rattle.load_maker.proofs.Drawing.{all-push}
 use Rattle.load_maker.proofs.NumberedNames.{numbered_is_name}
+use Rattle.weave_data.proofs.Lists.{all-push}
 
 pub drawn_is_name : (letter m word : ℕ) → IsTrue (nat_le 97 letter && nat_le letter 122) → 0 < m → m ≤ 10000 → is_name (letter ∷ decimal (word % m)) ≡ true
 drawn_is_name letter m word small_letter some few =
@@ -56,14 +58,11 @@ names_below : ℕ → List Name
 names_below zero = []
 names_below (suc n) = numbered (codes "v") n ∷ names_below n
 
-same_itself : (name : Name) → same_name name name ≡ true
-same_itself name = (eq_by_cmp_equiv nat_list_cmp_total).refl name
-
 below_member : (n k : ℕ) → k < n → is_member same_name (names_below n) (numbered (codes "v") k) ≡ true
 unfolding names_below
 below_member zero k h = absurd (omega (arith, h))
 below_member (suc n) k h = elim (cases_eq k n) [
-  | inl e ↦ or_left _ _ (ap (λ n. same_name (numbered (codes "v") k) (numbered (codes "v") n)) (sym e) ∙ same_itself (numbered (codes "v") k))
+  | inl e ↦ or_left _ _ (ap (λ n. same_name (numbered (codes "v") k) (numbered (codes "v") n)) (sym e) ∙ itself (numbered (codes "v") k))
   | inr e ↦ or_right _ _ (below_member n k (omega (arith, h, e)))
 ]
 

@@ -1,19 +1,15 @@
 -- A small letter and a number are a name, and no two numbers give one name.
-use Rattle.std.proofs.Common.{◌≡◌, ◌+◌, take, Option, Some, None, cond, ℕ, ◌<◌, ◌^◌, true, ◌&&◌, List, [], ◌∷◌, ◌++◌, length, IsTrue, refl, ap, ◌∙◌, arith, rules, lit<}
+-- Used by `numbered`, NamesApart and ValidScripts.
+use Rattle.std.proofs.Common.{◌≡◌, ◌+◌, take, Option, Some, None, cond, ℕ, ◌<◌, ◌^◌, true, ◌&&◌, List, [], ◌∷◌, ◌++◌, length, IsTrue, refl, ap, ◌∙◌, arith, lit<}
 use Rattle.std.specs.Prelude.{nat_le}
 use Rattle.std.specs.Char.{is_ascii_digit}
 use Rattle.std.specs.Fmt.{decimal}
 use Rattle.std.specs.List.{list_all}
-use Rattle.std.specs.Str.Parse.{digits_value}
 use Rattle.std.proofs.Math.Seq.{take-append_seam}
 use Rattle.std.proofs.lemmas.Bool.{cond-true, and_parts, and_from, or_left, or_right, le-leb}
 use Rattle.std.proofs.lemmas.Fmt.{digits_decimal, length-decimal-le}
-use Rattle.std.proofs.lemmas.Str.Parse.{IsNumeralModel, numerals_by_value}
 use Rattle.weave_data.specs.Names.{is_name, is_name_byte}
-
--- the digits of these words, and their value, are std's
-own : IsNumeralModel (λ ds. list_all is_ascii_digit ds ≡ true) (digits_value 10)
-own = numerals_by_value _ (search rules)
+use Rattle.weave_data.proofs.Digits.{digits_are_numerals}
 
 digit_is_letter : (b : ℕ) → is_ascii_digit b ≡ true → is_name_byte b ≡ true
 digit_is_letter b h = or_left _ _ (or_right (nat_le 97 b && nat_le b 122) _ h)
@@ -28,7 +24,7 @@ pub numbered_is_name : (letter n : ℕ) → IsTrue (nat_le 97 letter && nat_le l
 numbered_is_name letter n small_letter small =
     let short = length-decimal-le 20 n (lit< tt) (omega (arith, small)) (omega (arith, small)) in
     and_from _ _ (and_from _ _ (le-leb 1 (length (letter ∷ decimal n)) (omega arith)) (le-leb (length (letter ∷ decimal n)) 32 (omega (arith, short))))
-    (and_from _ _ (or_left _ _ (or_left _ _ small_letter)) (digits_are_letters (decimal n) (digits_decimal own n (omega (arith, small)))))
+    (and_from _ _ (or_left _ _ (or_left _ _ small_letter)) (digits_are_letters (decimal n) (digits_decimal digits_are_numerals n (omega (arith, small)))))
 
 -- the bytes of a buffer that begins with a letter and digits
 spelled : (letter : ℕ) (digits copied rest : List ℕ) → copied ≡ digits → take (1 + length digits) (letter ∷ (copied ++ rest)) ≡ letter ∷ digits

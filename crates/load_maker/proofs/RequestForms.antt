@@ -1,4 +1,5 @@
 -- What each kind of request is.
+-- Used by `draw_request` and `draw_work`.
 use Rattle.std.proofs.Common.{◌≡◌, ℕ, ◌+◌, ◌≤◌, ◌%◌, Bool, true, false, ◌&&◌, ◌==◌, List, refl, sym, ap, ◌∙◌}
 use Rattle.std.specs.Prelude.{nat_lt, codes}
 use Rattle.std.proofs.lemmas.Bool.{cond-true, cond-false, and_from, ne_eqb, le-ltb}

@@ -1,4 +1,5 @@
 -- Drawn operations, programs and steps are within a script's ranges.
+-- Used by ValidScripts.
 use Rattle.std.proofs.Common.{ℕ, ◌+◌, ◌≤◌, ◌<◌, ◌%◌, Bool, true, false, cond, ◌==◌, refl, arith}
 use Rattle.std.specs.Prelude.{nat_lt, count_by, codes}
 use Rattle.std.specs.List.{AllByRecursion}
@@ -6,15 +7,17 @@ use Rattle.std.proofs.Math.Nat.{mod-lt}
 use Rattle.std.proofs.lemmas.Bool.{cond_both, ltb-true}
 use Rattle.std.proofs.lemmas.List.Sums.{sum_by_push}
 use Rattle.weave_data.specs.declared.name.Name.{Name}
+use Rattle.graph_ops.specs.Operations.{is_get}
 use Rattle.graph_ops.specs.declared.op.Op.{Op}
 use Rattle.program_defs.specs.declared.program.Program.{Program}
 use Rattle.program_defs.specs.declared.script.Step.{Step}
-use Rattle.weave_script.specs.Limits.{is_get, vertices_of_op, vertices_of_program}
+use Rattle.weave_script.specs.Limits.{vertices_of_op, vertices_of_program}
 use Rattle.weave_script.specs.Scripts.{IsName, IsOperation, IsProgram, IsStep}
 use Rattle.load_maker.specs.Words.{Words}
 use Rattle.load_maker.specs.Generated.{numbered, operation_of_form, operation_of, operations_of, program_of_form, program_of, step_of_form, step_of}
-use Rattle.load_maker.proofs.Drawing.{list_keeps, all-push}
+use Rattle.load_maker.proofs.Drawing.{list_keeps}
 use Rattle.load_maker.proofs.NamesApart.{drawn_is_name, IsVertexName, drawn_is_vertex}
+use Rattle.weave_data.proofs.Lists.{all-push}
 
 pub either : {A : Type 0} (P : A → Type 0) (b : Bool) (x y : A) → P x → P y → P (cond b x y)
 either P true x y h k = h
@@ -42,12 +45,12 @@ form_valid : (gets : ℕ) (v : Name) (form : ℕ) (words : Words) → IsName v �
 unfolding operation_of_form
 form_valid gets v form words name vertex =
     let P : Op × Words → Type 0 = λ drawn. IsDrawnOp drawn.0 in
-    either P (nat_lt form 3) _ _ (name, (vertex, tt))
-    (either P (form == 3) _ _ ((name, key_is_name (words 0), value_is_name (words 1)), (vertex, tt))
-    (either P (form == 4) _ _ ((name, edge_is_name (words 0), vertex_is_name (words 1)), (vertex, (drawn_is_vertex (words 1), tt)))
-    (either P (form == 5) _ _ (either P (nat_lt gets 1000) _ _ (name, (vertex, tt)) (name, (vertex, tt)))
-    (either P (form == 6) _ _ ((name, edge_is_name (words 0), key_is_name (words 1), value_is_name (words 2)), (vertex, tt))
-    ((name, edge_is_name (words 0)), (vertex, tt))))))
+    either P (nat_lt form 3) _ _ ((name, tt), (vertex, tt))
+    (either P (form == 3) _ _ ((name, (key_is_name (words 0), (value_is_name (words 1), tt))), (vertex, tt))
+    (either P (form == 4) _ _ ((name, (edge_is_name (words 0), (vertex_is_name (words 1), tt))), (vertex, (drawn_is_vertex (words 1), tt)))
+    (either P (form == 5) _ _ (either P (nat_lt gets 1000) _ _ ((name, tt), (vertex, tt)) ((name, tt), (vertex, tt)))
+    (either P (form == 6) _ _ ((name, (edge_is_name (words 0), (key_is_name (words 1), (value_is_name (words 2), tt)))), (vertex, tt))
+    ((name, (edge_is_name (words 0), tt)), (vertex, tt))))))
 
 op_valid : (gets : ℕ) (words : Words) → IsDrawnOp (operation_of gets words).0
 unfolding operation_of

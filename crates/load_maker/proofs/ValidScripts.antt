@@ -1,4 +1,5 @@
 -- Scripts that are drawn are valid.
+-- Used by Made.
 use Rattle.std.proofs.Common.{◌≡◌, ℕ, suc, ◌+◌, ◌*◌, ◌≤◌, ◌<◌, ◌%◌, false, cond, ◌&&◌, ◌==◌, List, [], ◌∷◌, ◌++◌, length, None, refl, sym, ap, ◌∙◌, subst, arith}
 use Rattle.std.specs.Prelude.{nat_lt, count_by, codes}
 use Rattle.std.specs.List.{AllByRecursion, IsDistinct, flat_map}
@@ -13,14 +14,16 @@ use Rattle.program_defs.specs.declared.script.Request.{Request}
 use Rattle.program_defs.specs.declared.script.Work.{Work}
 use Rattle.program_defs.specs.declared.script.Work.TheVariants.{Change}
 use Rattle.program_defs.specs.Works.{is_look}
-use Rattle.weave_script.specs.Limits.{is_get, gets_of, gets_of_work, over_limit, counts_of, programs_of, vertices_of, vertices_of_op, vertices_of_work}
+use Rattle.graph_ops.specs.Operations.{is_get}
+use Rattle.weave_script.specs.Limits.{gets_of, gets_of_work, over_limit, counts_of, programs_of, vertices_of, vertices_of_op, vertices_of_work}
 use Rattle.weave_script.specs.Scripts.{IsOperation, IsRequest, IsScript, IsStep, IsWork, names_of}
 use Rattle.load_maker.specs.Words.{Words, later, drawn_list}
 use Rattle.load_maker.specs.Generated.{numbered, operation_of, operations_of, request_numbered, request_of, script_from, step_of, work_of_kind}
-use Rattle.load_maker.proofs.Drawing.{list_keeps, list_length, all-append, all-map, all-push}
+use Rattle.load_maker.proofs.Drawing.{list_keeps, list_length}
 use Rattle.load_maker.proofs.NamesApart.{IsVertexName, distinct-push, few_vertices, numbers_apart}
 use Rattle.load_maker.proofs.NumberedNames.{numbered_is_name}
 use Rattle.load_maker.proofs.ValidParts.{IsDrawnOp, either, ops_gets, ops_valid, program_valid, step_valid}
+use Rattle.weave_data.proofs.Lists.{all-append, all-map, all-push}
 
 -- ---- what a request asks for
 

@@ -2,6 +2,7 @@
 use Rattle.std.specs.Prelude.{ℕ, ◌+◌, ◌*◌, ◌&&◌, nat_lt, ◌==◌, if◌then◌else◌, List, [], ◌++◌, length, count_by, Some, None, codes}
 use Rattle.std.specs.Fmt.{decimal}
 use Rattle.weave_data.specs.declared.name.Name.{Name}
+use Rattle.graph_ops.specs.Operations.{is_get}
 use Rattle.graph_ops.specs.declared.op.Op.{Op}
 use Rattle.graph_ops.specs.declared.op.Op.TheVariants.{Create, Delete, Set, Link, Unlink, Tag, Get}
 use Rattle.program_defs.specs.declared.program.Program.{Program}
@@ -12,14 +13,14 @@ use Rattle.program_defs.specs.declared.script.Step.{Step}
 use Rattle.program_defs.specs.declared.script.Step.TheVariants.{Begin, Judge, Send, Say, Hear, Nop, Deliver, Apply, Reply}
 use Rattle.program_defs.specs.declared.script.Work.{Work}
 use Rattle.program_defs.specs.declared.script.Work.TheVariants.{Change, Look}
-use Rattle.weave_script.specs.Limits.{is_get, gets_of, programs_of}
+use Rattle.weave_script.specs.Limits.{gets_of, programs_of}
 use Rattle.load_maker.specs.Words.{Words, words_of, draw, drawn_list}
 
 -- a letter and a number, as `v12`
 abbrev pub numbered : List ℕ → ℕ → Name
 numbered letter n = letter ++ decimal n
 
--- an operation on a vertex, by its form, where this many `get` operations precede it
+-- an operation on a vertex, by its form, after this many `get` operations
 unfoldable pub operation_of_form : ℕ → Name → ℕ → Words → Op × Words
 operation_of_form gets v form words =
     if nat_lt form 3 then (Create v, words)
@@ -37,7 +38,7 @@ unfoldable pub operation_of : ℕ → Words → Op × Words
 operation_of gets words =
     draw 40 words (λ v words. draw 8 words (λ form words. operation_of_form gets (numbered (codes "v") v) form words))
 
--- n operations of a transaction, where this many `get` operations precede it
+-- n operations of a transaction, after this many `get` operations
 abbrev pub operations_of : ℕ → ℕ → Words → List Op × Words
 operations_of gets n words = drawn_list (λ ops words. operation_of (gets + count_by is_get ops) words) n words
 
@@ -54,14 +55,14 @@ unfoldable pub program_of : Words → Program × Words
 program_of words =
     draw 4 words (λ form words. draw 40 words (λ v words. program_of_form (numbered (codes "v") v) form words))
 
--- what a request asks for, by its kind: a program, or a transaction of one to four operations, where this many programs
+-- what a request asks for, by its kind: a program, or a transaction of one to four operations, after this many programs
 -- and `get` operations precede it
 unfoldable pub work_of_kind : ℕ → ℕ → ℕ → Words → Work × Words
 work_of_kind programs gets kind words =
     if (kind == 0) && nat_lt programs 1000 then (let program = program_of words in (Look program.0, program.1))
     else draw 4 words (λ more words. let ops = operations_of gets (1 + more) words in (Change ops.0, ops.1))
 
--- the request of a number, where this many programs and `get` operations precede it
+-- the request of a number, after this many programs and `get` operations
 unfoldable pub request_numbered : ℕ → ℕ → ℕ → Words → Request × Words
 request_numbered number programs gets words =
     draw 6 words (λ session words. draw 3 words (λ gate words. draw 10 words (λ kind words.

@@ -10,7 +10,5 @@ mod ops;
 mod programs;
 mod requests;
 mod steps;
-#[cfg(test)]
-mod tests;
 
 pub use making::make;

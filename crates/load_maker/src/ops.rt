@@ -1,8 +1,8 @@
 //! Operations of transactions.
 ghost use Rattle.std.specs.Prelude.{◌≡◌, ◌+◌, ◌∷◌, [], count_by, IfOk};
+ghost use Rattle.graph_ops.specs.Operations.{is_get};
 ghost use Rattle.load_maker.specs.Generated.{operation_of, operations_of};
 ghost use Rattle.load_maker.specs.Words.{words_from};
-ghost use Rattle.weave_script.specs.Limits.{is_get};
 
 use crate::draws::draw;
 use crate::names::{draw_edge, draw_key, draw_value, draw_vertex};

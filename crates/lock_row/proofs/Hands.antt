@@ -1,4 +1,5 @@
 -- Passes as they are opened, and one hand less.
+-- Used by `deal_hand`, `open_beside` and crate weaver_locks.
 use Rattle.std.proofs.Common.{◌≡◌, ℕ, ◌+◌, ◌<◌, List, [], ◌∷◌, ◌++◌, length, map, get_or, set, sym, ap, ◌∙◌, subst, arith, Vec, length-append}
 use Rattle.std.specs.Global.{Global}
 use Rattle.std.specs.List.{All, range_with_len}
@@ -10,7 +11,7 @@ use Rattle.chronicle.specs.declared.chronicle.Chronicle.{Chronicle}
 use Rattle.chronicle.specs.declared.pass.Pass.{Pass}
 use Rattle.chronicle.specs.Locks.{Lock, lock_of}
 use Rattle.chronicle.specs.Passes.{IsReady, number_of, seen}
-use Rattle.lock_row.specs.Hands.{IsNew, AreFirst}
+use Rattle.lock_row.specs.Hands.{IsNewPass, AreFirst}
 use Rattle.lock_row.proofs.Lists.{last}
 
 module _ {E : Type 0} where
@@ -30,17 +31,17 @@ module _ {E : Type 0} where
 
   -- the last pass, and the others
   pub first_popped : (n : ℕ) (lock : Lock E) (ps qs : List (Pass E)) (p : Pass E) → AreFirst (n + 1) lock ps → ps ≡ qs ++ p ∷ []
-      → AreFirst n lock qs × IsNew n lock p
+      → AreFirst n lock qs × IsNewPass n lock p
   first_popped n lock ps qs p first is =
       let all : AreFirst (n + 1) lock (qs ++ p ∷ []) = subst (AreFirst (n + 1) lock) is first in
       let long : length (qs ++ p ∷ []) ≡ length qs + 1 = length-append qs (p ∷ []) in
       let many : length qs ≡ n = omega (arith, long, all.count_is) in (
         record {
           count_is = many;
-          each = λ k d low. subst (IsNew k lock) (get_or_append_left qs (p ∷ []) d k (omega (arith, low, many)))
+          each = λ k d low. subst (IsNewPass k lock) (get_or_append_left qs (p ∷ []) d k (omega (arith, low, many)))
               (all.each k d (omega (arith, low)));
         },
-        subst (IsNew n lock) (last qs p p n (sym many)) (all.each n p (omega arith)),
+        subst (IsNewPass n lock) (last qs p p n (sym many)) (all.each n p (omega arith)),
       )
 
 module _ {M E : Type 0} (locks : List (Chronicle M E)) where
@@ -51,7 +52,7 @@ module _ {M E : Type 0} (locks : List (Chronicle M E)) where
 
   -- the passes of the first i locks
   abbrev pub DealtSoFar : ℕ → List (Pass E) → ℕ → Type 0
-  DealtSoFar number hand i = (k : ℕ) (c : Chronicle M E) (p : Pass E) → k < i → IsNew number (lock_of (get_or locks k c)) (get_or hand k p)
+  DealtSoFar number hand i = (k : ℕ) (c : Chronicle M E) (p : Pass E) → k < i → IsNewPass number (lock_of (get_or locks k c)) (get_or hand k p)
 
   pub left_more : (count : ℕ) (passes : List (Vec (Pass E) Global)) (i : ℕ) (qs : Vec (Pass E) Global) → i < length passes → LeftSoFar count passes i
       → ((c : Chronicle M E) → AreFirst count (lock_of (get_or locks i c)) qs.items) → LeftSoFar count (set passes i qs) (i + 1)
@@ -62,9 +63,9 @@ module _ {M E : Type 0} (locks : List (Chronicle M E)) where
       (so_far k c ps (omega (arith, ne, below))))
 
   pub dealt_more : (number : ℕ) (hand : List (Pass E)) (i : ℕ) (p : Pass E) → length hand ≡ i → DealtSoFar number hand i
-      → ((c : Chronicle M E) → IsNew number (lock_of (get_or locks i c)) p) → DealtSoFar number (hand ++ p ∷ []) (i + 1)
+      → ((c : Chronicle M E) → IsNewPass number (lock_of (get_or locks i c)) p) → DealtSoFar number (hand ++ p ∷ []) (i + 1)
   dealt_more number hand i p long so_far one k c d below = dite (ℕ_discrete k i)
-      (λ e. subst (λ (j : ℕ). IsNew number (lock_of (get_or locks j c)) (get_or (hand ++ p ∷ []) j d)) (sym e)
-      (subst (IsNew number (lock_of (get_or locks i c))) (sym (last hand p d i (sym long))) (one c)))
+      (λ e. subst (λ (j : ℕ). IsNewPass number (lock_of (get_or locks j c)) (get_or (hand ++ p ∷ []) j d)) (sym e)
+      (subst (IsNewPass number (lock_of (get_or locks i c))) (sym (last hand p d i (sym long))) (one c)))
       (λ ne. let within : k < i = omega (arith, ne, below) in
-      subst (IsNew number (lock_of (get_or locks k c))) (sym (get_or_append_left hand (p ∷ []) d k (omega (arith, within, long)))) (so_far k c d within))
+      subst (IsNewPass number (lock_of (get_or locks k c))) (sym (get_or_append_left hand (p ∷ []) d k (omega (arith, within, long)))) (so_far k c d within))

@@ -1,7 +1,10 @@
 -- Lists, place by place.
-use Rattle.std.proofs.Common.{◌≡◌, ℕ, zero, suc, ◌+◌, ◌<◌, List, [], ◌∷◌, ◌++◌, length, map, get_or, take, drop, refl, sym, ap, subst, arith}
-use Rattle.std.proofs.lemmas.List.{get_or_push}
+-- Used by `deal_hand`, `fill_row`, `meet`, `open_row`, `row_of_three`, Hands, Meetings, 2 more and 7 crates above.
+use Rattle.std.proofs.Common.{◌≡◌, ℕ, zero, suc, ◌+◌, ◌<◌, List, [], ◌∷◌, ◌++◌, length, map, get_or, take, drop, refl, sym, ap, ◌∙◌, subst, arith}
+use Rattle.std.proofs.lemmas.List.{get_or_push, map-append}
 use Rattle.std.proofs.Math.Seq.{take-append_seam}
+use mathlib.Core.List.{IsPrefix}
+use Rattle.chronicle.proofs.Logs.{head_or}
 
 -- an element of a list
 pub one_of : {A : Type 0} (xs : List A) (k : ℕ) → k < length xs → A
@@ -27,11 +30,12 @@ mapped_alike {A} {B} {C} f g (x ∷ xs) (y ∷ ys) e same =
     let rest : map g ys ≡ map f xs = mapped_alike f g xs ys (omega arith) (λ k a b l. same (suc k) a b (omega arith)) in
     λ i. first i ∷ rest i
 
-module _ {A : Type 0} where
-  abbrev head_or : A → List A → A
-  head_or d [] = d
-  head_or d (x ∷ xs) = x
+-- the image of a beginning begins the image
+pub mapped_on : {A B : Type 0} (f : A → B) (xs ys : List A) → IsPrefix xs ys
+    → (rest : List B) × (map f ys ≡ map f xs ++ rest)
+mapped_on {A} {B} f xs ys on = (map f on.0, ap (λ (l : List A). map f l) (sym on.1) ∙ map-append f xs on.0)
 
+module _ {A : Type 0} where
   none_left : (k : ℕ) (x : A) (ys : List A) → x ∷ ys ≡ drop k [] → ⊥
   none_left zero x ys e = let n : length (x ∷ ys) ≡ length {A = A} [] = ap (λ (l : List A). length l) e in absurd (omega arith)
   none_left (suc k) x ys e = let n : length (x ∷ ys) ≡ length {A = A} [] = ap (λ (l : List A). length l) e in absurd (omega arith)

@@ -1,13 +1,16 @@
 -- Meetings, one place after another.
-use Rattle.std.proofs.Common.{◌≡◌, ◌≢◌, ℕ, ◌+◌, ◌<◌, ◌≤◌, List, length, map, get_or, set, refl, sym, ap, ◌∙◌, subst, arith, []}
+-- Used by `add_at`, `meet_others` and crates gate_lock and shard_lock.
+use Rattle.std.proofs.Common.{◌≡◌, ◌≢◌, ◌⊎◌, inl, inr, ℕ, ◌+◌, ◌<◌, ◌≤◌, List, length, map, get_or, set, refl, sym, ap, ◌∙◌, subst, arith, []}
 use Rattle.std.proofs.lemmas.List.{length-map, get_or-map, get_or_default, get_or-set_same, get_or-set_other}
+use mathlib.Core.List.{IsPrefix}
 use mathlib.Core.Logic.{dite}
 use native.Mathlib.Decide.{ℕ_discrete}
 use Rattle.chronicle.specs.declared.chronicle.Chronicle.{Chronicle}
 use Rattle.chronicle.specs.declared.pass.Pass.{Pass}
 use Rattle.chronicle.specs.declared.note.Note.{Note}
-use Rattle.chronicle.specs.Locks.{lock_of, name_of}
-use Rattle.chronicle.specs.Passes.{IsReady, lock_noted}
+use Rattle.chronicle.specs.Locks.{Lock, lock_of, name_of}
+use Rattle.chronicle.specs.Logs.{Log}
+use Rattle.chronicle.specs.Passes.{IsReady, lock_noted, noted, seen}
 use Rattle.lock_row.specs.Rows.{names_of, AreReady}
 use Rattle.lock_row.specs.Meetings.{HaveMet, CanMeet, AllMet}
 use Rattle.lock_row.proofs.Lists.{mapped_alike, one_of}
@@ -64,7 +67,7 @@ module _ {M E : Type 0} (locks : List (Chronicle M E)) (before : List (Pass E)) 
     note = λ n. get_or-set_other later i except m n (λ e. apart (sym e)) ∙ so_far.note n;
   }
 
--- what was read at a place, whatever stands past the end
+-- what was read at a place, whatever is past the end
 pub met_now : {M E : Type 0} (locks : List (Chronicle M E)) (after : List (Pass E)) (later : List (Note E)) (k : ℕ) (a : Chronicle M E)
     (x q : Pass E) (y m : Note E) → k < length locks → k < length after → k < length later
     → a ≡ get_or locks k a → HaveMet (lock_of a) (get_or after k x) q (get_or later k y) m
@@ -96,3 +99,20 @@ can_meet {M} {E} locks notes passes place q named ready k c p n low other =
       subst (IsReady (lock_of (get_or locks k c))) (sym (get_or-set_other passes place k q p other)) (ready k c p low),
       sym (get_or-map lock_noted notes k n [] (omega (arith, low, long))) ∙ (ap (λ (l : List (List ℕ)). get_or l k []) named ∙ get_or-map N locks k c [] low),
     )
+
+-- what was seen of a log at a place: by the pass, by the note, and by both after they met
+pub record Met {E : Type 0} (before after note later : Log E) : Type 0 where
+  pub note_on : IsPrefix note later
+  pub pass_on : IsPrefix before later
+  pub one : later ≡ after
+  pub either : (later ≡ before) ⊎ (later ≡ note)
+
+-- a pass and a note that have met have seen this
+pub met_of : {E : Type 0} (lock : Lock E) (p q : Pass E) (n m : Note E) → HaveMet lock p q n m
+    → Met (seen p) (seen q) (noted n) (noted m)
+met_of {E} lock p q n m h = record {
+  note_on = subst (λ (l : Log E). IsPrefix (noted n) l) (sym h.one) h.note_before;
+  pass_on = subst (λ (l : Log E). IsPrefix (seen p) l) (sym h.one) h.pass_before;
+  one = h.one;
+  either = elim h.either [ inl is ↦ inl (h.one ∙ is) | inr is ↦ inr (h.one ∙ is) ];
+}

@@ -1,4 +1,5 @@
 -- One lock more, and one lock more that is opened.
+-- Used by `fill_row`, `open_row` and `reserve_row`.
 use Rattle.std.proofs.Common.{◌≡◌, ℕ, ◌+◌, ◌<◌, List, [], ◌∷◌, ◌++◌, length, get_or, set, sym, ap, ◌∙◌, subst, arith, length-set, Vec}
 use Rattle.std.specs.Global.{Global}
 use Rattle.std.proofs.lemmas.List.{length_push, get_or_default, get_or_append_left, get_or-set_same, get_or-set_other}
@@ -10,7 +11,7 @@ use Rattle.chronicle.specs.declared.open.Vacant.{Vacant}
 use Rattle.chronicle.specs.declared.pass.Pass.{Pass}
 use Rattle.chronicle.specs.Frames.{Frame}
 use Rattle.chronicle.specs.Logs.{Log}
-use Rattle.chronicle.specs.Locks.{Lock, lock_of, name_of, BeginsAs, IsVacant, IsFilled}
+use Rattle.chronicle.specs.Locks.{Lock, lock_of, name_of, LockStartsWith, IsVacant, IsFilled}
 use Rattle.chronicle.specs.Passes.{IsUnopened}
 use Rattle.lock_row.specs.Rows.{names_of}
 use Rattle.lock_row.specs.Reservations.{AreUnopened}
@@ -45,11 +46,11 @@ module _ {M E : Type 0} where
 module _ {M E B : Type 0} (frame_of : B → Frame) (log_of : B → Log E) (before : List (Chronicle M E)) (machines : List B) where
   -- a lock c was opened as d for a machine b, with these passes and this empty place
   pub record IsOpened (c d : Chronicle M E) (b : B) (ps : Vec (Pass E) Global) (v : Vacant M E) : Type 0 where
-    pub begins : BeginsAs (lock_of d) (lock_of c).passes (frame_of b) (log_of b)
+    pub begins : LockStartsWith (lock_of d) (lock_of c).passes (frame_of b) (log_of b)
     pub passes : AreFirst (lock_of c).passes (lock_of d) ps.items
     pub vacant : IsVacant (lock_of d) v
 
-  -- so it is with the first i locks
+  -- the first i locks were opened like this
   abbrev pub OpenedSoFar : List (Chronicle M E) → List (Vec (Pass E) Global) → List (Vacant M E) → ℕ → Type 0
   OpenedSoFar after passes vacants i = (k : ℕ) (c d : Chronicle M E) (b : B) (ps : Vec (Pass E) Global) (v : Vacant M E) → k < i
       → IsOpened (get_or before k c) (get_or after k d) (get_or machines k b) (get_or passes k ps) (get_or vacants k v)

@@ -8,7 +8,7 @@ use Rattle.chronicle.specs.Passes.{IsReady, number_of, seen}
 
 module _ {E : Type 0} where
   -- the lock's pass with this number, in no hold, which has seen the log at the start
-  pub record IsNew (number : ℕ) (lock : Lock E) (p : Pass E) : Type 0 where
+  pub record IsNewPass (number : ℕ) (lock : Lock E) (p : Pass E) : Type 0 where
     pub ready : IsReady lock p
     pub number_is : number_of p ≡ number
     pub seen_is : seen p ≡ lock.start
@@ -16,7 +16,7 @@ module _ {E : Type 0} where
   -- the first `count` passes of the lock, in the order of their numbers
   pub record AreFirst (count : ℕ) (lock : Lock E) (passes : List (Pass E)) : Type 0 where
     pub count_is : length passes ≡ count
-    pub each : (n : ℕ) (p : Pass E) → n < count → IsNew n lock (slice_index_or passes n p)
+    pub each : (n : ℕ) (p : Pass E) → n < count → IsNewPass n lock (slice_index_or passes n p)
 
 module _ {M E : Type 0} where
   -- at each place are the first `count` passes of the lock there
@@ -27,4 +27,4 @@ module _ {M E : Type 0} where
   -- at each place is the pass with this number of the lock there
   abbrev pub AreDealt : ℕ → List (Chronicle M E) → List (Pass E) → Type 0
   AreDealt number locks hand = (k : ℕ) (c : Chronicle M E) (p : Pass E) → k < length locks
-      → IsNew number (lock_of (slice_index_or locks k c)) (slice_index_or hand k p)
+      → IsNewPass number (lock_of (slice_index_or locks k c)) (slice_index_or hand k p)

@@ -4,10 +4,10 @@ use Rattle.chronicle.specs.declared.chronicle.Chronicle.{Chronicle}
 use Rattle.chronicle.specs.declared.open.Vacant.{Vacant}
 use Rattle.chronicle.specs.Frames.{Frame}
 use Rattle.chronicle.specs.Logs.{Log}
-use Rattle.chronicle.specs.Locks.{Lock, lock_of, BeginsAs, IsVacant}
+use Rattle.chronicle.specs.Locks.{Lock, lock_of, LockStartsWith, IsVacant}
 
 -- the lock was opened for a machine with this frame and this log
-pub record Fits {E : Type 0} (lock : Lock E) (frame : Frame) (log : Log E) : Type 0 where
+pub record FitsMachine {E : Type 0} (lock : Lock E) (frame : Frame) (log : Log E) : Type 0 where
   pub frame_is : frame ≡ lock.frame
   pub log_is : log ≡ lock.start
 
@@ -16,7 +16,7 @@ module _ {M E : Type 0} where
   abbrev pub AllBegin : {B : Type 0} → (B → Frame) → (B → Log E) → List (Chronicle M E) → List (Chronicle M E) → List B
       → Type 0
   AllBegin {B} frame_of log_of before after machines = (k : ℕ) (c d : Chronicle M E) (b : B) → k < length before
-      → BeginsAs (lock_of (slice_index_or after k d)) (lock_of (slice_index_or before k c)).passes
+      → LockStartsWith (lock_of (slice_index_or after k d)) (lock_of (slice_index_or before k c)).passes
       (frame_of (slice_index_or machines k b)) (log_of (slice_index_or machines k b))
 
   -- at each place is the empty place of the lock there
@@ -27,7 +27,7 @@ module _ {M E : Type 0} where
   -- at each place the lock was opened for the machine there
   abbrev pub AllFit : (M → Frame) → (M → Log E) → List (Chronicle M E) → List M → Type 0
   AllFit frame_of log_of locks machines = (k : ℕ) (c : Chronicle M E) (m : M) → k < length locks
-      → Fits (lock_of (slice_index_or locks k c)) (frame_of (slice_index_or machines k m))
+      → FitsMachine (lock_of (slice_index_or locks k c)) (frame_of (slice_index_or machines k m))
       (log_of (slice_index_or machines k m))
 
   -- at each place is the same lock, whatever is in it

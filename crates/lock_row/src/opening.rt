@@ -1,6 +1,6 @@
 //! Locks of a row are opened.
 ghost use Rattle.std.specs.Prelude.{◌≡◌, ℕ, IfOk, OnErr, All, length, vec_len};
-ghost use Rattle.chronicle.specs.Locks.{lock_of, name_of, BeginsAs, IsVacant};
+ghost use Rattle.chronicle.specs.Locks.{lock_of, name_of, LockStartsWith, IsVacant};
 ghost use Rattle.chronicle.specs.Passes.{IsUnopened};
 ghost use Rattle.lock_row.specs.Rows.{names_of};
 ghost use Rattle.lock_row.specs.Reservations.{AreUnopened};
@@ -40,7 +40,7 @@ fn open_beside<M: Machine, B: Bare<Entry = M::Entry>>(
 ) -> (Vec<Pass<M::Entry>>, Vacant<M>)
     requires { IsUnopened (lock_of lock.old) part }
     ensures name { name_of (lock_of lock.new) ≡ name_of (lock_of lock.old) }
-    ensures begins { BeginsAs (lock_of lock.new) (lock_of lock.old).passes
+    ensures begins { LockStartsWith (lock_of lock.new) (lock_of lock.old).passes
         (B.frame bare.now context.now (names_of row.value.items)) (B.log bare.now) }
     ensures passes { AreFirst (lock_of lock.old).passes (lock_of lock.new) result.0.items }
     ensures vacant { IsVacant (lock_of lock.new) result.1 }

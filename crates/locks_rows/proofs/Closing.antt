@@ -1,4 +1,5 @@
 -- The hands of players are all the hands.
+-- Used by `close`.
 use Rattle.std.proofs.Common.{ℕ, ◌<◌, List, length, map, sym, subst, Contains}
 use Rattle.std.specs.List.{All}
 use Rattle.weaver_locks.specs.declared.shared.Shared.{Shared}

@@ -1,7 +1,8 @@
 -- What a worker keeps stays true in its hand's next hold.
+-- Used by `apply`, `arrive`, `begin_program`, `begin_tx`, `commit`, `fetch`, `finish`, `hear`, `nop`, `say` and 2 more.
 use Rattle.std.proofs.Common.{◌≡◌, ◌≢◌, ℕ, suc, ◌+◌, ◌<◌, ◌≤◌, List, [], ◌∷◌, length, Contains, inl, inr, refl, sym, ap, subst, arith}
 use Rattle.std.specs.Prelude.{None, Some, Result}
-use Rattle.proof_base.proofs.Members.{has_head, has_flat}
+use Rattle.weave_data.proofs.Members.{has_head, has_flat}
 use Rattle.vector_stamp.specs.declared.clock.Clock.{Clock}
 use Rattle.vector_stamp.specs.declared.clock.Stamp.{Stamp}
 use Rattle.weave_entries.specs.declared.gate_log.GateDeed.TheVariants.{BeganTx, BeganProgram, Heard, Finished}

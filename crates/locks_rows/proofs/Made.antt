@@ -1,8 +1,9 @@
 -- What a hand made at gatekeepers, and what it has not made.
+-- Used by `apply`, `arrive`, `begin_program`, `begin_tx`, `commit`, `fetch`, `hear`, `nop`, `say`, `send` and 2 more.
 use Rattle.std.proofs.Common.{eqb, ◌≡◌, eqb, ◌≢◌, ◌⊎◌, ℕ, ◌<◌, ◌≤◌, zero, suc, List, [], ◌∷◌, ◌++◌, get_or, set, Contains, inl, inr, refl, sym, ap, ◌∙◌, subst, arith, eq-eqb}
 use Rattle.std.specs.Prelude.{Result, Ok, Err}
 use Rattle.std.proofs.lemmas.List.Elements.{Contains-append_cases}
-use Rattle.proof_base.proofs.Members.{flat_has, has_filter, has_flat, has_none, only}
+use Rattle.weave_data.proofs.Members.{flat_has, has_filter, has_flat, has_none, only}
 use Rattle.weave_entries.specs.declared.gate_log.GateDeed.{GateDeed}
 use Rattle.weave_entries.specs.declared.gate_log.GateDeed.TheVariants.{BeganTx, BeganProgram, Sent, Nop, Heard, Finished}
 use Rattle.weave_entries.specs.declared.gate_log.GateEntry.{GateEntry}

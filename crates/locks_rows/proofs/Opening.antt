@@ -1,7 +1,8 @@
 -- New machines may be put behind locks, and the hands that come with them are players.
+-- Used by `open`.
 use Rattle.std.proofs.Common.{eqb, filter, ◌≡◌, eqb, filter, ℕ, ◌<◌, List, [], length, map, get_or, sym, ap, ◌∙◌, subst, arith, Contains}
 use Rattle.std.proofs.lemmas.List.{get_or-map, length-map}
-use Rattle.proof_base.proofs.Members.{has_none}
+use Rattle.weave_data.proofs.Members.{has_none}
 use Rattle.weave_entries.specs.declared.gate_log.GateEntry.{GateEntry}
 use Rattle.weave_entries.specs.GateReplay.{Begun, begun_in}
 use Rattle.weave_account.specs.declared.account.Account.{Account}

@@ -1,8 +1,9 @@
 -- A program that shows a vertex has read all that it reads once it has visited it.
+-- Used by `visit`.
 use Rattle.std.proofs.Common.{◌≡◌, ◌==◌, ℕ, true, List, [], ◌∷◌, filter, take, refl, sym, subst, eq-eqb}
 use Rattle.std.specs.Prelude.{Option, Ok, Contains}
 use Rattle.std.proofs.lemmas.Cmp.{eq_by_cmp_equiv, nat_list_cmp_total}
-use Rattle.proof_base.proofs.Members.{has_filter, has_flat, has_head, has_last, has_map, only}
+use Rattle.weave_data.proofs.Members.{has_filter, has_flat, has_head, has_last, has_map, only}
 use Rattle.weave_data.specs.declared.name.Name.{Name}
 use Rattle.weave_data.specs.Names.{same_name}
 use Rattle.graph_ops.specs.declared.record.Record.{Record}
@@ -14,8 +15,8 @@ use Rattle.weave_entries.specs.declared.shard_log.ShardEntry.{ShardEntry}
 use Rattle.weave_entries.specs.ShardReplay.{Visit, reads_in, state_of_updates, updates_of, visit_by, visits_of}
 use Rattle.weave_account.specs.declared.account.Account.{Account}
 use Rattle.weave_account.specs.Account.{reads_of, shard_log}
+use Rattle.weave_account.proofs.Beginning.{list-there}
 use Rattle.seen_logs.specs.References.{EndsAsSeen}
-use Rattle.seen_logs.proofs.Listed.{list-there}
 use Rattle.weave_entries.specs.OracleReplay.{pairs_of_log}
 use Rattle.weave_entries.specs.ShardRules.{is_settled_by, updates_read}
 use Rattle.weaver_locks.specs.declared.hand.Hand.{Hand}

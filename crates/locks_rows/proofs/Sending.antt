@@ -1,4 +1,5 @@
 -- What was judged may be sent, if it was judged.
+-- Used by `commit`.
 use Rattle.std.proofs.Common.{ℕ, List}
 use Rattle.std.specs.Prelude.{Result, Ok, Err, IfOk}
 use Rattle.std.specs.declared.alloc.AllocError.{AllocError}

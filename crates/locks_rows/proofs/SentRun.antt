@@ -1,10 +1,11 @@
 -- The logs that a shard's notes have seen are legal, and each message was sent: for the test in which a shard drops old
 -- versions.
+-- Used by `new_shard` and `shard_with_versions`.
 use Rattle.std.proofs.Common.{◌≡◌, ◌≢◌, ℕ, zero, suc, ◌<◌, [], ◌∷◌, length, All, AllPairs, None, inl, inr, refl, sym, ap, subst, ◌∙◌, arith}
 use Rattle.std.proofs.lemmas.List.Elements.{All-cons, All-nil}
-use Rattle.proof_base.proofs.Entries.{each_none}
-use Rattle.proof_base.proofs.Members.{has_head, has_none}
-use Rattle.proof_base.proofs.Ordered.{pairs_cons, pairs_none}
+use Rattle.weave_data.proofs.Entries.{each_none}
+use Rattle.weave_data.proofs.Members.{has_head, has_none}
+use Rattle.weave_data.proofs.Ordered.{pairs_cons, pairs_none}
 use Rattle.graph_ops.specs.declared.op.Op.{Op}
 use Rattle.graph_ops.specs.declared.op.Op.TheVariants.{Create, Delete}
 use Rattle.graph_ops.specs.declared.part.Part.{Part}
@@ -19,13 +20,13 @@ use Rattle.weave_entries.specs.StoreReplay.{judged_by}
 use Rattle.weave_entries.specs.StoreRule.{FitsStore, IsStoreLog}
 use Rattle.weave_account.specs.declared.account.Account.{Account}
 use Rattle.weave_account.specs.Account.{gate_log, shard_log}
+use Rattle.weave_account.proofs.ExampleLists.{five, two}
 use Rattle.seen_logs.specs.Entries.{oracle_entries, store_entries, store_pairs}
 use Rattle.seen_logs.specs.Seen.{AreLegal, ShardRefersWithin}
-use Rattle.seen_logs.proofs.ShortLogs.{five, two}
 use Rattle.chronicle.specs.Passes.{noted}
 use Rattle.shard_node.specs.Shards.{ShardView}
 use Rattle.shard_lock.specs.declared.notes.ShardNotes.{ShardNotes}
-use Rattle.shard_lock.specs.Notes.{IsKept, at_place, seen_of}
+use Rattle.shard_lock.specs.Notes.{ShardIsKept, at_place, seen_of}
 use Rattle.locks_rows.specs.Dropping.{IsSentToShard, begin_entry, deleted, empty, empty_entry, judge_entry, judged_log, logs_noted, made, part_of, run, send_entry, sent_log, stamp_of_count, verdict_of, vertex}
 
 -- what a shard without entries has seen
@@ -78,7 +79,7 @@ refers = each_none _
 -- a shard without entries keeps these notes
 pub keeps-notes : (shard : ShardView) (notes : ShardNotes) → shard ≡ record { number = 0; gates = 1; log = [] }
     → logs_noted notes.gates.items ≡ sent_log ∷ [] → noted notes.store ≡ store_pairs judged_log → noted notes.oracle ≡ []
-    → length notes.gates.items ≡ 1 → IsKept shard 1 notes
+    → length notes.gates.items ≡ 1 → ShardIsKept shard 1 notes
 unfolding at_place
 keeps-notes shard notes is gates store oracle one =
     let here : seen_of shard notes ≡ new = λ i. record {

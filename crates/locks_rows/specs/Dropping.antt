@@ -21,7 +21,7 @@ use Rattle.seen_logs.specs.Entries.{gate_entries, store_entries}
 use Rattle.seen_logs.specs.References.{ArrivesAsSeen}
 use Rattle.chronicle.specs.declared.note.Note.{Note}
 use Rattle.chronicle.specs.Passes.{noted}
-use Rattle.shard_lock.specs.Notes.{NotedView}
+use Rattle.shard_lock.specs.Notes.{NotedShardView}
 
 -- the vertex
 abbrev pub vertex : Name
@@ -101,7 +101,7 @@ abbrev pub logs_noted : List (Note GateDeed) → List (List GateEntry)
 logs_noted notes = map (λ (note : Note GateDeed). gate_entries (noted note)) notes
 
 -- the notes of the shard, which is the only one, have seen these logs
-pub record HasSeenRun (noted_shard : NotedView) : Type 0 where
+pub record HasSeenRun (noted_shard : NotedShardView) : Type 0 where
   pub number : noted_shard.shard.number ≡ 0
   pub gates : noted_shard.shard.gates ≡ 1
   pub shards : noted_shard.shards ≡ 1

@@ -60,7 +60,7 @@ pub record IsPlayer (shared : Shared) (player : Player) : Type 0 where
   pub worker : IsWorker shared player.worker
   pub step : MayTakeStep shared player.worker.hand player.step
 
--- so it is, and its hand has this number
+-- the player is ready for its step, and its hand has this number
 pub record IsNumberedPlayer (shared : Shared) (number : ℕ) (player : Player) : Type 0 where
   pub is : IsPlayer shared player
   pub number_is : hand_number player.worker.hand ≡ number

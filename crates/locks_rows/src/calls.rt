@@ -8,7 +8,7 @@ use seen_logs::laws::{accounts_have_logs_of_locks, references_go_on};
 use shard_lock::laws::own_programs_are_running;
 use vector_stamp::Stamp;
 
-/// What a worker's calls stand on.
+/// What a worker's calls rely on.
 pub fn workers_keep_their_laws()
     ensures { WorkersLaws }
 {

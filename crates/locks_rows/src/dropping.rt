@@ -204,8 +204,8 @@ fn check_shard(rt: &impl Abort, alloc: Global, shard: &Shard) {
     assert!(rt; shard.kept(the_vertex(rt)) == 1);
 }
 
-// A shard without notes collects after the third message, and then a shard with notes: both keep one version of two, and
-// have the same entries.
+// A shard without notes collects after the third message, and then a shard with notes: both keep one version of two,
+// and have the same entries.
 #[test]
 fn old_versions_are_dropped_behind_notes(rt: HostRuntime) {
     let alloc = rt.alloc();

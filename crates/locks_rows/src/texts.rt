@@ -64,27 +64,8 @@ pub fn write_ops(text: &mut Text, ops: &[Op]) -> Result<(), AllocError> {
 }
 
 fn write_op(text: &mut Text, op: &Op) -> Result<(), AllocError> {
-    match op {
-        Op::Create { v } => write_named(text, b"create", &[*v]),
-        Op::Delete { v } => write_named(text, b"delete", &[*v]),
-        Op::Set { v, key, value } => write_named(text, b"set", &[*v, *key, *value]),
-        Op::Unset { v, key } => write_named(text, b"unset", &[*v, *key]),
-        Op::Link { v, edge, target } => write_named(text, b"link", &[*v, *edge, *target]),
-        Op::Unlink { v, edge } => write_named(text, b"unlink", &[*v, *edge]),
-        Op::Tag {
-            v,
-            edge,
-            key,
-            value,
-        } => write_named(text, b"tag", &[*v, *edge, *key, *value]),
-        Op::Untag { v, edge, key } => write_named(text, b"untag", &[*v, *edge, *key]),
-        Op::Get { v } => write_named(text, b"get", &[*v]),
-    }
-}
-
-fn write_named(text: &mut Text, word: &[u8], names: &[Name]) -> Result<(), AllocError> {
-    text.word(word)?;
-    write_names(text, names)
+    text.word(op.word())?;
+    write_names(text, op.fields().as_slice())
 }
 
 fn reason_word(reason: Reason) -> &'static [u8] {

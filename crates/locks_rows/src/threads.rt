@@ -153,7 +153,7 @@ fn work<R: Wait + Abort>(
     }
 }
 
-/// Each hand works, on so many threads as can be made up to this number.
+/// Each hand works, on this many threads, or on fewer if no more can be made.
 pub fn work_side_by_side<R: Threads + Wait + Sync + Abort>(
     rt: &R,
     alloc: Global,

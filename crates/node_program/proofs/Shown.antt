@@ -1,4 +1,5 @@
 -- The program `show`, before and after its read.
+-- Used by `next_vertex` and `outcome`.
 use Rattle.std.proofs.Common.{◌≡◌, refl, sym, ap, ◌∙◌, true, List, Option, Some, None}
 use Rattle.std.proofs.lemmas.Cmp.{eq_by_cmp_equiv, nat_list_cmp_total}
 use Rattle.weave_data.specs.Names.{same_name}

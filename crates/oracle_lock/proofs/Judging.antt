@@ -1,11 +1,12 @@
 -- The store judges over the oracle.
-use Rattle.std.proofs.Common.{◌≡◌, ℕ, ◌≤◌, List, [], ◌∷◌, ◌++◌, length, map, Contains, true, IsTrue, inl, inr, refl, sym, ap, subst, arith}
+-- Used by `judge`.
+use Rattle.std.proofs.Common.{◌≡◌, ℕ, ◌≤◌, List, ◌∷◌, ◌++◌, length, map, Contains, true, IsTrue, inl, inr, refl, sym, ap, subst, arith}
 use Rattle.std.specs.Prelude.{Result, Ok, Err, IfOk, OnErr}
 use Rattle.std.proofs.lemmas.List.{length-map}
-use Rattle.proof_base.proofs.Members.{has_none, has_head, has_read, has_tail, only}
+use Rattle.weave_data.proofs.Members.{has_none, has_head, has_read, has_tail}
 use Rattle.vector_stamp.specs.declared.clock.Stamp.{Stamp}
 use Rattle.vector_stamp.specs.Precedence.{Given}
-use Rattle.vector_stamp.specs.Settling.{SettledEntry, entries_of_call, additions_from, places_of}
+use Rattle.vector_stamp.specs.Settling.{SettledEntry, additions_from, places_of}
 use Rattle.weave_entries.specs.declared.gate_log.GateEntry.{GateEntry}
 use Rattle.weave_entries.specs.declared.oracle_log.OracleEntry.{OracleEntry}
 use Rattle.weave_entries.specs.declared.verdict.Verdict.{Verdict}
@@ -19,14 +20,7 @@ use Rattle.chronicle.specs.declared.note.Note.{Note}
 use Rattle.chronicle.specs.Passes.{noted}
 use Rattle.oracle_lock.specs.Entries.{gate_entries}
 use Rattle.oracle_lock.specs.Seen.{gates_noted, of_gates, OracleIsKept}
-
--- an entry of a call is of the events of the call
-call-events : (author : ℕ) (asked : List Stamp) (stamp : Stamp) (places : List ℕ) (entry : SettledEntry) (event : Stamp)
-    → Contains (entries_of_call author asked stamp places) entry → Contains (entry.later ∷ entry.earlier) event → Contains (stamp ∷ asked) event
-call-events author asked stamp [] entry event h has = absurd (has_none entry h)
-call-events author asked stamp (place ∷ places) entry event h has =
-    let one : SettledEntry = record { author = author; earlier = asked; later = stamp; places = place ∷ places } in
-    subst (λ (e : SettledEntry). Contains (e.later ∷ e.earlier) event) (sym (only one entry h)) has
+use Rattle.oracle_lock.proofs.CallEntries.{call-events, KeepsGained}
 
 added-events : (verdict : Verdict) (author : ℕ) (pairs : List Given) (asked : List Stamp) (stamp : Stamp) (entry : SettledEntry) (event : Stamp)
     → Contains (entries_added verdict author pairs asked stamp) entry → Contains (entry.later ∷ entry.earlier) event → Contains (stamp ∷ asked) event
@@ -45,7 +39,7 @@ asked-begun gates stamp asked kept among begun event h = elim (has_read stamp as
   | inr more ↦ begun event (has_tail stamp kept event (among event more))
 ]
 
--- as many logs as notes
+-- at most eight notes have at most eight logs
 pub few-noted : (notes others : List (Note GateDeed)) → notes ≡ others → length others ≤ 8 → length (gates_noted notes) ≤ 8
 few-noted notes others same few =
     let as_noted : Note GateDeed → List GateEntry = λ note. gate_entries (noted note) in
@@ -54,11 +48,7 @@ few-noted notes others same few =
 module _ (shards : ℕ) (gates : List (List GateEntry)) (before after : List OracleEntry) (author : ℕ) (pairs : List Given) (asked : List Stamp)
     (stamp : Stamp) where
   -- after a judgement all that the oracle's entries refer to is still seen
-  pub judged-keeps : {E : Type 0} → ((entries : List SettledEntry) → map settled_entry after ≡ map settled_entry before ++ entries
-      → IsOracleLog after
-      → ((entry : SettledEntry) (event : Stamp) → Contains entries entry → Contains (entry.later ∷ entry.earlier) event
-      → IsBegunStamp (of_gates gates) event)
-      → OracleIsKept shards gates after)
+  pub judged-keeps : {E : Type 0} → KeepsGained shards gates before after
       → (result : Result Verdict E) → OracleIsKept shards gates before
       → IfOk result (λ verdict. IsTrue true → map settled_entry after ≡ map settled_entry before ++ entries_added verdict author pairs asked stamp)
       → OnErr result (after ≡ before) → IsOracleLog after

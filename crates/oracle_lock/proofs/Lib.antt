@@ -1,4 +1,4 @@
 pub mod Notes
 pub mod Settling
+pub mod CallEntries
 pub mod Judging
-pub mod Crossing

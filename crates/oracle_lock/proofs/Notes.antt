@@ -1,8 +1,8 @@
 -- Notes and passes of gatekeepers' locks that have met, as logs by the numbers of gatekeepers.
-use Rattle.std.proofs.Common.{◌≡◌, ◌≢◌, ◌⊎◌, ℕ, zero, suc, ◌<◌, ◌≤◌, List, [], ◌∷◌, ◌++◌, length, map, get_or, take, drop, inl, inr, refl, sym, ap, ◌∙◌, subst, arith}
+-- Used by `meet_gates` and crates shard_lock and store_lock.
+use Rattle.std.proofs.Common.{◌≡◌, ◌≢◌, ◌⊎◌, ℕ, ◌<◌, ◌≤◌, List, [], length, map, get_or, inl, inr, refl, sym, ap, ◌∙◌, subst, arith}
 use Rattle.std.proofs.lemmas.Bool.{cases_lt}
-use Rattle.std.proofs.lemmas.List.{get_or-map, length-map, get_or_past, map-append}
-use Rattle.std.proofs.Math.Seq.{take-append_seam}
+use Rattle.std.proofs.lemmas.List.{get_or-map, length-map, get_or_past}
 use mathlib.Core.List.{IsPrefix}
 use Rattle.weave_entries.specs.declared.gate_log.GateEntry.{GateEntry}
 use Rattle.weave_entries.specs.declared.gate_log.GateDeed.{GateDeed}
@@ -17,32 +17,13 @@ use Rattle.chronicle.specs.Locks.{lock_of, name_of}
 use Rattle.chronicle.specs.Passes.{seen, noted, lock_noted}
 use Rattle.lock_row.specs.Rows.{names_of, AreReady}
 use Rattle.lock_row.specs.Meetings.{HaveMet, CanMeet, AllMet}
+use Rattle.lock_row.proofs.Lists.{mapped_alike, mapped_on, one_of}
 use Rattle.oracle_lock.specs.Entries.{gate_entry, gate_entries}
 use Rattle.oracle_lock.specs.Seen.{gates_noted, gates_seen, of_gates, AreGateLogs}
 
--- what was written through a reference to all elements is the list
-pub written : {A : Type 0} (n : ℕ) (new old : List A) → length new ≡ n → take n (new ++ drop (length new) old) ≡ new
-written {A} n new old e = subst (λ (k : ℕ). take k (new ++ drop (length new) old) ≡ new) e (take-append_seam new (drop (length new) old))
-
--- an element of a list
-one_of : {A : Type 0} (xs : List A) (k : ℕ) → k < length xs → A
-one_of [] k l = absurd (omega arith)
-one_of (x ∷ xs) k l = x
-
--- lists whose elements have the same image at each place have the same images
-mapped_alike : {A B C : Type 0} (f : A → C) (g : B → C) (xs : List A) (ys : List B) → length ys ≡ length xs
-    → ((k : ℕ) (a : A) (b : B) → k < length xs → g (get_or ys k b) ≡ f (get_or xs k a)) → map g ys ≡ map f xs
-mapped_alike f g [] [] e same = refl
-mapped_alike f g [] (y ∷ ys) e same = absurd (omega arith)
-mapped_alike f g (x ∷ xs) [] e same = absurd (omega arith)
-mapped_alike {A} {B} {C} f g (x ∷ xs) (y ∷ ys) e same =
-    let first : g y ≡ f x = same zero x y (omega arith) in
-    let rest : map g ys ≡ map f xs = mapped_alike f g xs ys (omega arith) (λ k a b l. same (suc k) a b (omega arith)) in
-    λ i. first i ∷ rest i
-
 -- what begins a lock's log begins it as entries
 begins : (a b : Log GateDeed) → IsPrefix a b → IsBeginningOf (gate_entries a) (gate_entries b)
-begins a b p = (gate_entries p.0, sym (ap gate_entries p.1) ∙ map-append gate_entry a p.0)
+begins = mapped_on gate_entry
 
 -- as many notes as locks
 pub as_many : {M E : Type 0} (locks : List (Chronicle M E)) (notes : List (Note E)) → map lock_noted notes ≡ names_of locks

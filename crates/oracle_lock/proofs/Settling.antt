@@ -1,12 +1,12 @@
 -- What the oracle's entries speak of was begun, and stays so when it is asked.
+-- Used by `known_events_are_begun`, `meet`, `pairs_tell_entries`, 1 more and crates shard_lock and store_lock.
 use Rattle.std.proofs.Common.{◌≡◌, ◌⊎◌, ℕ, ◌≤◌, List, [], ◌∷◌, ◌++◌, length, map, Contains, Option, None, Some, inl, inr, refl, sym, ap, ◌∙◌, subst}
 use Rattle.std.specs.Prelude.{slice_get}
-use Rattle.std.specs.List.{cons_option, filter_map}
 use Rattle.std.specs.Option.{option_map}
 use Rattle.std.proofs.lemmas.List.{length-map, map-append}
 use Rattle.std.proofs.lemmas.List.Elements.{Contains-append_cases}
-use Rattle.proof_base.proofs.Images.{get-has}
-use Rattle.proof_base.proofs.Members.{cut_at, flat_has, has_cut, has_none, has_read, has_head, has_tail, map_has}
+use Rattle.weave_data.proofs.Images.{get-has}
+use Rattle.weave_data.proofs.Members.{cut_at, flat_has, has_cut, has_head, has_tail, map_has, filter_map_has}
 use Rattle.vector_stamp.specs.declared.clock.Stamp.{Stamp}
 use Rattle.vector_stamp.specs.Coherence.{AreCoherent}
 use Rattle.vector_stamp.specs.Precedence.{Given}
@@ -31,26 +31,12 @@ use Rattle.chronicle.specs.Passes.{lock_noted, noted}
 use Rattle.oracle_lock.specs.Entries.{gate_entries}
 use Rattle.oracle_lock.specs.Seen.{gates_noted, of_gates, oracle_seen, AreGateLogs, OracleIsKept}
 
--- a log that went behind its lock and came back
+-- the entries come back from the pairs that the lock has
 pub pairs_back : (log : List OracleEntry) → oracle_entries (oracle_pairs log) ≡ log
 pairs_back [] = refl
 pairs_back (entry ∷ log) = ap (λ (l : List OracleEntry). entry ∷ l) (pairs_back log)
 
 -- Pairs
-
--- what a list gives is given by one of its elements
-filter_map-from : {A B : Type 0} (f : A → Option B) (xs : List A) (y : B) → Contains (filter_map f xs) y → (x : A) × (f x ≡ Some y)
-filter_map-from f [] y h = absurd (has_none y h)
-filter_map-from {A} {B} f (x ∷ xs) y h = at (f x) refl (filter_map-from f xs y) h
-  where
-    at : (o : Option B) → f x ≡ o → (Contains (filter_map f xs) y → (x : A) × (f x ≡ Some y))
-        → Contains (cons_option o (filter_map f xs)) y → (x : A) × (f x ≡ Some y)
-    at None e rest h = rest h
-    at (Some z) e rest h =
-        elim (has_read z (filter_map f xs) y h) [
-          | inl same ↦ (x, e ∙ ap Some same)
-          | inr more ↦ rest more
-        ]
 
 of-event : (earlier : List Stamp) (later : Stamp) (place : ℕ) (pair : Given) (o : Option Stamp) → slice_get earlier place ≡ o
     → option_map (λ (event : Stamp). (event, later)) o ≡ Some pair → Contains earlier pair.0 × (later ≡ pair.1)
@@ -64,8 +50,9 @@ of-event earlier later place pair (Some event) e is =
 -- a pair of an entry is of its events
 pair-of : (entry : SettledEntry) (pair : Given) → Contains (pairs_of_entry entry) pair → Contains entry.earlier pair.0 × (entry.later ≡ pair.1)
 pair-of entry pair h =
-    let from = filter_map-from (λ (place : ℕ). option_map (λ (event : Stamp). (event, entry.later)) (slice_get entry.earlier place)) entry.places pair h in
-    of-event entry.earlier entry.later from.0 pair (slice_get entry.earlier from.0) refl from.1
+    let from = filter_map_has (λ (place : ℕ). option_map (λ (event : Stamp). (event, entry.later))
+    (slice_get entry.earlier place)) entry.places pair h in
+    of-event entry.earlier entry.later from.0 pair (slice_get entry.earlier from.0) refl from.2
 
 -- Entries
 
@@ -106,20 +93,23 @@ module _ (no_others : (pairs : List Given) (stamp : Stamp) → Contains (ends_of
             (has_head (settled_entry entry.0).later (settled_entry entry.0).earlier)
       ])
 
-  -- with others that were begun they are coherent
-  pub known-coherent : ((shards : ℕ) (seen : Account) → length seen.gates ≤ 8 → ((home : ℕ) → IsGateLog home shards (gate_log seen home))
+  module _ (coherent : (shards : ℕ) (seen : Account) → length seen.gates ≤ 8
+      → ((home : ℕ) → IsGateLog home shards (gate_log seen home))
       → AreCoherent (begun_stamps seen))
-      → ((stamps others : List Stamp) → AreCoherent others → ((stamp : Stamp) → Contains stamps stamp → Contains others stamp)
-      → AreCoherent stamps)
-      → (shards : ℕ) (gates : List (List GateEntry)) (log : List OracleEntry) (events : List Stamp) → OracleIsKept shards gates log
-      → length gates ≤ 8 → ((event : Stamp) → Contains events event → IsBegunStamp (of_gates gates) event)
-      → AreCoherent (events ++ ends_of (pairs_of_log log))
-  known-coherent coherent part shards gates log events kept few begun =
-      part (events ++ ends_of (pairs_of_log log)) (begun_stamps (of_gates gates)) (coherent shards (of_gates gates) few kept.legal.gate_logs)
-      (λ event h. elim (Contains-append_cases events (ends_of (pairs_of_log log)) event h) [
-        | inl one ↦ begun event one
-        | inr known ↦ known-begun gates log kept.refers event known
-      ])
+      (part : (stamps others : List Stamp) → AreCoherent others
+      → ((stamp : Stamp) → Contains stamps stamp → Contains others stamp)
+      → AreCoherent stamps) where
+    -- with others that were begun they are coherent
+    pub known-coherent : (shards : ℕ) (gates : List (List GateEntry)) (log : List OracleEntry) (events : List Stamp)
+        → OracleIsKept shards gates log → length gates ≤ 8
+        → ((event : Stamp) → Contains events event → IsBegunStamp (of_gates gates) event)
+        → AreCoherent (events ++ ends_of (pairs_of_log log))
+    known-coherent shards gates log events kept few begun =
+        part (events ++ ends_of (pairs_of_log log)) (begun_stamps (of_gates gates)) (coherent shards (of_gates gates) few kept.legal.gate_logs)
+        (λ event h. elim (Contains-append_cases events (ends_of (pairs_of_log log)) event h) [
+          | inl one ↦ begun event one
+          | inr known ↦ known-begun gates log kept.refers event known
+        ])
 
 -- The log goes on
 
@@ -162,33 +152,57 @@ module _ (back : (entry : OracleEntry) → oracle_entry (settled_entry entry) �
 
 -- More is seen
 
--- with more of the gatekeepers' logs all is still seen
-pub notes-keep : ((seen next : Account) → GatesGoOn seen next → (deed : OracleDeed) → OracleRefersAs seen deed → OracleRefersAs next deed)
-    → (shards : ℕ) (gates more : List (List GateEntry)) (log : List OracleEntry) → OracleIsKept shards gates log
-    → GatesGoOn (of_gates gates) (of_gates more) → length more ≡ length gates → AreGateLogs shards more → OracleIsKept shards more log
-notes-keep stays shards gates more log kept on long legal = record {
-  refers = λ front entry rest at. stays (oracle_seen gates log) (oracle_seen more log) on entry.deed (kept.refers front entry rest at);
-  legal = record {
-    gate_logs = legal.rules;
-    hears = legal.hears;
-    store_log = kept.legal.store_log;
-    oracle_log = kept.legal.oracle_log;
-    shard_logs = subst (λ (n : ℕ). (shard : ℕ) → IsShardLog n (shard_log (oracle_seen gates log) shard)) (sym long) kept.legal.shard_logs;
-  };
-}
+-- gatekeepers' notes have met passes: they have seen more, what the passes have, which is legal if what both had seen was
+pub record GatesMet (shards : ℕ) (notes later : List (Note GateDeed))
+    (before after : List (List GateEntry)) : Type 0 where
+  pub names : map lock_noted later ≡ map lock_noted notes
+  pub notes_on : GatesGoOn (of_gates (gates_noted notes)) (of_gates (gates_noted later))
+  pub one : gates_noted later ≡ after
+  pub legal : (n : ℕ) → AreGateLogs n (gates_noted notes) → AreGateLogs n before → AreGateLogs n after
+  pub legal_before : AreGateLogs shards before
 
--- so it is after notes and passes have met
-pub meeting-keeps : ((seen next : Account) → GatesGoOn seen next → (deed : OracleDeed) → OracleRefersAs seen deed → OracleRefersAs next deed)
-    → (shards its : ℕ) (notes later : List (Note GateDeed)) (before after : List (List GateEntry)) (log : List OracleEntry)
-    → OracleIsKept shards (gates_noted notes) log → shards ≡ its → map lock_noted later ≡ map lock_noted notes
-    → GatesGoOn (of_gates (gates_noted notes)) (of_gates (gates_noted later)) → gates_noted later ≡ after
-    → ((n : ℕ) → AreGateLogs n (gates_noted notes) → AreGateLogs n before → AreGateLogs n after) → AreGateLogs its before
-    → OracleIsKept shards (gates_noted later) log
-meeting-keeps stays shards its notes later before after log kept same named on one legal mine =
-    let as_noted : Note GateDeed → List GateEntry = λ note. gate_entries (noted note) in
-    let many : length later ≡ length notes = sym (length-map later lock_noted) ∙ (ap (λ (l : List (List ℕ)). length l) named ∙ length-map notes lock_noted) in
-    let long : length (gates_noted later) ≡ length (gates_noted notes) = length-map later as_noted ∙ (many ∙ sym (length-map notes as_noted)) in
-    let theirs : AreGateLogs shards (gates_noted notes) = record { rules = kept.legal.gate_logs; hears = kept.legal.hears } in
-    notes-keep stays shards (gates_noted notes) (gates_noted later) log kept on long
-    (subst (λ (l : List (List GateEntry)). AreGateLogs shards l) (sym one)
-    (legal shards theirs (subst (λ (n : ℕ). AreGateLogs n before) (sym same) mine)))
+module _ (its : ℕ) (notes later : List (Note GateDeed)) (before after : List (List GateEntry))
+    (met : GatesMet its notes later before after) where
+  -- as many logs are noted as before
+  pub as-many-noted : length (gates_noted later) ≡ length (gates_noted notes)
+  as-many-noted =
+      let as_noted : Note GateDeed → List GateEntry = λ note. gate_entries (noted note) in
+      let many : length later ≡ length notes =
+      sym (length-map later lock_noted) ∙
+      (ap (λ (l : List (List ℕ)). length l) met.names ∙ length-map notes lock_noted) in
+      length-map later as_noted ∙ (many ∙ sym (length-map notes as_noted))
+
+  -- and they are legal if they were
+  pub legal-noted : (shards : ℕ) → shards ≡ its → AreGateLogs shards (gates_noted notes)
+      → AreGateLogs shards (gates_noted later)
+  legal-noted shards same theirs =
+      subst (λ (l : List (List GateEntry)). AreGateLogs shards l) (sym met.one)
+      (met.legal shards theirs (subst (λ (n : ℕ). AreGateLogs n before) (sym same) met.legal_before))
+
+module _ (stays : (seen next : Account) → GatesGoOn seen next → (deed : OracleDeed) → OracleRefersAs seen deed
+    → OracleRefersAs next deed) where
+  -- with more of the gatekeepers' logs all is still seen
+  pub notes-keep : (shards : ℕ) (gates more : List (List GateEntry)) (log : List OracleEntry)
+      → OracleIsKept shards gates log
+      → GatesGoOn (of_gates gates) (of_gates more) → length more ≡ length gates → AreGateLogs shards more → OracleIsKept shards more log
+  notes-keep shards gates more log kept on long legal = record {
+    refers = λ front entry rest at. stays (oracle_seen gates log) (oracle_seen more log) on entry.deed (kept.refers front entry rest at);
+    legal = record {
+      gate_logs = legal.rules;
+      hears = legal.hears;
+      store_log = kept.legal.store_log;
+      oracle_log = kept.legal.oracle_log;
+      shard_logs = subst (λ (n : ℕ). (shard : ℕ) → IsShardLog n (shard_log (oracle_seen gates log) shard)) (sym long) kept.legal.shard_logs;
+    };
+  }
+
+  -- so it is after notes and passes have met
+  pub meeting-keeps : (shards its : ℕ) (notes later : List (Note GateDeed)) (before after : List (List GateEntry))
+      (log : List OracleEntry)
+      → OracleIsKept shards (gates_noted notes) log → shards ≡ its → GatesMet its notes later before after
+      → OracleIsKept shards (gates_noted later) log
+  meeting-keeps shards its notes later before after log kept same met =
+      notes-keep shards (gates_noted notes) (gates_noted later) log kept met.notes_on
+      (as-many-noted its notes later before after met)
+      (legal-noted its notes later before after met shards same
+      (record { rules = kept.legal.gate_logs; hears = kept.legal.hears }))

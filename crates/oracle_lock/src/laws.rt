@@ -49,7 +49,7 @@ pub fn known_events_are_begun()
     parts_and_unions_are_coherent();
 }
 
-/// The oracle's log as its lock has it tells the entries.
+/// The oracle's entries come back from the pairs that its lock has.
 pub fn pairs_tell_entries()
     ensures { (log : List OracleEntry) → oracle_entries (oracle_pairs log) ≡ log }
 {}

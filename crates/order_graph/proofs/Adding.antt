@@ -1,4 +1,5 @@
 -- One more pair: which stamps then precede which, and what the chains have to hold.
+-- Used by `add` and `reserve`.
 use Rattle.std.proofs.Common.{◌≡◌, ◌≢◌, ℕ, ◌<◌, true, false, ◌||◌, List, [], ◌∷◌, ◌++◌, length, map, slice_index_or, slice_set, Option, Some, None, ◌⊎◌, inl, inr, sym, ap, subst, ◌∙◌, arith, Contains, IsTrue}
 use Rattle.std.proofs.lemmas.Bool.{cases_Bool, cases_lt, cases_eq, or_cases, or_left, or_right, both_ways, and_from, and_parts}
 use Rattle.std.proofs.lemmas.List.{get_or_past, get_or-map, length-map, get_or-set_same, get_or-set_other, length-set}
@@ -10,9 +11,9 @@ use Rattle.vector_stamp.specs.Coherence.{AreCoherent}
 use Rattle.vector_stamp.specs.Precedence.{Given, IsClosed, precedes}
 use Rattle.order_graph.specs.declared.chain.Event.{Event}
 use Rattle.order_graph.specs.Building.{ends_of, MayAdd}
-use Rattle.order_graph.specs.Frontiers.{at_or_before, latest_of, empty_frontier, joined, covers, IsFrontier, StampLaws}
-use Rattle.order_graph.specs.Chains.{ChainView, no_chain, events_of, IsRising, IsPut, IsLedOn, leads_to, joined_event, raised, raised_chain, AreChains}
-use Rattle.proof_base.proofs.Members.{has_none, has_read, has_head, has_tail, has_map, map_has}
+use Rattle.order_graph.specs.Frontiers.{at_or_before, latest_of, empty_frontier, joined, covers, IsFrontier, StampOrderLaws}
+use Rattle.order_graph.specs.Chains.{EventChainView, no_chain, events_of, IsRisingChain, IsPut, IsLedOn, leads_to, joined_event, raised, raised_chain, AreChains}
+use Rattle.weave_data.proofs.Members.{has_none, has_read, has_head, has_tail, has_map, map_has}
 use Rattle.order_graph.proofs.Stamps.{ends-append}
 use Rattle.order_graph.proofs.Orders.{AreApart, at_itself, at_from, at_cases, not_at}
 use Rattle.order_graph.proofs.Joining.{AreOwn, CoveredBy, covered, covers_at, length-joined, joined_reads, covered_left, covered_right}
@@ -28,7 +29,7 @@ abbrev pub AtTheEnd : Type 0
 AtTheEnd = (pairs : List Given) (pair : Given) (a b : Stamp) → precedes (pairs ++ pair ∷ []) a b ≡ precedes (pair ∷ pairs) a b
 
 -- what leads to an event
-module _ (laws : StampLaws) (pairs : List Given) (closed : IsClosed pairs (precedes pairs)) where
+module _ (laws : StampOrderLaws) (pairs : List Given) (closed : IsClosed pairs (precedes pairs)) where
   pub led_read : (event : Event) → IsFrontier pairs event.stamp event.frontier.latest → (stamp : Stamp) → IsTrue (leads_to stamp event) → Leads pairs stamp event.stamp
   led_read event exact stamp h =
       elim (or_cases (at_or_before stamp event.stamp) _ h) [
@@ -46,7 +47,7 @@ module _ (laws : StampLaws) (pairs : List Given) (closed : IsClosed pairs (prece
         | inr by ↦ or_right (at_or_before stamp event.stamp) _ by
       ]
 
-  pub chains_lead_on : (stamps : List Stamp) (chains : List ChainView) → AreChains pairs stamps chains → (stamp : Stamp) (gate : ℕ) → IsLedOn stamp (events_of chains gate)
+  pub chains_lead_on : (stamps : List Stamp) (chains : List EventChainView) → AreChains pairs stamps chains → (stamp : Stamp) (gate : ℕ) → IsLedOn stamp (events_of chains gate)
   chains_lead_on stamps chains are stamp gate i j d le below h =
       elim (cases_eq i j) [
         | inl same ↦ subst (λ k. IsTrue (leads_to stamp (slice_index_or (events_of chains gate) k d))) same h
@@ -82,10 +83,10 @@ alone_is stamp home gate latest is =
       | inr there ↦ absurd (none_there gate latest (sym (get_or-set_other empty_frontier stamp.home gate (Some stamp) None there) ∙ is))
     ]
 
-alone_covers : (laws : StampLaws) (event : Stamp) → event.home < 8 → (stamp : Stamp) → IsTrue (at_or_before stamp event) → IsTrue (covers (alone event) stamp)
+alone_covers : (laws : StampOrderLaws) (event : Stamp) → event.home < 8 → (stamp : Stamp) → IsTrue (at_or_before stamp event) → IsTrue (covers (alone event) stamp)
 alone_covers laws event home stamp h = covers_at (alone event) stamp event.home event (get_or-set_same empty_frontier event.home (Some event) None home) h
 
-pub with_itself : (laws : StampLaws) (apart : AreApart) (pairs : List Given) (event : Stamp) → AreCoherent (event ∷ ends_of pairs) → (frontier : List (Option Stamp)) → IsFrontier pairs event frontier → IsFrontierWith pairs event (joined frontier (alone event))
+pub with_itself : (laws : StampOrderLaws) (apart : AreApart) (pairs : List Given) (event : Stamp) → AreCoherent (event ∷ ends_of pairs) → (frontier : List (Option Stamp)) → IsFrontier pairs event frontier → IsFrontierWith pairs event (joined frontier (alone event))
 with_itself laws apart pairs event coherent frontier exact =
     record {
       eight = length-joined frontier (alone event) exact.eight (length-alone event);
@@ -117,7 +118,7 @@ with_itself laws apart pairs event coherent frontier exact =
         ]
 
 -- the pair of a and b
-module _ (laws : StampLaws) (apart : AreApart) (at_the_end : AtTheEnd) (pairs : List Given) (closed : IsClosed pairs (precedes pairs)) (a b : Stamp) (may : MayAdd pairs a b) where
+module _ (laws : StampOrderLaws) (apart : AreApart) (at_the_end : AtTheEnd) (pairs : List Given) (closed : IsClosed pairs (precedes pairs)) (a b : Stamp) (may : MayAdd pairs a b) where
   abbrev more : List Given
   more = pairs ++ (a, b) ∷ []
 
@@ -161,7 +162,7 @@ module _ (laws : StampLaws) (apart : AreApart) (at_the_end : AtTheEnd) (pairs : 
   no_way_back (inr h) = may.permitted h
 
   -- its place in its chain is sure
-  pub is_in_turn : (chains : List ChainView) → AreChains pairs (ends_of pairs) chains → (other : Event) → Contains (events_of chains b.home) other → IsTrue (at_or_before other.stamp b || stamp_before b other.stamp)
+  pub is_in_turn : (chains : List EventChainView) → AreChains pairs (ends_of pairs) chains → (other : Event) → Contains (events_of chains b.home) other → IsTrue (at_or_before other.stamp b || stamp_before b other.stamp)
   is_in_turn chains are other has =
       elim (cases_Bool (at_or_before other.stamp b)) [
         | inl at ↦ or_left _ _ at
@@ -169,11 +170,11 @@ module _ (laws : StampLaws) (apart : AreApart) (at_the_end : AtTheEnd) (pairs : 
       ]
 
   -- with the later event in its chain
-  pub put_keeps : (chains next : List ChainView) (event : Event) → event.stamp ≡ b → AreChains pairs (ends_of pairs) chains → IsFrontier pairs b event.frontier.latest → length next ≡ length chains → IsPut (events_of chains b.home) event (events_of next b.home) → ((gate : ℕ) → gate ≢ b.home → events_of next gate ≡ events_of chains gate) → AreChains pairs (b ∷ ends_of pairs) next
+  pub put_keeps : (chains next : List EventChainView) (event : Event) → event.stamp ≡ b → AreChains pairs (ends_of pairs) chains → IsFrontier pairs b event.frontier.latest → length next ≡ length chains → IsPut (events_of chains b.home) event (events_of next b.home) → ((gate : ℕ) → gate ≢ b.home → events_of next gate ≡ events_of chains gate) → AreChains pairs (b ∷ ends_of pairs) next
   put_keeps chains next event is_b are exact long put others =
       record {
         eight = long ∙ are.eight;
-        rising = λ gate. at_gate gate IsRising put.rising (are.rising gate);
+        rising = λ gate. at_gate gate IsRisingChain put.rising (are.rising gate);
         homes = λ gate other has. elim (of_next gate other has) [ inl old ↦ are.homes gate other old | inr new ↦ subst (λ (e : Event). e.stamp.home ≡ gate) (sym new.1) (subst (λ (s : Stamp). s.home ≡ gate) (sym is_b) (sym new.0)) ];
         known = λ gate other has. elim (of_next gate other has) [ inl old ↦ has_tail b (ends_of pairs) other.stamp (are.known gate other old) | inr new ↦ subst (λ (e : Event). Contains (b ∷ ends_of pairs) e.stamp) (sym new.1) (subst (Contains (b ∷ ends_of pairs)) (sym is_b) (has_head b (ends_of pairs))) ];
         exact = λ gate other has. elim (of_next gate other has) [ inl old ↦ are.exact gate other old | inr new ↦ subst (λ (e : Event). IsFrontier pairs e.stamp e.frontier.latest) (sym new.1) (subst (λ (s : Stamp). IsFrontier pairs s event.frontier.latest) (sym is_b) exact) ];
@@ -287,17 +288,17 @@ module _ (laws : StampLaws) (apart : AreApart) (at_the_end : AtTheEnd) (pairs : 
           as_it_is : up event ≡ event → IsFrontier more event.stamp event.frontier.latest → ((up event).stamp ≡ event.stamp) × IsFrontier more event.stamp (up event).frontier.latest
           as_it_is is h = (ap (λ (e : Event). e.stamp) is, subst (λ (e : Event). IsFrontier more event.stamp e.frontier.latest) (sym is) h)
 
-    module _ (chains : List ChainView) (are : AreChains pairs (b ∷ ends_of pairs) chains) where
-      abbrev raised_chains : List ChainView
+    module _ (chains : List EventChainView) (are : AreChains pairs (b ∷ ends_of pairs) chains) where
+      abbrev raised_chains : List EventChainView
       raised_chains = map (raised_chain a b frontier) chains
 
       events_raised : (gate : ℕ) → events_of raised_chains gate ≡ map up (events_of chains gate)
       events_raised gate =
           elim (cases_lt gate (length chains)) [
-            | inl below ↦ ap (λ (c : ChainView). c.events) (get_or-map (raised_chain a b frontier) chains gate no_chain no_chain below)
+            | inl below ↦ ap (λ (c : EventChainView). c.events) (get_or-map (raised_chain a b frontier) chains gate no_chain no_chain below)
             | inr past ↦
-                ap (λ (c : ChainView). c.events) (get_or_past raised_chains gate no_chain (omega (arith, length-map chains (raised_chain a b frontier))))
-                ∙ ap (λ (c : ChainView). map up c.events) (sym (get_or_past chains gate no_chain past))
+                ap (λ (c : EventChainView). c.events) (get_or_past raised_chains gate no_chain (omega (arith, length-map chains (raised_chain a b frontier))))
+                ∙ ap (λ (c : EventChainView). map up c.events) (sym (get_or_past chains gate no_chain past))
           ]
 
       of_raised : (gate : ℕ) (other : Event) → Contains (events_of raised_chains gate) other → (event : Event) × Contains (events_of chains gate) event × (up event ≡ other)
@@ -348,11 +349,11 @@ module _ (laws : StampLaws) (apart : AreApart) (at_the_end : AtTheEnd) (pairs : 
           still_found later (gate, event, has, is) = (gate, up event, has_raised gate event has, stamp_stays gate event has ∙ is)
 
 -- chains with the same events
-pub same_chains : (pairs : List Given) (known : List Stamp) (chains next : List ChainView) → length next ≡ length chains → ((gate : ℕ) → events_of next gate ≡ events_of chains gate) → AreChains pairs known chains → AreChains pairs known next
+pub same_chains : (pairs : List Given) (known : List Stamp) (chains next : List EventChainView) → length next ≡ length chains → ((gate : ℕ) → events_of next gate ≡ events_of chains gate) → AreChains pairs known chains → AreChains pairs known next
 same_chains pairs known chains next long same are =
     record {
       eight = long ∙ are.eight;
-      rising = λ gate. subst IsRising (sym (same gate)) (are.rising gate);
+      rising = λ gate. subst IsRisingChain (sym (same gate)) (are.rising gate);
       homes = λ gate event has. are.homes gate event (old gate event has);
       known = λ gate event has. are.known gate event (old gate event has);
       exact = λ gate event has. are.exact gate event (old gate event has);
@@ -365,11 +366,11 @@ same_chains pairs known chains next long same are =
     old gate event has = subst (λ (es : List Event). Contains es event) (same gate) has
 
 -- chains without events
-pub no_events : (pairs : List Given) → pairs ≡ [] → (stamps : List Stamp) (chains : List ChainView) → length chains ≡ 8 → ((gate : ℕ) → events_of chains gate ≡ []) → AreChains pairs stamps chains
+pub no_events : (pairs : List Given) → pairs ≡ [] → (stamps : List Stamp) (chains : List EventChainView) → length chains ≡ 8 → ((gate : ℕ) → events_of chains gate ≡ []) → AreChains pairs stamps chains
 no_events pairs none stamps chains eight empty =
     record {
       eight = eight;
-      rising = λ gate. subst IsRising (sym (empty gate)) (λ i j d less below. absurd (omega (arith, below)));
+      rising = λ gate. subst IsRisingChain (sym (empty gate)) (λ i j d less below. absurd (omega (arith, below)));
       homes = λ gate event has. absurd (nothing gate event has);
       known = λ gate event has. absurd (nothing gate event has);
       exact = λ gate event has. absurd (nothing gate event has);

@@ -1,4 +1,5 @@
 -- What adding builds has no cycle.
+-- Used by `no_cycle_is_built`.
 use Rattle.std.proofs.Common.{◌≡◌, List, [], ◌∷◌, ◌++◌, ap}
 use Rattle.vector_stamp.specs.declared.clock.Stamp.{Stamp}
 use Rattle.vector_stamp.specs.Order.{id_of}

@@ -1,4 +1,5 @@
 -- A chain whose stamps rise: what is at or before a stamp are its first events.
+-- Used by `first_led`, `latest`, `number_until` and `put`.
 use Rattle.std.proofs.Common.{◌≡◌, ℕ, ◌+◌, ◌-◌, ◌<◌, ◌≤◌, true, false, not, ◌||◌, List, length, get_or, Contains, IsTrue, ◌⊎◌, inl, inr, refl, sym, subst, ◌∙◌, arith, slice_index_or, Some, None}
 use Rattle.std.specs.List.{insert}
 use Rattle.std.specs.List.Sorted.{IsPartitionedBy, IsPartitionPoint}
@@ -9,23 +10,23 @@ use Rattle.std.proofs.lemmas.List.Edits.{length-insert, get_or-insert_below, get
 use Rattle.vector_stamp.specs.declared.clock.Stamp.{Stamp}
 use Rattle.vector_stamp.specs.Order.{stamp_before}
 use Rattle.order_graph.specs.declared.chain.Event.{Event}
-use Rattle.order_graph.specs.Frontiers.{at_or_before, StampLaws}
-use Rattle.order_graph.specs.Chains.{IsRising, IsLatestAt, IsLedOn, IsPut, leads_to}
+use Rattle.order_graph.specs.Frontiers.{at_or_before, StampOrderLaws}
+use Rattle.order_graph.specs.Chains.{IsRisingChain, IsLatestAt, IsLedOn, IsPut, leads_to}
 use Rattle.order_graph.proofs.Orders.{at_itself, at_from, at_cases, then_at, at-trans}
 
 -- what a search for a place answers
 abbrev pub IsUntil : List Event → Stamp → ℕ → Type 0
 IsUntil events stamp number = IsPartitionPoint (λ (event : Event). at_or_before event.stamp stamp ≡ true) (λ (event : Event). at_or_before event.stamp stamp ≡ false) events number
 
-module _ (laws : StampLaws) where
-  rising_at : (events : List Event) → IsRising events → (i j : ℕ) (d : Event) → i ≤ j → j < length events → IsTrue (at_or_before (slice_index_or events i d).stamp (slice_index_or events j d).stamp)
+module _ (laws : StampOrderLaws) where
+  rising_at : (events : List Event) → IsRisingChain events → (i j : ℕ) (d : Event) → i ≤ j → j < length events → IsTrue (at_or_before (slice_index_or events i d).stamp (slice_index_or events j d).stamp)
   rising_at events rising i j d le within =
       elim (cases_eq i j) [
         | inl same ↦ subst (λ k. IsTrue (at_or_before (slice_index_or events i d).stamp (slice_index_or events k d).stamp)) same (at_itself laws (slice_index_or events i d).stamp)
         | inr other ↦ at_from laws (slice_index_or events i d).stamp (slice_index_or events j d).stamp (rising i j d (omega (arith, other)) within)
       ]
 
-  pub first_are_before : (events : List Event) → IsRising events → (stamp : Stamp) → IsPartitionedBy (λ (event : Event). at_or_before event.stamp stamp) events
+  pub first_are_before : (events : List Event) → IsRisingChain events → (stamp : Stamp) → IsPartitionedBy (λ (event : Event). at_or_before event.stamp stamp) events
   first_are_before events rising stamp i j d le within h =
       at-trans laws (slice_index_or events i d).stamp (slice_index_or events j d).stamp stamp (rising_at events rising i j d le within) h
 
@@ -33,7 +34,7 @@ module _ (laws : StampLaws) where
   latest_none events stamp number until none event (k, within, here) h =
       both_ways _ (subst (λ (x : Event). at_or_before x.stamp stamp ≡ false) here (until.1 k event (omega arith) within)) h
 
-  pub latest_some : (events : List Event) → IsRising events → (stamp : Stamp) (number : ℕ) (latest d : Event) → IsUntil events stamp number → 0 < number → number ≤ length events → latest ≡ slice_index_or events (number - 1) d → IsLatestAt events stamp (Some latest)
+  pub latest_some : (events : List Event) → IsRisingChain events → (stamp : Stamp) (number : ℕ) (latest d : Event) → IsUntil events stamp number → 0 < number → number ≤ length events → latest ≡ slice_index_or events (number - 1) d → IsLatestAt events stamp (Some latest)
   latest_some events rising stamp number latest d until some within is =
       let below : number - 1 < length events = omega arith in (
         subst (Contains events) (sym is) (Contains-get_or events (number - 1) d below),
@@ -47,7 +48,7 @@ module _ (laws : StampLaws) where
       )
 
   -- an event put into its place
-  module _ (events : List Event) (rising : IsRising events) (event : Event) where
+  module _ (events : List Event) (rising : IsRisingChain events) (event : Event) where
     pub put_there : (latest : Event) → Contains events latest → latest.stamp ≡ event.stamp → IsPut events event events
     put_there latest has same =
         record { stay = λ other h. h; no_others = λ other h. inl h; there = (latest, has, same); rising = rising }
@@ -78,7 +79,7 @@ module _ (laws : StampLaws) where
           let same : (k - 1) + 1 ≡ k = omega arith in
           subst (λ m. get_or (insert events number event) m d ≡ get_or events (k - 1) d) same (get_or-insert_above events number event d (k - 1) (omega arith) within)
 
-      inserted_rise : IsRising (insert events number event)
+      inserted_rise : IsRisingChain (insert events number event)
       inserted_rise i j d less below =
           let long = length-insert events number event within in
           elim (cases_lt i number) [
@@ -127,7 +128,7 @@ module _ (laws : StampLaws) where
             rising = inserted_rise;
           }
 
--- along a chain where a stamp leads on, it leads to none of the first events
+-- a stamp with `IsLedOn` leads to none of the events before some place of a chain, and to all from there on
 pub first_are_not_led : (events : List Event) (stamp : Stamp) → IsLedOn stamp events → IsPartitionedBy (λ (event : Event). not (leads_to stamp event)) events
 first_are_not_led events stamp led i j d le within fails =
     elim (cases_Bool (leads_to stamp (slice_index_or events i d))) [

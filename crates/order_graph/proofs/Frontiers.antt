@@ -1,4 +1,5 @@
 -- A frontier of an event, over the chains.
+-- Used by `frontier_of`, `precedes` and Adding.
 use Rattle.std.proofs.Common.{◌≡◌, ℕ, ◌+◌, ◌<◌, ◌≤◌, ◌||◌, List, [], ◌∷◌, length, take, slice_index_or, Option, Some, None, ◌⊎◌, inl, inr, refl, sym, subst, ◌∙◌, Contains, IsTrue}
 use Rattle.std.proofs.lemmas.Bool.{cases_lt, or_cases, or_left, or_right}
 use Rattle.std.proofs.lemmas.List.{take_more, take_all, get_or_past, get_or-replicate}
@@ -10,13 +11,13 @@ use Rattle.vector_stamp.specs.Coherence.{AreCoherent}
 use Rattle.vector_stamp.specs.Precedence.{Given, Precedes, ByStamps, ByPair, Through, IsClosed, precedes}
 use Rattle.order_graph.specs.declared.chain.Event.{Event}
 use Rattle.order_graph.specs.Building.{ends_of}
-use Rattle.order_graph.specs.Frontiers.{at_or_before, latest_of, empty_frontier, joined, covers, IsFrontier, StampLaws}
-use Rattle.order_graph.specs.Chains.{ChainView, no_chain, events_of, IsLatestAt, AreChains}
-use Rattle.proof_base.proofs.Members.{has_none, has_tail}
+use Rattle.order_graph.specs.Frontiers.{at_or_before, latest_of, empty_frontier, joined, covers, IsFrontier, StampOrderLaws}
+use Rattle.order_graph.specs.Chains.{EventChainView, no_chain, events_of, IsLatestAt, AreChains}
+use Rattle.weave_data.proofs.Members.{has_none, has_tail}
 use Rattle.order_graph.proofs.Orders.{AreApart, at_itself, at_from, at_cases, at_then, then_at}
 use Rattle.order_graph.proofs.Joining.{AreOwn, length-joined, joined_reads, covered_left, covered_right}
 
-module _ (laws : StampLaws) (pairs : List Given) (closed : IsClosed pairs (precedes pairs)) where
+module _ (laws : StampOrderLaws) (pairs : List Given) (closed : IsClosed pairs (precedes pairs)) where
   pub precedes_at : (a b c : Stamp) → IsTrue (precedes pairs a b) → IsTrue (at_or_before b c) → IsTrue (precedes pairs a c)
   precedes_at a b c g h =
       elim (at_cases laws b c h) [
@@ -48,12 +49,12 @@ module _ (laws : StampLaws) (pairs : List Given) (closed : IsClosed pairs (prece
       ]
 
 -- what the frontier of an event covers, over some of the chains
-pub record IsFrontierOver (pairs : List Given) (event : Stamp) (seen : List ChainView) (frontier : List (Option Stamp)) : Type 0 where
+pub record IsFrontierOver (pairs : List Given) (event : Stamp) (seen : List EventChainView) (frontier : List (Option Stamp)) : Type 0 where
   pub eight : length frontier ≡ 8
   pub precede : (gate : ℕ) (latest : Stamp) → latest_of frontier gate ≡ Some latest → (latest.home ≡ gate) × Contains (ends_of pairs) latest × IsTrue (precedes pairs latest event)
-  pub all : (chain : ChainView) → Contains seen chain → (other : Event) → Contains chain.events other → IsTrue (at_or_before other.stamp event) → (stamp : Stamp) → IsTrue (precedes pairs stamp other.stamp) → IsTrue (stamp_before stamp event || covers frontier stamp)
+  pub all : (chain : EventChainView) → Contains seen chain → (other : Event) → Contains chain.events other → IsTrue (at_or_before other.stamp event) → (stamp : Stamp) → IsTrue (precedes pairs stamp other.stamp) → IsTrue (stamp_before stamp event || covers frontier stamp)
 
--- a frontier joined with that of an event, where there is one
+-- a frontier joined with that of an event, if there is one
 abbrev pub IsJoinedWith : List (Option Stamp) → Option Event → List (Option Stamp) → Type 0
 IsJoinedWith frontier None next = next ≡ frontier
 IsJoinedWith frontier (Some latest) next = next ≡ joined frontier latest.frontier.latest
@@ -73,15 +74,15 @@ over_none pairs event =
       all = λ chain has. absurd (has_none chain has);
     }
 
-module _ (laws : StampLaws) (apart : AreApart) (pairs : List Given) (closed : IsClosed pairs (precedes pairs)) (chains : List ChainView) (are : AreChains pairs (ends_of pairs) chains) (event : Stamp) (coherent : AreCoherent (event ∷ ends_of pairs)) where
+module _ (laws : StampOrderLaws) (apart : AreApart) (pairs : List Given) (closed : IsClosed pairs (precedes pairs)) (chains : List EventChainView) (are : AreChains pairs (ends_of pairs) chains) (event : Stamp) (coherent : AreCoherent (event ∷ ends_of pairs)) where
   over_more_none : (i : ℕ) (frontier : List (Option Stamp)) → i < length chains → IsFrontierOver pairs event (take i chains) frontier → IsLatestAt (events_of chains i) event None → IsFrontierOver pairs event (take (i + 1) chains) frontier
   over_more_none i frontier below over none =
       record {
         eight = over.eight;
         precede = over.precede;
-        all = λ chain has other in_chain at stamp before. elim (Contains-push_cases (take i chains) (slice_index_or chains i no_chain) chain (subst (λ (cs : List ChainView). Contains cs chain) (take_more chains i no_chain below) has)) [
+        all = λ chain has other in_chain at stamp before. elim (Contains-push_cases (take i chains) (slice_index_or chains i no_chain) chain (subst (λ (cs : List EventChainView). Contains cs chain) (take_more chains i no_chain below) has)) [
           | inl seen ↦ over.all chain seen other in_chain at stamp before
-          | inr here ↦ absurd (none other (subst (λ (c : ChainView). Contains c.events other) (sym here) in_chain) at)
+          | inr here ↦ absurd (none other (subst (λ (c : EventChainView). Contains c.events other) (sym here) in_chain) at)
         ];
       }
 
@@ -110,12 +111,12 @@ module _ (laws : StampLaws) (apart : AreApart) (pairs : List Given) (closed : Is
             | inl old ↦ over.precede gate stamp old
             | inr new ↦ let h = of_latest.precede gate stamp new in (h.0, h.1, precedes_at laws pairs closed stamp latest.stamp event h.2 is_latest.1)
           ];
-          all = λ chain has other in_chain at stamp before. elim (Contains-push_cases (take i chains) (slice_index_or chains i no_chain) chain (subst (λ (cs : List ChainView). Contains cs chain) (take_more chains i no_chain below) has)) [
+          all = λ chain has other in_chain at stamp before. elim (Contains-push_cases (take i chains) (slice_index_or chains i no_chain) chain (subst (λ (cs : List EventChainView). Contains cs chain) (take_more chains i no_chain below) has)) [
             | inl seen ↦ elim (or_cases (stamp_before stamp event) _ (over.all chain seen other in_chain at stamp before)) [
               | inl first ↦ or_left (stamp_before stamp event) _ first
               | inr by ↦ or_right (stamp_before stamp event) _ (covered_left laws apart (event ∷ ends_of pairs) coherent frontier latest.frontier.latest over.eight of_latest.eight stamp by)
             ]
-            | inr here ↦ from_latest stamp (precedes_at laws pairs closed stamp other.stamp latest.stamp before (is_latest.2 other (subst (λ (c : ChainView). Contains c.events other) (sym here) in_chain) at))
+            | inr here ↦ from_latest stamp (precedes_at laws pairs closed stamp other.stamp latest.stamp before (is_latest.2 other (subst (λ (c : EventChainView). Contains c.events other) (sym here) in_chain) at))
           ];
         }
 
@@ -127,7 +128,7 @@ module _ (laws : StampLaws) (apart : AreApart) (pairs : List Given) (closed : Is
   in_chains gate other has =
       elim (cases_lt gate (length chains)) [
         | inl below ↦ Contains-get_or chains gate no_chain below
-        | inr past ↦ absurd (has_none other (subst (λ (c : ChainView). Contains c.events other) (get_or_past chains gate no_chain past) has))
+        | inr past ↦ absurd (has_none other (subst (λ (c : EventChainView). Contains c.events other) (get_or_past chains gate no_chain past) has))
       ]
 
   pub over_all : ((a b : Stamp) → Precedes pairs a b → IsTrue (precedes pairs a b)) → ((a b : Stamp) → IsTrue (precedes pairs a b) → Precedes pairs a b) → (n : ℕ) (frontier : List (Option Stamp)) → length chains ≤ n → IsFrontierOver pairs event (take n chains) frontier → IsFrontier pairs event frontier
@@ -140,7 +141,7 @@ module _ (laws : StampLaws) (apart : AreApart) (pairs : List Given) (closed : Is
           | inr last ↦
               let found = are.found last.0 last.1 last.2 in
               let same : found.1.stamp ≡ last.1 = found.3 in
-              over.all (slice_index_or chains found.0 no_chain) (subst (λ (cs : List ChainView). Contains cs (slice_index_or chains found.0 no_chain)) (sym (take_all n chains all)) (in_chains found.0 found.1 found.2)) found.1 found.2
+              over.all (slice_index_or chains found.0 no_chain) (subst (λ (cs : List EventChainView). Contains cs (slice_index_or chains found.0 no_chain)) (sym (take_all n chains all)) (in_chains found.0 found.1 found.2)) found.1 found.2
               (subst (λ x. IsTrue (at_or_before x event)) (sym same) last.4) stamp (subst (λ x. IsTrue (precedes pairs stamp x)) (sym same) last.3)
         ];
       }

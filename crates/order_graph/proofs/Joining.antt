@@ -1,4 +1,5 @@
 -- Frontiers joined, gatekeeper by gatekeeper.
+-- Used by `join`, `precedes`, Adding and Frontiers.
 use Rattle.std.proofs.Common.{◌≡◌, ℕ, zero, suc, ◌+◌, ◌<◌, ◌≤◌, false, List, [], ◌∷◌, length, slice_set, Option, Some, None, ◌⊎◌, inl, inr, refl, sym, ap, subst, ◌∙◌, arith, Contains, IsTrue}
 use Rattle.std.specs.List.{zip}
 use Rattle.std.proofs.lemmas.Bool.{cases_Bool, cases_lt, cases_eq, or_cases, or_left, or_right, both_ways, cond-true, cond-false}
@@ -8,7 +9,7 @@ use Rattle.std.proofs.lemmas.Slice.Zip.{length-zip, get_or-zip}
 use Rattle.vector_stamp.specs.declared.clock.Stamp.{Stamp}
 use Rattle.vector_stamp.specs.Order.{stamp_before}
 use Rattle.vector_stamp.specs.Coherence.{AreCoherent}
-use Rattle.order_graph.specs.Frontiers.{at_or_before, later_of, latest_of, joined, reaches, covers, StampLaws}
+use Rattle.order_graph.specs.Frontiers.{at_or_before, later_of, latest_of, joined, reaches, covers, StampOrderLaws}
 use Rattle.order_graph.proofs.Orders.{AreApart, at_from, at-trans, not_at}
 
 -- each event is of its gatekeeper, and one of these stamps
@@ -87,7 +88,7 @@ later_is (Some a) (Some b) stamp is =
 abbrev pub Reached : Option Stamp → Stamp → Type 0
 Reached latest stamp = (other : Stamp) × (latest ≡ Some other) × IsTrue (at_or_before stamp other)
 
-module _ (laws : StampLaws) where
+module _ (laws : StampOrderLaws) where
   later_left : (a b : Option Stamp) (stamp latest : Stamp) → a ≡ Some latest → IsTrue (at_or_before stamp latest) → Reached (later_of a b) stamp
   later_left a None stamp latest is h = (latest, is, h)
   later_left None (Some b) stamp latest is h = absurd (none-some latest is)

@@ -1,16 +1,17 @@
 -- The order of stamps, with equal ones.
+-- Used by Adding, Chains, Frontiers and Joining.
 use Rattle.std.proofs.Common.{◌≡◌, Bool, true, false, not, ◌&&◌, ◌||◌, ◌==◌, List, Contains, IsTrue, ◌⊎◌, inl, inr, sym, subst}
 use Rattle.std.proofs.lemmas.Bool.{or_cases, or_left, or_right, both_ways, eq-eqb}
 use Rattle.vector_stamp.specs.declared.clock.Stamp.{Stamp}
 use Rattle.vector_stamp.specs.Order.{stamp_before, same_stamp, id_before, are_apart}
 use Rattle.vector_stamp.specs.Coherence.{AreCoherent}
-use Rattle.order_graph.specs.Frontiers.{at_or_before, StampLaws}
+use Rattle.order_graph.specs.Frontiers.{at_or_before, StampOrderLaws}
 
 -- two different stamps of coherent ones are apart
 abbrev pub AreApart : Type 0
 AreApart = (stamps : List Stamp) (a b : Stamp) → AreCoherent stamps → Contains stamps a → Contains stamps b → (a ≡ b → ⊥) → IsTrue (are_apart a b)
 
-module _ (laws : StampLaws) where
+module _ (laws : StampOrderLaws) where
   pub at_itself : (a : Stamp) → IsTrue (at_or_before a a)
   at_itself a = or_left _ _ (laws.same_itself a)
 

@@ -1,4 +1,5 @@
 -- A chain raised: its first events and its last ones stay.
+-- Used by `add`, `raise_all`, `raise_events` and Adding.
 use Rattle.std.proofs.Common.{◌≡◌, ℕ, ◌+◌, ◌-◌, ◌<◌, ◌≤◌, true, false, not, ◌&&◌, List, [], ◌∷◌, ◌++◌, length, map, take, drop, slice_index_or, Option, inl, inr, refl, sym, ap, ◌∙◌, arith}
 use Rattle.std.specs.List.{All}
 use Rattle.std.proofs.lemmas.Bool.{cases_lt, and_from, and_left, and_right, not_from_true, not_from_false, cond-true, cond-false}
@@ -6,7 +7,7 @@ use Rattle.std.proofs.lemmas.List.{take-append-drop, map-append, get_or-take, ge
 use Rattle.std.proofs.lemmas.List.Elements.{All-head, All-tail}
 use Rattle.vector_stamp.specs.declared.clock.Stamp.{Stamp}
 use Rattle.order_graph.specs.declared.chain.Event.{Event}
-use Rattle.order_graph.specs.Chains.{ChainView, no_chain, room_of, leads_to, joined_event, raised, raised_chain}
+use Rattle.order_graph.specs.Chains.{EventChainView, no_chain, room_of, leads_to, joined_event, raised, raised_chain}
 
 map_same : {X : Type 0} (f : X → X) (xs : List X) → All (λ x. f x ≡ x) xs → map f xs ≡ xs
 map_same f [] same = refl
@@ -48,9 +49,9 @@ module _ (earlier later : Stamp) (latest : List (Option Stamp)) where
       same = omega arith
 
   -- the same of chains
-  pub chain_so_far : (chains now : List ChainView) (n : ℕ) → n < length chains → now ≡ map (raised_chain earlier later latest) (take n chains) ++ drop n chains → (chain : ChainView) → slice_index_or now n chain ≡ slice_index_or chains n no_chain
+  pub chain_so_far : (chains now : List EventChainView) (n : ℕ) → n < length chains → now ≡ map (raised_chain earlier later latest) (take n chains) ++ drop n chains → (chain : EventChainView) → slice_index_or now n chain ≡ slice_index_or chains n no_chain
   chain_so_far chains now n below is chain =
-      ap (λ (cs : List ChainView). slice_index_or cs n chain) is
+      ap (λ (cs : List EventChainView). slice_index_or cs n chain) is
       ∙ get_or-append_right (map (raised_chain earlier later latest) (take n chains)) (drop n chains) n n chain (length-map (take n chains) (raised_chain earlier later latest) ∙ length-take-le n chains (omega arith)) (omega arith)
       ∙ get_or-drop n chains (n - n) chain
       ∙ ap (λ k. slice_index_or chains k chain) same
@@ -60,11 +61,11 @@ module _ (earlier later : Stamp) (latest : List (Option Stamp)) where
       same = omega arith
 
   -- the memory stays
-  pub room_raised : (chains next : List ChainView) → next ≡ map (raised_chain earlier later latest) chains → (gate : ℕ) → room_of next gate ≡ room_of chains gate
+  pub room_raised : (chains next : List EventChainView) → next ≡ map (raised_chain earlier later latest) chains → (gate : ℕ) → room_of next gate ≡ room_of chains gate
   room_raised chains next is gate =
-      ap (λ (cs : List ChainView). room_of cs gate) is
+      ap (λ (cs : List EventChainView). room_of cs gate) is
       ∙ elim (cases_lt gate (length chains)) [
-        | inl below ↦ ap (λ (c : ChainView). c.room) (get_or-map (raised_chain earlier later latest) chains gate no_chain no_chain below)
+        | inl below ↦ ap (λ (c : EventChainView). c.room) (get_or-map (raised_chain earlier later latest) chains gate no_chain no_chain below)
         | inr past ↦
-            ap (λ (c : ChainView). c.room) (get_or_past (map (raised_chain earlier later latest) chains) gate no_chain (omega (arith, length-map chains (raised_chain earlier later latest))) ∙ sym (get_or_past chains gate no_chain past))
+            ap (λ (c : EventChainView). c.room) (get_or_past (map (raised_chain earlier later latest) chains) gate no_chain (omega (arith, length-map chains (raised_chain earlier later latest))) ∙ sym (get_or_past chains gate no_chain past))
       ]

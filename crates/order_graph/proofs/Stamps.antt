@@ -1,11 +1,12 @@
 -- The stamps of pairs.
+-- Used by `add`, `ends_are_of_pairs`, Adding and crates machine_rows and order_witness.
 use Rattle.std.proofs.Common.{◌≡◌, List, [], ◌∷◌, ◌++◌, Contains, ◌⊎◌, inl, inr, refl, ap, subst}
 use Rattle.std.proofs.lemmas.List.Elements.{Contains-append_cases}
 use Rattle.vector_stamp.specs.declared.clock.Stamp.{Stamp}
 use Rattle.vector_stamp.specs.Coherence.{AreCoherent}
 use Rattle.vector_stamp.specs.Precedence.{Given, JoinsEvents}
 use Rattle.order_graph.specs.Building.{ends_of}
-use Rattle.proof_base.proofs.Members.{has_read, has_head, has_tail, has_none}
+use Rattle.weave_data.proofs.Members.{has_read, has_head, has_tail, has_none}
 
 -- a part of coherent stamps is coherent
 abbrev pub PartsAreCoherent : Type 0
@@ -40,7 +41,7 @@ ends_read (pair ∷ pairs) stamp h =
       ]
     ]
 
--- two stamps and those of the pairs, where all are among others
+-- two stamps and those of the pairs, if all are among others
 pub two_and_ends : PartsAreCoherent → (a b : Stamp) (pairs : List Given) (others : List Stamp) → AreCoherent others → Contains others a → Contains others b → ((stamp : Stamp) → Contains (ends_of pairs) stamp → Contains others stamp) → AreCoherent (a ∷ b ∷ ends_of pairs)
 two_and_ends part a b pairs others all in_a in_b among =
     part (a ∷ b ∷ ends_of pairs) others all there
@@ -55,7 +56,7 @@ two_and_ends part a b pairs others all in_a in_b among =
           ]
         ]
 
--- so it stays with a pair of such stamps
+-- this still holds with a pair of such stamps
 pub ends_among-push : (a b : Stamp) (pairs : List Given) (others : List Stamp) → Contains others a → Contains others b → ((stamp : Stamp) → Contains (ends_of pairs) stamp → Contains others stamp) → (stamp : Stamp) → Contains (ends_of (pairs ++ (a, b) ∷ [])) stamp → Contains others stamp
 ends_among-push a b pairs others in_a in_b among stamp h =
     elim (Contains-append_cases (ends_of pairs) (a ∷ b ∷ []) stamp (subst (λ (stamps : List Stamp). Contains stamps stamp) (ends-append pairs ((a, b) ∷ [])) h)) [

@@ -7,31 +7,33 @@ use Rattle.order_graph.specs.declared.chain.Event.{Event}
 use Rattle.order_graph.specs.Frontiers.{at_or_before, covers, joined, IsFrontier}
 
 -- the events of one gatekeeper, and for how many more there is memory
-pub record ChainView : Type 0 where
+pub record EventChainView : Type 0 where
   pub events : List Event
   pub room : ℕ
 
 -- a chain without events
-abbrev pub no_chain : ChainView
+abbrev pub no_chain : EventChainView
 no_chain = record { events = []; room = 0 }
 
 -- the events of a gatekeeper
-abbrev pub events_of : List ChainView → ℕ → List Event
+abbrev pub events_of : List EventChainView → ℕ → List Event
 events_of chains gate = (slice_index_or chains gate no_chain).events
 
 -- the stamps of a chain rise
-abbrev pub IsRising : List Event → Type 0
-IsRising events = (i j : ℕ) (d : Event) → i < j → j < length events → IsTrue (stamp_before (slice_index_or events i d).stamp (slice_index_or events j d).stamp)
+abbrev pub IsRisingChain : List Event → Type 0
+IsRisingChain events = (i j : ℕ) (d : Event) → i < j → j < length events
+    → IsTrue (stamp_before (slice_index_or events i d).stamp (slice_index_or events j d).stamp)
 
--- the latest event of a chain that is at or before a stamp, where there is one
+-- the latest event of a chain that is at or before a stamp, if there is one
 abbrev pub IsLatestAt : List Event → Stamp → Option Event → Type 0
 IsLatestAt events stamp None = (event : Event) → Contains events event → ¬ IsTrue (at_or_before event.stamp stamp)
 IsLatestAt events stamp (Some latest) =
     Contains events latest × IsTrue (at_or_before latest.stamp stamp)
-    × ((event : Event) → Contains events event → IsTrue (at_or_before event.stamp stamp) → IsTrue (at_or_before event.stamp latest.stamp))
+    × ((event : Event) → Contains events event → IsTrue (at_or_before event.stamp stamp)
+    → IsTrue (at_or_before event.stamp latest.stamp))
 
 -- how much memory there is
-abbrev pub room_of : List ChainView → ℕ → ℕ
+abbrev pub room_of : List EventChainView → ℕ → ℕ
 room_of chains gate = (slice_index_or chains gate no_chain).room
 
 -- a chain after an event is put in: it is one more, if there was none with its stamp
@@ -39,9 +41,9 @@ pub record IsPut (old : List Event) (event : Event) (new : List Event) : Type 0 
   pub stay : (other : Event) → Contains old other → Contains new other
   pub no_others : (other : Event) → Contains new other → Contains old other ⊎ (other ≡ event)
   pub there : (other : Event) × Contains new other × (other.stamp ≡ event.stamp)
-  pub rising : IsRising new
+  pub rising : IsRisingChain new
 
--- the stamp is the event's or precedes the event, which its frontier tells
+-- the stamp is the event's or precedes the event, as its frontier shows
 abbrev pub leads_to : Stamp → Event → Bool
 leads_to stamp event = at_or_before stamp event.stamp || covers event.frontier.latest stamp
 
@@ -58,21 +60,25 @@ raised earlier later latest event =
 
 -- along a chain, what leads to an event leads to those after it
 abbrev pub IsLedOn : Stamp → List Event → Type 0
-IsLedOn stamp events = (i j : ℕ) (d : Event) → i ≤ j → j < length events → IsTrue (leads_to stamp (slice_index_or events i d)) → IsTrue (leads_to stamp (slice_index_or events j d))
+IsLedOn stamp events = (i j : ℕ) (d : Event) → i ≤ j → j < length events
+    → IsTrue (leads_to stamp (slice_index_or events i d)) → IsTrue (leads_to stamp (slice_index_or events j d))
 
--- Chains of eight gatekeepers hold the later events of the pairs: each in its gatekeeper's chain, whose stamps rise, with a frontier of it. Their stamps are among these.
-pub record AreChains (pairs : List Given) (stamps : List Stamp) (chains : List ChainView) : Type 0 where
+-- Chains of eight gatekeepers hold the later events of the pairs: each in its gatekeeper's chain, whose stamps rise,
+-- with a frontier of it. Their stamps are among these.
+pub record AreChains (pairs : List Given) (stamps : List Stamp) (chains : List EventChainView) : Type 0 where
   pub eight : length chains ≡ 8
-  pub rising : (gate : ℕ) → IsRising (events_of chains gate)
+  pub rising : (gate : ℕ) → IsRisingChain (events_of chains gate)
   pub homes : (gate : ℕ) (event : Event) → Contains (events_of chains gate) event → event.stamp.home ≡ gate
   pub known : (gate : ℕ) (event : Event) → Contains (events_of chains gate) event → Contains stamps event.stamp
-  pub exact : (gate : ℕ) (event : Event) → Contains (events_of chains gate) event → IsFrontier pairs event.stamp event.frontier.latest
-  pub found : (earlier later : Stamp) → Contains pairs (earlier, later) → (gate : ℕ) × (event : Event) × Contains (events_of chains gate) event × (event.stamp ≡ later)
+  pub exact : (gate : ℕ) (event : Event) → Contains (events_of chains gate) event
+      → IsFrontier pairs event.stamp event.frontier.latest
+  pub found : (earlier later : Stamp) → Contains pairs (earlier, later) → (gate : ℕ) × (event : Event)
+      × Contains (events_of chains gate) event × (event.stamp ≡ later)
 
 -- each event of a chain raised
-abbrev pub raised_chain : Stamp → Stamp → List (Option Stamp) → ChainView → ChainView
+abbrev pub raised_chain : Stamp → Stamp → List (Option Stamp) → EventChainView → EventChainView
 raised_chain earlier later latest chain = record chain { events = map (raised earlier later latest) chain.events }
 
 -- each of the eight chains has memory for that many more events
-abbrev pub HasRoom : ℕ → List ChainView → Type 0
+abbrev pub HasRoom : ℕ → List EventChainView → Type 0
 HasRoom spare chains = (gate : ℕ) → gate < 8 → spare ≤ room_of chains gate

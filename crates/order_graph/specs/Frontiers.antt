@@ -12,14 +12,14 @@ use Rattle.order_graph.specs.Building.{ends_of}
 abbrev pub at_or_before : Stamp → Stamp → Bool
 at_or_before a b = same_stamp a b || stamp_before a b
 
--- of two events of one gatekeeper the later one, where there is any
+-- of two events of one gatekeeper the later one, if there is any
 abbrev pub later_of : Option Stamp → Option Stamp → Option Stamp
 later_of a None = a
 later_of None (Some b) = Some b
 later_of (Some a) (Some b) = if stamp_before a b then Some b else Some a
 
 -- the laws of the order of stamps as one fact, for proofs that take them as a premise
-pub record StampLaws : Type 0 where
+pub record StampOrderLaws : Type 0 where
   pub before-trans : (a b c : Stamp) → IsTrue (stamp_before a b) → IsTrue (stamp_before b c) → IsTrue (stamp_before a c)
   pub before-strict : (a : Stamp) → ¬ IsTrue (stamp_before a a)
   pub same_is : (a b : Stamp) → IsTrue (same_stamp a b) → a ≡ b
@@ -48,8 +48,11 @@ reaches stamp (Some latest) = at_or_before stamp latest
 abbrev pub covers : List (Option Stamp) → Stamp → Bool
 covers frontier stamp = list_any (reaches stamp) frontier
 
--- A frontier of an event: of each gatekeeper an earlier event of a pair, which precedes it. Each stamp that precedes the event is before it, or at or before one of these.
+-- A frontier of an event: of each gatekeeper an earlier event of a pair, which precedes it. Each stamp that precedes
+-- the event is before it, or at or before one of these.
 pub record IsFrontier (pairs : List Given) (event : Stamp) (frontier : List (Option Stamp)) : Type 0 where
   pub eight : length frontier ≡ 8
-  pub precede : (gate : ℕ) (latest : Stamp) → latest_of frontier gate ≡ Some latest → (latest.home ≡ gate) × Contains (ends_of pairs) latest × IsTrue (precedes pairs latest event)
-  pub all : (stamp : Stamp) → IsTrue (precedes pairs stamp event) → IsTrue (stamp_before stamp event || covers frontier stamp)
+  pub precede : (gate : ℕ) (latest : Stamp) → latest_of frontier gate ≡ Some latest → (latest.home ≡ gate)
+      × Contains (ends_of pairs) latest × IsTrue (precedes pairs latest event)
+  pub all : (stamp : Stamp) → IsTrue (precedes pairs stamp event)
+      → IsTrue (stamp_before stamp event || covers frontier stamp)

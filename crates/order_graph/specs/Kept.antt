@@ -3,6 +3,6 @@ use Rattle.std.specs.Prelude.{ℕ, List}
 use Rattle.vector_stamp.specs.Precedence.{Given}
 
 -- the pairs, in the order in which they were added, and for how many more there is memory
-pub record Kept : Type 0 where
+pub record PairsView : Type 0 where
   pub pairs : List Given
   pub spare : ℕ

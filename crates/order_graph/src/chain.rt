@@ -4,7 +4,7 @@ ghost use Rattle.std.specs.List.Sorted.{IsPartitionPoint};
 ghost use Rattle.vector_stamp.specs.Order.{stamp_before};
 ghost use Rattle.order_graph.specs.declared.chain.Event.{Event};
 ghost use Rattle.order_graph.specs.Frontiers.{at_or_before};
-ghost use Rattle.order_graph.specs.Chains.{IsRising, IsLatestAt, IsLedOn, IsPut, leads_to, raised, raised_chain};
+ghost use Rattle.order_graph.specs.Chains.{IsRisingChain, IsLatestAt, IsLedOn, IsPut, leads_to, raised, raised_chain};
 
 use crate::frontier::{Frontier, is_at_or_before, stamps_keep_the_laws};
 use std::alloc::{AllocError, Global};
@@ -27,9 +27,9 @@ pub(crate) struct Chain {
 impl Model for Chain {
     ghost use Rattle.std.specs.Prelude.{◌-◌, vec_len};
     ghost use Rattle.std.specs.Vec.{vec_capacity};
-    ghost use Rattle.order_graph.specs.Chains.{ChainView};
+    ghost use Rattle.order_graph.specs.Chains.{EventChainView};
 
-    ghost Value = { ChainView };
+    ghost Value = { EventChainView };
 
     ghost view = { λ c. record { events = c.events.items; room = vec_capacity c.events - vec_len c.events } };
 }
@@ -55,7 +55,7 @@ impl Chain {
 
     /// The latest event at or before the stamp.
     pub(crate) fn latest(&self, stamp: &Stamp) -> Option<&Event>
-        ensures { IsRising self.now.events → IsLatestAt self.now.events stamp.now (option_copied result) }
+        ensures { IsRisingChain self.now.events → IsLatestAt self.now.events stamp.now (option_copied result) }
     {
         stamps_keep_the_laws();
         let events = self.events.as_slice();
@@ -77,7 +77,7 @@ impl Chain {
 
     /// Puts an event into its place, unless there is one with its stamp.
     pub(crate) fn put(&mut self, event: Event) -> Result<(), AllocError>
-        requires rising { IsRising self.old.events }
+        requires rising { IsRisingChain self.old.events }
         requires in_turn { (other : Event) → Contains self.old.events other
             → IsTrue (at_or_before other.stamp event.stamp || stamp_before event.stamp other.stamp) }
         ensures put { OnOk result (IsPut self.old.events event self.new.events) }
@@ -95,7 +95,8 @@ impl Chain {
         Ok(())
     }
 
-    /// Takes the events of a frontier, which lead to the earlier event, as leading to each event to which the later one leads.
+    /// Takes the events of a frontier, which lead to the earlier event, as leading to each event to which the later one
+    /// leads.
     /// It goes up from the first such event, to the first one to which the earlier event already leads.
     pub(crate) fn raise(&mut self, earlier: &Stamp, later: &Stamp, frontier: &Frontier)
         requires earlier { IsLedOn earlier.now self.old.events }
@@ -109,7 +110,8 @@ impl Chain {
 // The number of first events that are at or before the stamp.
 fn number_until(events: &[Event], stamp: &Stamp) -> usize
     ensures within { result ≤ length events.now }
-    ensures until { IsRising events.now → IsPartitionPoint (λ (event : Event). at_or_before event.stamp stamp.now ≡ true)
+    ensures until { IsRisingChain events.now → IsPartitionPoint (λ (event : Event). at_or_before event.stamp stamp.now
+        ≡ true)
         (λ (event : Event). at_or_before event.stamp stamp.now ≡ false) events.now result }
 {
     stamps_keep_the_laws();
@@ -120,7 +122,8 @@ fn number_until(events: &[Event], stamp: &Stamp) -> usize
 fn first_led(events: &[Event], stamp: &Stamp) -> usize
     ensures within { result ≤ length events.now }
     ensures first { IsLedOn stamp.now events.now
-        → IsPartitionPoint (λ event. leads_to stamp.now event ≡ false) (λ event. leads_to stamp.now event ≡ true) events.now result }
+        → IsPartitionPoint (λ event. leads_to stamp.now event ≡ false) (λ event. leads_to stamp.now event
+        ≡ true) events.now result }
 {
     events.partition_point(|event| !event.is_led_by(stamp))
 }

@@ -1,13 +1,13 @@
 //! For an event, of each gatekeeper an event that precedes it.
 ghost use Rattle.std.specs.Prelude.{◌≡◌, ◌<◌, Some, length, slice_set};
-ghost use Rattle.order_graph.specs.Frontiers.{StampLaws, at_or_before, later_of, empty_frontier, joined, reaches, covers};
+ghost use Rattle.order_graph.specs.Frontiers.{StampOrderLaws, at_or_before, later_of, empty_frontier, joined, reaches, covers};
 
 use vector_stamp::Stamp;
 use vector_stamp::laws::{equality_is_decided, stamps_are_ordered};
 
 // What proofs take as a premise.
 pub(crate) fn stamps_keep_the_laws()
-    ensures { StampLaws }
+    ensures { StampOrderLaws }
 {
     stamps_are_ordered();
     equality_is_decided();

@@ -6,7 +6,7 @@ ghost use Rattle.vector_stamp.specs.Precedence.{Given, precedes, IsAcyclic};
 ghost use Rattle.order_graph.specs.declared.chain.Event.{Event};
 ghost use Rattle.order_graph.specs.Building.{ends_of, MayAdd};
 ghost use Rattle.order_graph.specs.Frontiers.{at_or_before, IsFrontier};
-ghost use Rattle.order_graph.specs.Chains.{AreChains, IsLedOn, IsPut, IsRising, events_of, room_of, raised_chain};
+ghost use Rattle.order_graph.specs.Chains.{AreChains, IsLedOn, IsPut, IsRisingChain, events_of, room_of, raised_chain};
 
 use crate::chain::{Chain, Event};
 use crate::frontier::{Frontier, stamps_keep_the_laws};
@@ -18,9 +18,11 @@ use vector_stamp::laws::{
     parts_and_unions_are_coherent, precedence_is_decided,
 };
 
-/// Pairs of an earlier and a later event, seen by contracts as their list, in the order in which they were added, and the number of pairs for which there is memory.
+/// Pairs of an earlier and a later event, seen by contracts as their list, in the order in which they were added, and
+/// the number of pairs for which there is memory.
 ///
-/// For each event that is the later one of a pair it keeps, of each gatekeeper, an earlier event of a pair that precedes it.
+/// For each event that is the later one of a pair it keeps, of each gatekeeper, an earlier event of a pair that
+/// precedes it.
 #[derive(Drop)]
 pub struct OrderGraph {
     pairs: Vec<(Stamp, Stamp)>,
@@ -33,10 +35,10 @@ impl Model for OrderGraph {
     ghost use Rattle.std.specs.Vec.{vec_capacity};
     ghost use Rattle.vector_stamp.specs.Precedence.{IsAcyclic};
     ghost use Rattle.order_graph.specs.Building.{ends_of};
-    ghost use Rattle.order_graph.specs.Kept.{Kept};
+    ghost use Rattle.order_graph.specs.Kept.{PairsView};
     ghost use Rattle.order_graph.specs.Chains.{AreChains, HasRoom};
 
-    ghost Value = { Kept };
+    ghost Value = { PairsView };
 
     ghost view = { λ g. record { pairs = g.pairs.items; spare = g.spare } };
 
@@ -57,9 +59,11 @@ impl OrderGraph {
         }
     }
 
-    /// Whether event a precedes event b, by the pairs and the order of all stamps. The events need not be ends of pairs.
+    /// Whether event a precedes event b, by the pairs and the order of all stamps. The events need not be ends of
+    /// pairs.
     ///
-    /// It takes no memory. It looks for b's place in eight chains, each by bisection: so it takes time by the logarithm of the number of pairs.
+    /// It takes no memory. It looks for b's place in eight chains, each by bisection: so it takes time by the logarithm
+    /// of the number of pairs.
     pub fn precedes(&self, a: &Stamp, b: &Stamp) -> Result<bool, AllocError>
         requires { AreCoherent (a.now ∷ b.now ∷ ends_of self.now.pairs) }
         ensures exact { IfOk result (λ answer. answer ≡ precedes self.now.pairs a.now b.now) }
@@ -72,7 +76,8 @@ impl OrderGraph {
         Ok(a.is_before(b) || frontier_of(&self.chains, b).covers(a))
     }
 
-    /// Takes the memory for that many more pairs, which may all have later events of any one gatekeeper: so at each of the eight there is room for that many.
+    /// Takes the memory for that many more pairs, which may all have later events of any one gatekeeper: so at each of
+    /// the eight there is room for that many.
     pub fn reserve(&mut self, pairs: usize) -> Result<(), AllocError>
         ensures room { OnOk result (pairs ≤ self.new.spare) }
         ensures never_less { self.old.spare ≤ self.new.spare }
@@ -90,7 +95,9 @@ impl OrderGraph {
 
     /// Adds a pair at the end of the list.
     ///
-    /// Beside such look-ups it goes up through the events of pairs that the later event precedes and the earlier one does not yet: so pairs that are added in the order of their stamps cost little, and n pairs in the opposite order n times n steps.
+    /// Beside such look-ups it goes up through the events of pairs that the later event precedes and the earlier one
+    /// does not yet: so pairs that are added in the order of their stamps cost little, and n pairs in the opposite
+    /// order n times n steps.
     /// To put in the later event it moves those of its gatekeeper that come after it.
     pub fn add(&mut self, earlier: Stamp, later: Stamp) -> Result<(), AllocError>
         requires { MayAdd self.old.pairs earlier later }
@@ -122,7 +129,8 @@ impl OrderGraph {
 
 // A frontier of any event.
 fn frontier_of(chains: &[Chain; 8], event: &Stamp) -> Frontier
-    ensures { (pairs : List Given) → AreChains pairs (ends_of pairs) chains.now → AreCoherent (event.now ∷ ends_of pairs)
+    ensures { (pairs : List Given) → AreChains pairs (ends_of pairs) chains.now
+        → AreCoherent (event.now ∷ ends_of pairs)
         → IsFrontier pairs event.now result.latest }
 {
     stamps_keep_the_laws();
@@ -168,11 +176,12 @@ fn reserve_all(chains: &mut [Chain; 8], events: usize) -> Result<(), AllocError>
 // Puts the event into the chain of its gatekeeper.
 fn put_event(chains: &mut [Chain; 8], event: Event) -> Result<(), AllocError>
     requires home { event.stamp.home < 8 }
-    requires rising { IsRising (events_of chains.old event.stamp.home) }
+    requires rising { IsRisingChain (events_of chains.old event.stamp.home) }
     requires in_turn { (other : Event) → Contains (events_of chains.old event.stamp.home) other
         → IsTrue (at_or_before other.stamp event.stamp || stamp_before event.stamp other.stamp) }
     ensures eight { length chains.new ≡ length chains.old }
-    ensures put { OnOk result (IsPut (events_of chains.old event.stamp.home) event (events_of chains.new event.stamp.home)) }
+    ensures put { OnOk result (IsPut (events_of chains.old event.stamp.home) event
+        (events_of chains.new event.stamp.home)) }
     ensures others { (gate : ℕ) → gate ≢ event.stamp.home → events_of chains.new gate ≡ events_of chains.old gate }
     ensures spared { OnOk result ((gate : ℕ) → room_of chains.old gate ≤ room_of chains.new gate + 1) }
     ensures room { 0 < room_of chains.old event.stamp.home → IsOk result }

@@ -7,7 +7,8 @@ ghost use Rattle.order_graph.specs.Building.{ends_of, IsBuilt};
 
 use vector_stamp::laws::{no_cycle_arises, precedence_is_decided};
 
-/// The pairs and the order of all coherent stamps together have no cycle: where each pair was added under the condition of `add`, no stamp precedes itself.
+/// The pairs and the order of all coherent stamps together have no cycle: if each pair was added under the condition of
+/// `add`, no stamp precedes itself.
 pub fn no_cycle_is_built()
     ensures none_precedes_itself { (pairs : List Given) → IsBuilt pairs → (stamp : Stamp)
         → AreCoherent (stamp ∷ ends_of pairs) → ¬ Precedes pairs stamp stamp }

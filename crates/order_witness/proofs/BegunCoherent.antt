@@ -1,4 +1,5 @@
--- Where the clause on replies holds and homes are below 8, the stamps of the begun requests are coherent.
+-- If the clause on replies holds and homes are below 8, the stamps of the begun requests are coherent.
+-- Used by `add_pair`, `add_stamps`, `graph_of`, `leads_by_pairs` and Printing.
 use Rattle.std.proofs.Common.{◌≡◌, ℕ, zero, suc, ◌<◌, not, ◌||◌, ◌&&◌, IsTrue, Contains, List, [], ◌∷◌, Option, Some, None, eqb, ltb, ◌⊎◌, inl, inr, refl, sym, ap, ◌∙◌, subst, arith}
 use Rattle.std.specs.Prelude.{slice_get, nat_lt}
 use Rattle.std.specs.List.{filter_map, cons_option, list_all}
@@ -8,16 +9,15 @@ use Rattle.vector_stamp.specs.declared.clock.Stamp.{Stamp}
 use Rattle.vector_stamp.specs.declared.clock.EventId.{EventId}
 use Rattle.vector_stamp.specs.Order.{id_of, own_count, id_before, stamp_before, are_apart}
 use Rattle.vector_stamp.specs.Coherence.{AreCoherent}
-use Rattle.vector_stamp.specs.Precedence.{Given}
 use Rattle.program_defs.specs.declared.script.Script.{Script}
 use Rattle.report_rules.specs.declared.report.Report.{Report}
 use Rattle.report_rules.specs.declared.report.Reply.{Reply}
 use Rattle.report_rules.specs.declared.report.Pair.{Pair}
-use Rattle.proof_base.specs.Facts.{AllHold}
-use Rattle.proof_base.proofs.Members.{has_none, has_read, has_head, has_tail}
+use Rattle.weave_data.specs.Facts.{AllHold}
+use Rattle.weave_data.proofs.Members.{has_none, has_read, has_head, has_tail}
 use Rattle.report_rules.specs.RightReport.{replies_clause}
 use Rattle.report_rules.specs.Lookups.{is_none_or, stamp_at, given_by}
-use Rattle.order_graph.specs.Building.{ends_of}
+use Rattle.order_graph.specs.Building.{ends_of, EndsRead}
 use Rattle.order_graph.proofs.Stamps.{PartsAreCoherent}
 use Rattle.order_witness.specs.Paired.{begun_stamps}
 use Rattle.order_witness.proofs.BegunLaws.{given_joined}
@@ -164,10 +164,6 @@ module _ (report : Report) where
             ]
           ];
     }
-
--- the law on the ends of pairs
-abbrev pub EndsRead : Type 0
-EndsRead = (pairs : List Given) (stamp : Stamp) → Contains (ends_of pairs) stamp → (pair : Given) × Contains pairs pair × ((pair.0 ≡ stamp) ⊎ (pair.1 ≡ stamp))
 
 module _ (report : Report) where
   -- the stamps of given pairs are those of begun requests

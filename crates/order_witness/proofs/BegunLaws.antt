@@ -1,4 +1,5 @@
 -- The closure of the order of stamps and the pairs, over the begun requests, is precedence.
+-- Used by `precedence_of`, BegunCoherent, Covering, InTurn, Leading, Printing and Taking.
 use Rattle.std.proofs.Common.{◌≡◌, ℕ, Bool, true, false, ◌||◌, ◌&&◌, IsTrue, List, [], ◌∷◌, Contains, eqb, Option, Some, None, ◌⊎◌, inl, inr, refl, sym, ap, ◌∙◌, subst, arith}
 use Rattle.std.specs.Prelude.{slice_get, is_some}
 use Rattle.std.specs.List.{filter_map, cons_option}
@@ -7,7 +8,7 @@ use Rattle.std.proofs.lemmas.Bool.{and_parts, and_from, or_cases, or_left, or_ri
 use Rattle.vector_stamp.specs.declared.clock.Stamp.{Stamp}
 use Rattle.vector_stamp.specs.Order.{stamp_before}
 use Rattle.vector_stamp.specs.Precedence.{Given, IsClosed, precedes}
-use Rattle.proof_base.proofs.Members.{has_read, has_head, has_tail}
+use Rattle.weave_data.proofs.Members.{has_read, has_head, has_tail}
 use Rattle.report_rules.specs.declared.report.Report.{Report}
 use Rattle.report_rules.specs.declared.report.Reply.{Reply}
 use Rattle.report_rules.specs.declared.report.Pair.{Pair}

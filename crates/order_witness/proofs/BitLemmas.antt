@@ -1,4 +1,5 @@
 -- Bits of sets.
+-- Used by `bit`, `empty`, `join_words`, `set_bit` and Rows.
 use Rattle.std.proofs.Common.{◌≡◌, ℕ, ◌*◌, ◌/◌, ◌%◌, ◌^◌, ◌<◌, Bool, true, false, ◌||◌, List, get_or, set, length, replicate, eqb, inl, inr, refl, sym, ap, ◌∙◌, arith, eq-eqb, w64}
 use Rattle.std.specs.Prelude.{bit_and, bit_or, max}
 use Rattle.std.specs.Int.{bit_at}
@@ -17,7 +18,7 @@ pub past : (words : List ℕ) (n : ℕ) → get_or words (n / 64) 0 ≡ 0 → ha
 unfolding has_bit
 past words n none = ap (λ x. eqb (bit_at x (n % 64)) 1) none ∙ ap (λ x. eqb x 1) (bit_at-zero (n % 64))
 
--- the larger of two bits is 1 where one is
+-- the larger of two bits is 1 if one is
 or_test : (a b : ℕ) → a < 2 → b < 2 → eqb (max a b) 1 ≡ (eqb a 1 || eqb b 1)
 or_test a b la lb =
     elim (cases_eq a 1) [
@@ -72,7 +73,7 @@ of_set words number n within =
           ]
     ]
 
--- where each word is joined, each number is
+-- if each word is joined, each number is
 pub of_joined : (new old other : List ℕ) → length new ≡ length old → length old ≡ length other
     → ((k : ℕ) → k < length old → get_or new k 0 ≡ bit_or (get_or old k 0) (get_or other k 0)) → (n : ℕ) → has_bit new n ≡ (has_bit old n || has_bit other n)
 of_joined new old other same room each n =

@@ -1,11 +1,12 @@
 -- The choice of the next request, and the printed order.
+-- Used by `best_of`.
 use Rattle.std.proofs.Common.{◌≡◌, ℕ, ◌+◌, ◌<◌, ◌≤◌, Bool, true, false, ◌&&◌, IsTrue, List, [], ◌∷◌, ◌++◌, length, take, get_or, Option, Some, None, inl, inr, refl, sym, ap, ◌∙◌, subst, arith}
 use Rattle.std.specs.Prelude.{nat_eq}
 use Rattle.std.proofs.lemmas.Bool.{and_parts, and_from, both_ways, or_cases, or_left, or_right, eq-eqb, ltb-true, ltb-false}
 use Rattle.std.proofs.lemmas.List.{take_more}
 use Rattle.report_rules.specs.declared.report.Report.{Report}
 use Rattle.report_rules.specs.Lookups.{is_in}
-use Rattle.proof_base.proofs.Lists.{all-append, all-map}
+use Rattle.weave_data.proofs.Lists.{all-append, all-map}
 use Rattle.order_witness.specs.Closure.{Test}
 use Rattle.order_witness.specs.Choices.{IsBest, is_better, is_free, home_at}
 

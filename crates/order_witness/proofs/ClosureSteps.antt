@@ -1,9 +1,10 @@
 -- One step of the closure: what leads to the middle leads to all that the middle leads to.
+-- Used by `close_rows`.
 use Rattle.std.proofs.Common.{◌≡◌, ℕ, ◌+◌, ◌<◌, ◌||◌, ◌&&◌, IsTrue, ◌⊎◌, inl, inr, sym, ◌∙◌, subst, arith}
 use Rattle.std.proofs.lemmas.Bool.{and_parts, and_from, or_cases, or_left, or_right, cases_eq}
 use Rattle.order_witness.specs.Closure.{Test, IsTransitive, HasAllOf}
 
--- two steps by a number below the bound are one
+-- two steps by a number below the bound make one step
 abbrev pub LeadThrough : ℕ → Test → Type 0
 LeadThrough bound leads = (a m b : ℕ) → m < bound → IsTrue (leads a m) → IsTrue (leads m b) → IsTrue (leads a b)
 

@@ -1,4 +1,5 @@
 -- Each listed request against the latest listed ones of the gatekeepers.
+-- Used by `is_kept_by`.
 use Rattle.std.proofs.Common.{◌≡◌, ℕ, ◌+◌, ◌<◌, not, ◌||◌, IsTrue, List, [], ◌∷◌, ◌++◌, length, take, get_or, Option, Some, None, ltb, inl, inr, refl, sym, ap, ◌∙◌, subst}
 use Rattle.std.specs.List.{AllByRecursion}
 use Rattle.std.proofs.lemmas.Bool.{both_ways, cases_eq}
@@ -7,8 +8,8 @@ use Rattle.vector_stamp.specs.declared.clock.Stamp.{Stamp}
 use Rattle.vector_stamp.specs.Order.{stamp_before}
 use Rattle.program_defs.specs.declared.script.Script.{Script}
 use Rattle.report_rules.specs.declared.report.Report.{Report}
-use Rattle.proof_base.specs.Facts.{AllHold}
-use Rattle.proof_base.proofs.Lists.{all-map, all-push, list_all-from}
+use Rattle.weave_data.specs.Facts.{AllHold}
+use Rattle.weave_data.proofs.Lists.{all-map, all-push, list_all-from}
 use Rattle.report_rules.specs.Lookups.{are_both, same_session, stamp_at, RequestPrecedes}
 use Rattle.report_rules.specs.RightReport.{IsListedInOrder, replies_clause}
 use Rattle.report_rules.proofs.Precedence.{IsDecided}

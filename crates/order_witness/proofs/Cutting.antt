@@ -1,4 +1,6 @@
--- The begun requests cut into runs, and what requests see of the earlier ends of their pairs.
+-- Cutting the begun requests into rising runs, counting a request's earlier ones that are done, and moving runs past
+-- requests that are done.
+-- Used by `next`, `runs_of`, `see` and Visiting.
 use Rattle.std.proofs.Common.{◌≡◌, ℕ, ◌+◌, ◌-◌, ◌<◌, ◌≤◌, Bool, true, false, ◌||◌, IsTrue, List, [], ◌∷◌, ◌++◌, length, ◌⊎◌, inl, inr, refl, sym, ap, ◌∙◌, subst, arith}
 use Rattle.std.specs.Prelude.{nat_eq}
 use Rattle.std.proofs.lemmas.Bool.{both_ways, cases_eq, cases_lt, or_cases, eqb-true}
@@ -90,7 +92,7 @@ module _ (strict : IsStrict) (report : Report) (line : List ℕ) where
     }
 
 module _ (report : Report) (line : List ℕ) (place start : ℕ) (runs : List Run) (cut : AreCut report line place start runs) where
-  -- where the walk ends the last run ends, too
+  -- when the walk ends, the last run ends, too
   pub end_rising : length line ≤ place → AreRising report line (runs ++ (record { next = start; end = length line }) ∷ [])
   end_rising all = rising_more runs (record { next = start; end = length line }) report line cut.rising (λ j k from less below. cut.current j k from less (omega (arith, below, all)))
 

@@ -1,4 +1,5 @@
--- Where replies have their places, stamps are apart and sessions take turns, each reply is in place.
+-- If replies have their places, stamps are apart and sessions take turns, each reply is in place.
+-- Used by `are_at_places`, `are_surely_in_place` and TurnSteps.
 use Rattle.std.proofs.Common.{◌≡◌, ℕ, ◌<◌, Bool, true, not, ◌&&◌, IsTrue, List, length, take, get_or, Option, Some, None, eqb, ltb, ◌⊎◌, inl, inr, refl, sym, ap, ◌∙◌, subst, arith}
 use Rattle.std.specs.Prelude.{slice_get}
 use Rattle.std.specs.Option.{option_and_then}
@@ -11,8 +12,8 @@ use Rattle.program_defs.specs.declared.script.Request.{Request}
 use Rattle.report_rules.specs.declared.report.Reply.{Reply}
 use Rattle.report_rules.specs.Lookups.{is_none_or, are_both, request_at, same_session}
 use Rattle.report_rules.specs.RightReport.{is_home_of, is_reply_in_place, stands_after, are_apart_where_begun, are_begun_in_turn}
-use Rattle.proof_base.specs.Facts.{AllHold, facts_in_turn}
-use Rattle.proof_base.proofs.Lists.{list_all-from}
+use Rattle.weave_data.specs.Facts.{AllHold, facts_in_turn}
+use Rattle.weave_data.proofs.Lists.{list_all-from}
 use Rattle.order_witness.specs.Begun.{stamp_in}
 use Rattle.order_witness.specs.Rising.{AreStampsApart, DoSessionsTakeTurns, AreAtPlaces, is_at_place}
 use Rattle.order_witness.proofs.Numbered.{the_item}

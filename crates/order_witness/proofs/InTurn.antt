@@ -1,4 +1,5 @@
 -- An order that keeps that of the stamps and the pairs keeps precedence.
+-- Used by `first_fault`, Covering and InPlace.
 use Rattle.std.proofs.Common.{◌≡◌, ℕ, zero, suc, ◌+◌, ◌<◌, ◌≤◌, false, not, ◌||◌, ◌&&◌, IsTrue, Contains, List, [], ◌∷◌, ◌++◌, length, take, slice_index_or, Option, Some, None, eqb, ltb, ◌⊎◌, inl, inr, refl, sym, ap, ◌∙◌, subst, arith, append-nil}
 use Rattle.std.specs.Prelude.{slice_get, nat_lt}
 use Rattle.std.specs.List.{list_all, AllByRecursion}
@@ -11,8 +12,8 @@ use Rattle.program_defs.specs.declared.script.Script.{Script}
 use Rattle.program_defs.specs.declared.script.Request.{Request}
 use Rattle.report_rules.specs.declared.report.Report.{Report}
 use Rattle.report_rules.specs.declared.report.Pair.{Pair}
-use Rattle.proof_base.specs.Facts.{AllHold, facts_after, facts_in_turn}
-use Rattle.proof_base.proofs.Lists.{append-step, list_all-from}
+use Rattle.weave_data.specs.Facts.{AllHold, facts_after, facts_in_turn}
+use Rattle.weave_data.proofs.Lists.{append-step, list_all-from}
 use Rattle.report_rules.specs.Lookups.{is_none_or, are_both, AreBoth, stamp_at, same_session, request_at, given_pairs, RequestPrecedes}
 use Rattle.report_rules.specs.RightReport.{IsListedInOrder, order_clause, replies_clause, are_apart_where_begun, are_begun_in_turn}
 use Rattle.order_witness.specs.Begun.{joins, pairs_lead}

@@ -1,4 +1,5 @@
 -- The heads of the runs: which requests can be next, and what stays so while requests are taken.
+-- Used by `next`, Covering and Taking.
 use Rattle.std.proofs.Common.{◌≡◌, ℕ, zero, suc, ◌<◌, ◌≤◌, Bool, true, false, not, cond, ◌&&◌, IsTrue, Contains, List, [], ◌∷◌, length, Option, Some, None, eqb, ltb, ◌⊎◌, inl, inr, refl, sym, ap, ◌∙◌, subst, arith}
 use Rattle.std.specs.Prelude.{nat_eq, slice_get, slice_set}
 use Rattle.std.specs.List.{list_any, filter, cons_option}
@@ -12,7 +13,7 @@ use Rattle.vector_stamp.specs.Precedence.{Precedes, ByStamps, ByPair, Through, p
 use Rattle.program_defs.specs.declared.script.Script.{Script}
 use Rattle.report_rules.specs.declared.report.Report.{Report}
 use Rattle.report_rules.specs.declared.report.Reply.{Reply}
-use Rattle.proof_base.specs.Facts.{AllHold}
+use Rattle.weave_data.specs.Facts.{AllHold}
 use Rattle.report_rules.specs.RightReport.{replies_clause}
 use Rattle.report_rules.specs.PrintedOrder.{without_request}
 use Rattle.report_rules.specs.Lookups.{is_in, stamp_at, given_pairs}

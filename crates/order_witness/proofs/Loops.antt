@@ -1,7 +1,8 @@
 -- A loop over the places of a clause: so far each fact holds, and the first that doesn't ends it.
+-- Used by `first_fault`, `first_out_of_place` and `is_kept_by`.
 use Rattle.std.proofs.Common.{◌≡◌, ℕ, zero, suc, ◌+◌, ◌<◌, List, [], ◌∷◌, ◌++◌, length, take, get_or, refl, sym, ap, subst, arith}
-use Rattle.proof_base.specs.Facts.{Facts, AllHold, BreaksFirstAt, facts_after, facts_in_turn, facts_of_each}
-use Rattle.proof_base.proofs.FactsLaws.{holds_step, breaks_at, hold-append}
+use Rattle.weave_data.specs.Facts.{Facts, AllHold, BreaksFirstAt, facts_after, facts_in_turn, facts_of_each}
+use Rattle.weave_data.proofs.FactsLaws.{holds_step, breaks_at, hold-append}
 
 module _ {A : Type 0} (F : List A → A → Type 0) (xs : List A) (i : ℕ) (x : A) (lt : i < length xs) (so_far : AllHold (facts_in_turn F (take i xs))) (is : x ≡ get_or xs i x) where
   pub turn_step : F (take i xs) x → AllHold (facts_in_turn F (take (i + 1) xs))
@@ -26,7 +27,7 @@ module _ {A : Type 0} (F : A → Type 0) where
     pub each_breaks : ¬ F x → BreaksFirstAt (facts_of_each F xs) (i + 1)
     each_breaks fails = subst (λ (facts : Facts). BreaksFirstAt facts (i + 1)) (as_turn [] xs) (turn_breaks (λ _ y. F y) xs i x lt before_this is fails)
 
--- One fact more behind those of a list
+-- One more fact after those of a list
 
 still_breaks : (facts more : Facts) (place : ℕ) → BreaksFirstAt facts place → BreaksFirstAt (facts ++ more) place
 still_breaks [] more place h = absurd h

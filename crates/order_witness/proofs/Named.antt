@@ -1,14 +1,13 @@
 -- The vertices that operations name, as a set.
+-- Used by `work_names`.
 use Rattle.std.proofs.Common.{◌≡◌, Bool, true, false, not, cond, ◌||◌, List, [], ◌∷◌, map, refl, ap, ◌∙◌}
-use Rattle.std.specs.List.{filter, list_any}
+use Rattle.std.specs.List.{list_any}
 use Rattle.weave_data.specs.declared.name.Name.{Name}
 use Rattle.weave_data.specs.Names.{same_name, one_name}
 use Rattle.graph_ops.specs.declared.op.Op.{Op}
 use Rattle.graph_ops.specs.Operations.{vertex_of}
 use Rattle.graph_ops.specs.Mentions.{is_among, first_mentions, named_by}
-
-abbrev others : Name → List Name → List Name
-others v more = filter (λ w. not (same_name v w)) more
+use Rattle.graph_ops.proofs.FirstMentions.{others}
 
 -- without a name, and with it in front: the same names
 still_among : (w v : Name) (names : List Name) → (same_name w v || is_among (others w names) v) ≡ (same_name w v || is_among names v)
@@ -35,6 +34,6 @@ mapped : (ops : List Op) (v : Name) → is_among (map vertex_of ops) v ≡ list_
 mapped [] v = refl
 mapped (op ∷ ops) v = ap (λ b. same_name (vertex_of op) v || b) (mapped ops v)
 
--- a vertex is named where an operation is on it
+-- a vertex is named if an operation is on it
 pub among_named : (ops : List Op) (v : Name) → is_among (named_by ops) v ≡ list_any (λ (op : Op). same_name (vertex_of op) v) ops
 among_named ops v = mentions_among (map vertex_of ops) v ∙ mapped ops v

@@ -1,4 +1,5 @@
 -- One request more gets its place in the order.
+-- Used by `is_in_turn`, `is_kept_by`, `next`, `runs_of`, Covering, Cutting, InTurn, Leading and RisingSteps.
 use Rattle.std.proofs.Common.{◌≡◌, ℕ, zero, suc, ◌+◌, ◌<◌, Bool, false, not, ◌&&◌, ◌==◌, IsTrue, List, [], ◌∷◌, slice_index_or, replicate, Option, Some, None, inl, inr, refl, sym, ap, ◌∙◌, subst, arith}
 use Rattle.std.specs.List.{list_any}
 use Rattle.std.proofs.lemmas.Bool.{and_parts, both_ways, cases_eq, cases_lt, eqb-true, not-true, or_left, or_right}

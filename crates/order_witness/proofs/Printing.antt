@@ -1,4 +1,5 @@
 -- The requests taken in turn are the printed order.
+-- Used by `take_all`, Leading and Taking.
 use Rattle.std.proofs.Common.{◌≡◌, ℕ, suc, ◌<◌, ◌≤◌, Bool, true, false, not, cond, IsTrue, List, [], ◌∷◌, ◌++◌, length, Option, Some, None, eqb, ◌⊎◌, inl, inr, refl, sym, ap, ◌∙◌, subst, arith}
 use Rattle.std.specs.Prelude.{nat_eq, slice_get}
 use Rattle.std.specs.List.{list_any, filter, cons_option, AllByRecursion}
@@ -10,7 +11,7 @@ use Rattle.vector_stamp.specs.Precedence.{Precedes, ByStamps}
 use Rattle.program_defs.specs.declared.script.Script.{Script}
 use Rattle.report_rules.specs.declared.report.Report.{Report}
 use Rattle.report_rules.specs.declared.report.Reply.{Reply}
-use Rattle.proof_base.specs.Facts.{AllHold}
+use Rattle.weave_data.specs.Facts.{AllHold}
 use Rattle.report_rules.specs.RightReport.{replies_clause}
 use Rattle.report_rules.specs.PrintedOrder.{IsFree, IsOfLesserHome, IsNext, without_request, TakesAll}
 use Rattle.report_rules.specs.Lookups.{is_in, AreBoth, stamp_at, given_pairs, RequestPrecedes}
@@ -178,7 +179,7 @@ module _ (script : Script) (report : Report) (holds : AllHold (replies_clause sc
             }
           ]
 
-      -- so where none is free, none remains
+      -- so if none is free, none remains
       pub none_left : (xs : List ℕ) → AllByRecursion (λ r. is_free precedence xs r ≡ false) xs → xs ≡ []
       none_left [] h = refl
       none_left (x ∷ xs) h =

@@ -1,4 +1,5 @@
--- What the test of a refusal says, where its mark is right.
+-- What the test of a refusal says, if its mark is right.
+-- Used by `first_out_of_place`.
 use Rattle.std.proofs.Common.{◌≡◌, ◌≤◌, ℕ, Bool, true, false, IsTrue, Some, refl, subst}
 use Rattle.std.specs.Prelude.{nat_le}
 use Rattle.std.proofs.lemmas.Bool.{and_parts, and_from, leb-true}

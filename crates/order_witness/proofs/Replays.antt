@@ -1,4 +1,5 @@
 -- The order, replayed request after request.
+-- Used by `first_fault`, `gives` and Visiting.
 use Rattle.std.proofs.Common.{◌≡◌, ℕ, zero, suc, ◌+◌, ◌<◌, Bool, true, false, cond, eqb, List, [], ◌∷◌, ◌++◌, take, get_or, length, IsTrue, Ok, Err, refl, sym, ap, ◌∙◌, subst, arith}
 use Rattle.std.specs.Prelude.{MatchBool, nat_eq}
 use Rattle.std.specs.Cmp.Lexicographic.{pointwise}
@@ -10,17 +11,17 @@ use Rattle.graph_ops.specs.declared.tx.Got.{Got}
 use Rattle.program_defs.specs.declared.script.Script.{Script}
 use Rattle.report_rules.specs.declared.report.Report.{Report}
 use Rattle.report_rules.specs.declared.report.ReplyState.TheVariants.{Committed}
-use Rattle.proof_base.specs.Facts.{AllHold, BreaksFirstAt}
+use Rattle.weave_data.specs.Facts.{AllHold, BreaksFirstAt}
 use Rattle.report_rules.specs.Replay.{OutcomeMatchesReply, replay_from, graph_after, graph_before}
 use Rattle.report_rules.specs.Lookups.{is_in, request_at}
 use Rattle.order_witness.specs.Replayed.{MatchesItsReply, GivesAnswers, TellsOf}
 
--- what committed replies tell are their answers
+-- what committed replies say are their answers
 pub told_answers : (outcome : TxOutcome) (number : ℕ) (answers : List Got) → OutcomeMatchesReply outcome (Committed number answers) ≡ GivesAnswers outcome answers
 told_answers (Ok passed) number answers = refl
 told_answers (Err stopped) number answers = refl
 
--- the comparison tells of a transaction that passed
+-- what the comparison shows of a transaction that passed
 pub gave : (outcome : TxOutcome) (old now : PlainGraph) (gots answers : List Got) → outcome ≡ Ok (record { graph = now; gots = gots }) → TellsOf (GivesAnswers outcome answers) now (graph_left old outcome) (pointwise same_got gots answers)
 gave outcome old now gots answers is =
     subst (λ (o : TxOutcome). TellsOf (GivesAnswers o answers) now (graph_left old o) (pointwise same_got gots answers)) (sym is) (told (pointwise same_got gots answers) refl)

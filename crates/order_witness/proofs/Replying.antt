@@ -1,4 +1,5 @@
 -- What the clause on replies gives: reply i is of request i, and begun requests have stamps apart.
+-- Used by `first_fault`, `judged_precedence`, BegunCoherent, InPlace, InTurn, Leading, Printing, Taking and 2 more.
 use Rattle.std.proofs.Common.{◌≡◌, ℕ, zero, suc, ◌<◌, false, ◌||◌, ◌&&◌, IsTrue, List, [], ◌∷◌, ◌++◌, length, take, Option, Some, None, eqb, ltb, inl, inr, refl, sym, ap, ◌∙◌, subst, arith, append-nil}
 use Rattle.std.specs.Prelude.{slice_get}
 use Rattle.std.specs.List.{list_all}
@@ -9,10 +10,10 @@ use Rattle.vector_stamp.specs.Order.{are_apart, own_count, stamp_before}
 use Rattle.program_defs.specs.declared.script.Script.{Script}
 use Rattle.report_rules.specs.declared.report.Report.{Report}
 use Rattle.report_rules.specs.declared.report.Reply.{Reply}
-use Rattle.proof_base.specs.Facts.{Facts, AllHold, facts_after}
+use Rattle.weave_data.specs.Facts.{Facts, AllHold, facts_after}
 use Rattle.report_rules.specs.RightReport.{is_reply_in_place, stands_after, are_apart_where_begun, replies_clause}
 use Rattle.report_rules.specs.Lookups.{stamp_at}
-use Rattle.proof_base.proofs.Lists.{append-step}
+use Rattle.weave_data.proofs.Lists.{append-step}
 use Rattle.order_witness.specs.Begun.{StampsDiffer}
 use Rattle.order_witness.proofs.Testing.{passes_at}
 
@@ -60,7 +61,7 @@ module _ (script : Script) (report : Report) (holds : AllHold (replies_clause sc
       let second = and_parts (eqb reply.request (length (take i report.replies)) && ltb reply.request (length script.requests)) _ first.0 in
       eqb-true _ _ (and_parts (eqb reply.request (length (take i report.replies))) _ second.0).0 ∙ length_front report.replies i reply at
 
-  -- of two replies the later one stands well after the earlier one
+  -- of two replies the later one is in order after the earlier one
   pub stands_so : (i j : ℕ) (earlier reply : Reply) → i < j → slice_get report.replies i ≡ Some earlier → slice_get report.replies j ≡ Some reply → IsTrue (stands_after script reply earlier)
   stands_so i j earlier reply lt at_i at_j =
       passes_at (stands_after script reply) (take j report.replies) i earlier (and_parts _ (list_all (stands_after script reply) (take j report.replies)) (in_place j reply at_j)).1 (get_front report.replies i j lt ∙ at_i)
@@ -81,7 +82,7 @@ module _ (script : Script) (report : Report) (holds : AllHold (replies_clause sc
       let both : IsTrue (are_apart_where_begun first.0.stamp second.0.stamp) = (and_parts (are_apart_where_begun first.0.stamp second.0.stamp) _ (stands_so a b first.0 second.0 lt first.1 second.1)).0 in
       sym (ap (λ o. are_apart_where_begun o second.0.stamp) first.2 ∙ ap (are_apart_where_begun (Some s)) second.2) ∙ both
 
-  -- so no two begun requests have one stamp
+  -- so no two begun requests have the same stamp
   pub differ : StampsDiffer report
   differ a b s at_a at_b =
       elim (cases_order a b) [

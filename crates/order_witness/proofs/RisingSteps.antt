@@ -1,4 +1,5 @@
--- What tests of neighbours say of all, where they are transitive.
+-- What tests of neighbours say of all, if they are transitive.
+-- Used by `are_stamps_apart`, `begun_by_stamps`, `do_sessions_take_turns`, `places_by_stamps` and 4 more.
 use Rattle.std.proofs.Common.{◌≡◌, ◌≢◌, ℕ, zero, suc, ◌+◌, ◌-◌, ◌<◌, Bool, not, ◌||◌, ◌&&◌, ◌==◌, IsTrue, AllPairs, Contains, List, [], ◌∷◌, ◌++◌, length, map, get_or, Option, Some, None, eqb, ltb, ◌⊎◌, inl, inr, refl, sym, ◌∙◌, subst, arith}
 use Rattle.std.specs.Prelude.{slice_get, slice_index, nat_lt}
 use Rattle.std.specs.List.Sorted.{IsPermutation}
@@ -14,8 +15,8 @@ use Rattle.program_defs.specs.declared.script.Request.{Request}
 use Rattle.report_rules.specs.declared.report.Reply.{Reply}
 use Rattle.report_rules.specs.Lookups.{are_both, request_at}
 use Rattle.report_rules.specs.RightReport.{are_begun_in_turn}
-use Rattle.proof_base.proofs.Members.{has_head}
-use Rattle.proof_base.proofs.Ordered.{pairs_cases}
+use Rattle.weave_data.proofs.Members.{has_head}
+use Rattle.weave_data.proofs.Ordered.{pairs_cases}
 use Rattle.order_witness.specs.Begun.{stamp_in}
 use Rattle.order_witness.specs.Rising.{stamp_entry, session_entry, comes_before, request_comes_before, session_comes_before, AreInTurnTo, AreStampsApart, DoSessionsTakeTurns}
 use Rattle.order_witness.proofs.Placing.{IsStrict}

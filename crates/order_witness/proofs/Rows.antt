@@ -1,4 +1,5 @@
 -- Rows of a relation.
+-- Used by `close_rows`, `empty_rows`, `join_rows` and `leads`.
 use Rattle.std.proofs.Common.{◌≡◌, ℕ, ◌<◌, ◌≤◌, false, IsTrue, List, [], ◌∷◌, ◌++◌, length, refl, sym, ap, ◌∙◌, subst, ◌⊎◌, inl, inr, arith}
 use Rattle.std.proofs.lemmas.Bool.{cases_lt, cases_eq, both_ways}
 use Rattle.std.proofs.lemmas.List.{get_or_past, get_or_append_left, length-append}

@@ -1,4 +1,5 @@
 -- Answers that compare equal are equal.
+-- Used by `replay_program`, `same_in_turn`, `same_pairs` and Replays.
 use Rattle.std.proofs.Common.{◌≡◌, ℕ, Bool, true, false, ◌&&◌, IsTrue, List, [], ◌∷◌, Option, Some, None, length, eqb, refl, sym, ap, subst, ◌∙◌, arith}
 use Rattle.std.specs.Prelude.{MatchBool}
 use Rattle.std.specs.Cmp.{eq_by_cmp_equiv}
@@ -19,7 +20,7 @@ use Rattle.program_defs.specs.declared.program.Answer.{Answer}
 use Rattle.program_defs.specs.declared.program.Answer.TheVariants.{Shown, Reached, Found, Walk}
 use Rattle.order_witness.specs.Answers.{same_names, same_edge, same_record, same_got, same_truth, same_outcome}
 
--- a test that tells whether two values are one
+-- a test whether two values are equal
 pub record Tells {A : Type 0} (test : A → A → Bool) : Type 0 where
   pub one : (x y : A) → IsTrue (test x y) → x ≡ y
   pub itself : (x : A) → IsTrue (test x x)
@@ -53,7 +54,7 @@ module _ {A : Type 0} (test : A → A → Bool) (tells : Tells test) where
   options_tell : Tells (option_eq test)
   options_tell = record { one = one_option; itself = option_itself }
 
-  -- over a zip, where the lists are as long
+  -- over a zip, if the lists have the same length
   pub all_zip : (xs ys : List A) → length xs ≡ length ys → list_all (λ (pair : A × A). test pair.0 pair.1) (zip xs ys) ≡ pointwise test xs ys
   all_zip [] [] same = refl
   all_zip [] (y ∷ ys) same = absurd (omega (arith, same))

@@ -1,4 +1,5 @@
 -- Sets of what was seen, one more at a time.
+-- Used by `first_fault`, `first_out_of_place` and `see`.
 use Rattle.std.proofs.Common.{◌≡◌, ℕ, ◌+◌, ◌<◌, Bool, true, false, not, ◌||◌, ◌&&◌, IsTrue, List, [], ◌∷◌, ◌++◌, length, take, get_or, Option, Some, None, refl, sym, ap, ◌∙◌}
 use Rattle.std.specs.Prelude.{slice_get, nat_eq, nat_lt, nat_le}
 use Rattle.std.specs.List.{list_all}
@@ -52,6 +53,6 @@ listed_within report r h = of (slice_get report.replies r) refl h
     of None is g = absurd (cc)
     of (Some reply) is g = slice_get_within report.replies r reply is
 
--- all that are committed or finished are listed where all are seen
+-- all that are committed or finished are listed if all are seen
 pub all_listed : (report : Report) (seen : List ℕ) → AreSeen report.order seen → list_all (λ (reply : Reply). not (is_committed_or_finished reply.state) || has_bit seen reply.request) report.replies ≡ all_are_listed report
 all_listed report seen are = λ i. list_all (λ (reply : Reply). not (is_committed_or_finished reply.state) || are reply.request i) report.replies

@@ -1,4 +1,5 @@
--- The begun requests taken one after another: at first none is done, each turn one more, and in the end all or, where a request precedes itself, not all.
+-- The begun requests taken one after another: at first none is done, each turn one more, and in the end all or, if a request precedes itself, not all.
+-- Used by `take_all` and `taken_in_turn`.
 use Rattle.std.proofs.Common.{◌≡◌, ℕ, zero, suc, ◌<◌, Bool, true, false, not, cond, IsTrue, Contains, List, [], ◌∷◌, length, map, replicate, Option, Some, None, inl, inr, refl, sym, ap, ◌∙◌, arith}
 use Rattle.std.specs.Prelude.{is_some, slice_get, slice_set}
 use Rattle.std.specs.List.{list_all, filter, AllByRecursion}
@@ -10,8 +11,8 @@ use Rattle.vector_stamp.specs.Precedence.{precedes}
 use Rattle.program_defs.specs.declared.script.Script.{Script}
 use Rattle.report_rules.specs.declared.report.Report.{Report}
 use Rattle.report_rules.specs.declared.report.Reply.{Reply}
-use Rattle.proof_base.specs.Facts.{AllHold}
-use Rattle.proof_base.proofs.Members.{has_none, has_read}
+use Rattle.weave_data.specs.Facts.{AllHold}
+use Rattle.weave_data.proofs.Members.{has_none, has_read}
 use Rattle.report_rules.specs.RightReport.{replies_clause}
 use Rattle.report_rules.specs.PrintedOrder.{IsNext, IsPrintedOrder, TakesAll, begun_requests, without_request}
 use Rattle.report_rules.specs.Lookups.{is_in, is_some_and, is_committed_or_finished, may_be_listed, stamp_at, given_pairs, RequestPrecedes}

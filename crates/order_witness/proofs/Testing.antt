@@ -1,8 +1,10 @@
 -- What the code tests, and what the clauses say.
+-- Used by `commit`, `first_fault`, `first_out_of_place`, `is_refused`, `replay`, Covering, Leading and 4 more.
 use Rattle.std.proofs.Common.{◌≡◌, ℕ, zero, suc, ◌<◌, Bool, true, false, get_or, length, ap, arith, not, ◌||◌, ◌&&◌, IsTrue, List, [], ◌∷◌, Option, Some, None, refl, sym, ◌∙◌, subst}
 use Rattle.std.specs.Prelude.{slice_get, nat_lt}
 use Rattle.std.specs.List.{list_all, AllByRecursion}
 use Rattle.std.proofs.lemmas.Bool.{and_parts, and_from, both_ways, not-true, not_from_false, false_from_ne_true}
+use Rattle.weave_data.proofs.Lists.{each_from}
 use Rattle.vector_stamp.specs.declared.clock.Stamp.{Stamp}
 use Rattle.vector_stamp.specs.Order.{stamp_before, unordered}
 use Rattle.vector_stamp.specs.Precedence.{Given, Precedes, precedes}
@@ -21,7 +23,7 @@ use Rattle.report_rules.specs.Replay.{graph_at_place}
 use Rattle.report_rules.specs.Lookups.{are_both, AreBoth, request_at, reply_at, stamp_at, same_session, names_vertex, given_pairs, RequestPrecedes}
 use Rattle.report_rules.specs.RightReport.{IsListedInOrder, IsConflictInPlace, conflicts_clause, IsPairInPlace, MayBeLaterAt, is_committed_and_names}
 use Rattle.report_rules.proofs.Precedence.{IsDecided}
-use Rattle.proof_base.specs.Facts.{AllHold, facts_of_each}
+use Rattle.weave_data.specs.Facts.{AllHold, facts_of_each}
 use Rattle.order_witness.specs.Closure.{Test}
 use Rattle.order_witness.specs.Begun.{request_precedes, is_request_before, is_listed_in_order, is_conflict_in_place}
 use Rattle.order_witness.specs.Judgement.{has_numbered_operations, is_numbered_work}
@@ -43,10 +45,6 @@ test_of decided pairs (Some x) (Some y) h = (decided pairs x y).0 h
 -- Lists
 
 module _ {A : Type 0} (test : A → Bool) (P : A → Type 0) where
-  pub each_from : ((x : A) → IsTrue (test x) → P x) → (xs : List A) → IsTrue (list_all test xs) → AllByRecursion P xs
-  each_from f [] h = tt
-  each_from f (x ∷ xs) h = let parts = and_parts (test x) (list_all test xs) h in (f x parts.0, each_from f xs parts.1)
-
   pub each_to : ((x : A) → P x → IsTrue (test x)) → (xs : List A) → AllByRecursion P xs → IsTrue (list_all test xs)
   each_to f [] h = refl
   each_to f (x ∷ xs) h = and_from _ _ (f x h.0) (each_to f xs h.1)

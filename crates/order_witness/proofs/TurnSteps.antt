@@ -1,18 +1,19 @@
 -- Commit numbers and refusals of a session, one reply more.
+-- Used by `do_numbers_take_turns` and `first_fault`.
 use Rattle.std.proofs.Common.{◌≡◌, ℕ, suc, ◌+◌, ◌<◌, ◌≤◌, max, true, false, not, cond, ◌||◌, IsTrue, List, [], ◌∷◌, length, Option, Some, None, ltb, inl, inr, refl, sym, ap, ◌∙◌, subst, arith}
 use Rattle.std.specs.Prelude.{slice_get, slice_index, nat_lt, nat_le}
 use Rattle.std.specs.List.{AllByRecursion}
 use Rattle.std.proofs.lemmas.Bool.{cases_Bool, cases_lt, cases_eq, cases_order, ltb-true, leb-true, lt-ltb, le-leb, le-ltb, or_left, or_right, not_from_false}
 use Rattle.std.proofs.lemmas.List.{get_or-set_same, get_or-set_other}
 use Rattle.std.proofs.lemmas.Option.{slice_get_within}
-use Rattle.proof_base.proofs.Lists.{list_all-from}
+use Rattle.weave_data.proofs.Lists.{list_all-from}
 use Rattle.program_defs.specs.declared.script.Script.{Script}
 use Rattle.program_defs.specs.declared.script.Request.{Request}
 use Rattle.report_rules.specs.declared.report.Report.{Report}
 use Rattle.report_rules.specs.declared.report.Reply.{Reply}
 use Rattle.report_rules.specs.declared.report.ReplyState.{ReplyState}
 use Rattle.report_rules.specs.declared.report.ReplyState.TheVariants.{Unbegun, Begun, Committed, Conflict, Refused, Finished}
-use Rattle.proof_base.specs.Facts.{AllHold}
+use Rattle.weave_data.specs.Facts.{AllHold}
 use Rattle.report_rules.specs.Lookups.{is_none_or, number_of, request_at, same_session}
 use Rattle.report_rules.specs.RightReport.{keeps_number, replies_clause}
 use Rattle.order_witness.specs.Refusals.{refused_after}

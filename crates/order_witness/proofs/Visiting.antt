@@ -1,4 +1,5 @@
 -- Marks of pairs whose later requests are programs: each is set at its request's place in the order, and stays.
+-- Used by `first_fault`, `mark_all`, `pairs_by_later`, `replay_program` and `replay_work`.
 use Rattle.std.proofs.Common.{◌≡◌, ◌≢◌, ℕ, suc, ◌+◌, ◌<◌, ◌≤◌, Bool, true, false, not, cond, eqb, ◌||◌, ◌&&◌, IsTrue, Contains, List, [], ◌∷◌, ◌++◌, length, take, drop, get_or, slice_index_or, Option, Some, None, Result, Ok, Err, inl, inr, refl, sym, ap, ◌∙◌, subst, arith}
 use Rattle.std.specs.Prelude.{◌↔◌, IfOk, MatchBool, slice_get}
 use Rattle.std.specs.declared.alloc.AllocError.{AllocError}
@@ -22,8 +23,8 @@ use Rattle.report_rules.specs.declared.report.Reply.{Reply}
 use Rattle.report_rules.specs.declared.report.Pair.{Pair}
 use Rattle.report_rules.specs.declared.report.ReplyState.{ReplyState}
 use Rattle.report_rules.specs.declared.report.ReplyState.TheVariants.{Unbegun, Begun, Committed, Conflict, Refused, Finished}
-use Rattle.proof_base.specs.Facts.{Facts, AllHold}
-use Rattle.proof_base.proofs.Members.{has_none, has_read, has_head, has_last}
+use Rattle.weave_data.specs.Facts.{Facts, AllHold}
+use Rattle.weave_data.proofs.Members.{has_none, has_read, has_head, has_last}
 use Rattle.report_rules.specs.Lookups.{is_in, is_some_and, is_committed_or_finished, may_be_listed, request_at, reply_at}
 use Rattle.report_rules.specs.Replay.{graph_at_place, graph_before}
 use Rattle.report_rules.specs.RightReport.{all_are_listed, listing_clause, replies_clause}

@@ -18,7 +18,7 @@ use Rattle.report_rules.specs.Lookups.{is_some_and, are_both, number_of, same_se
 abbrev pub request_precedes : Report → ℕ → ℕ → Bool
 request_precedes report a b = are_both (precedes (given_pairs report)) (stamp_at report a) (stamp_at report b)
 
--- no two begun requests have one stamp
+-- no two begun requests have the same stamp
 abbrev pub StampsDiffer : Report → Type 0
 StampsDiffer report = (a b : ℕ) (s : Stamp) → stamp_at report a ≡ Some s → stamp_at report b ≡ Some s → a ≡ b
 
@@ -38,7 +38,7 @@ is_before_reply stamp reply = is_some_and (stamp_before stamp) reply.stamp
 abbrev pub is_before_in : List Reply → Stamp → ℕ → Bool
 is_before_in replies stamp r = is_some_and (is_before_reply stamp) (slice_get replies r)
 
--- the one reply of a list has a stamp before that of one of another list
+-- the stamp of reply a of the first list is before that of reply b of the second
 abbrev pub stamps_lead : List Reply → List Reply → ℕ → ℕ → Bool
 stamps_lead replies others a b =
     is_some_and (λ (reply : Reply). is_some_and (λ stamp. is_before_in others stamp b) reply.stamp)
@@ -54,7 +54,7 @@ joins replies a b pair =
 abbrev pub pairs_lead : List Reply → List Pair → ℕ → ℕ → Bool
 pairs_lead replies pairs a b = list_any (joins replies a b) pairs
 
--- the commit numbers that replies tell
+-- the commit numbers in replies
 abbrev pub numbers_in : List Reply → List ℕ
 numbers_in replies = filter_map (λ (reply : Reply). number_of reply.state) replies
 

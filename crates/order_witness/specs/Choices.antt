@@ -24,7 +24,8 @@ home_in (Some stamp) = stamp.home
 abbrev pub home_at : Report → ℕ → ℕ
 home_at report r = home_in (stamp_at report r)
 
--- among the requests of the list that are free among the remaining ones, this is the first one with the lowest home; or none is free
+-- among the requests of the list that are free among the remaining ones, this is the first one with the lowest home; or
+-- none is free
 abbrev pub IsBest : Report → (ℕ → ℕ → Bool) → List ℕ → List ℕ → Option ℕ → Type 0
 IsBest report precedence remaining requests None = AllByRecursion (λ r. is_free precedence remaining r ≡ false) requests
 IsBest report precedence remaining requests (Some best) =

@@ -5,11 +5,11 @@ use Rattle.std.specs.Prelude.{ℕ, Bool, IsTrue}
 abbrev pub Test : Type 0
 Test = ℕ → ℕ → Bool
 
--- two steps of the relation are one
+-- the relation is transitive
 abbrev pub IsTransitive : Test → Type 0
 IsTransitive leads = (a b c : ℕ) → IsTrue (leads a b) → IsTrue (leads b c) → IsTrue (leads a c)
 
--- the one relation has what the other has
+-- the first relation has all that the second has
 abbrev pub HasAllOf : Test → Test → Type 0
 HasAllOf more less = (a b : ℕ) → IsTrue (less a b) → IsTrue (more a b)
 

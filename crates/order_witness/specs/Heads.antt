@@ -63,7 +63,7 @@ pub record IsFirstLeft (xs : List ℕ) (done : List Bool) (from end first : ℕ)
 abbrev pub IsAdvanced : List ℕ → List Bool → Run → Run → Type 0
 IsAdvanced line done old new = (new.end ≡ old.end) × IsFirstLeft line done old.next old.end new.next
 
--- and so for each run
+-- the same of each run
 abbrev pub AreAdvanced : List ℕ → List Bool → List Run → List Run → Type 0
 AreAdvanced line done old new = (i : ℕ) → i < length old → IsAdvanced line done (run_at old i) (run_at new i)
 
@@ -88,7 +88,7 @@ abbrev pub AreEndsOf : List Reply → List Pair → List (List ℕ) → Type 0
 AreEndsOf replies pairs befores =
     (e r : ℕ) → r < length replies → is_in e (list_at befores r) ≡ pairs_lead replies pairs e r
 
--- and so for the pairs of a report
+-- the lists have the earlier ends of a report's pairs
 abbrev pub AreEarlierEnds : Report → List (List ℕ) → Type 0
 AreEarlierEnds report befores = AreEndsOf report.replies report.pairs befores
 

@@ -8,7 +8,7 @@ use Rattle.report_rules.specs.declared.report.Reply.{Reply}
 use Rattle.report_rules.specs.declared.report.Pair.{Pair}
 use Rattle.vector_stamp.specs.Precedence.{Given}
 use Rattle.report_rules.specs.Lookups.{is_none_or, stamp_at, given_by, given_pairs}
-use Rattle.order_graph.specs.Kept.{Kept}
+use Rattle.order_graph.specs.Kept.{PairsView}
 use Rattle.order_witness.specs.declared.paired.Precedence.{Precedence}
 use Rattle.order_witness.specs.declared.paired.Precedence.TheVariants.{Pairs, Closed}
 use Rattle.order_witness.specs.Bits.{leads}
@@ -18,7 +18,7 @@ use Rattle.order_witness.specs.Begun.{request_precedes}
 abbrev pub begun_stamps : Report → List Stamp
 begun_stamps report = filter_map (λ (reply : Reply). reply.stamp) report.replies
 
--- the home of a stamp, where there is one, is below 8
+-- the home of a stamp, if there is one, is below 8
 abbrev pub is_at_eight_homes : Option Stamp → Bool
 is_at_eight_homes stamp = is_none_or (λ (s : Stamp). nat_lt s.home 8) stamp
 
@@ -27,7 +27,7 @@ abbrev pub given_at : Report → Pair → Option Given
 given_at report pair = given_by (stamp_at report pair.earlier) (stamp_at report pair.later)
 
 -- the graph has the pairs of the report, whose begun requests have coherent stamps
-abbrev pub HoldsPairs : Report → Kept → Type 0
+abbrev pub HoldsPairs : Report → PairsView → Type 0
 HoldsPairs report kept = (kept.pairs ≡ given_pairs report) × AreCoherent (begun_stamps report)
 
 -- it says which begun requests of the report precede which

@@ -13,27 +13,27 @@ use Rattle.report_rules.specs.Lookups.{AreBoth, is_some_and, request_at, number_
 use Rattle.report_rules.specs.Replay.{IsWorkRefused, graph_of_commits}
 use Rattle.report_rules.specs.RightReport.{stands_among_commits}
 
--- on this graph, where it is there, the request is refused at this operation for this reason
+-- on this graph, if it is there, the request is refused at this operation for this reason
 abbrev pub IsRefusedOn : Option PlainGraph → Option Request → ℕ → Reason → Type 0
 IsRefusedOn graph request op reason = AreBoth (λ g (r : Request). IsWorkRefused g r.work op reason) graph request
 
--- a request that is refused is so on this graph
+-- a request whose reply says that it is refused is refused as said on this graph
 abbrev pub IsRefusedSo : Script → Option PlainGraph → ℕ → ReplyState → Type 0
 IsRefusedSo script graph r (Refused op reason at) = IsRefusedOn graph (request_at script r) op reason
 IsRefusedSo script graph r _ = ⊤
 
--- a mark says whether this is so
+-- the mark says whether the fact holds
 abbrev pub Marks : Bool → Type 0 → Type 0
 Marks mark Fact = MatchBool mark Fact (¬ Fact)
 
--- of a request that is refused after this number of commits the new mark says whether it is so on this graph; another
--- one's stays
+-- of a request that is refused after this number of commits the new mark says whether this graph refuses it as said;
+-- the mark of any other stays
 abbrev pub IsMarkedOn : Script → PlainGraph → ℕ → ℕ → ReplyState → Bool → Bool → Type 0
 IsMarkedOn script graph after r (Refused op reason at) old new =
     MatchBool (at == after) (Marks new (IsRefusedOn (Some graph) (request_at script r) op reason)) (new ≡ old)
 IsMarkedOn script graph after r _ old new = new ≡ old
 
--- and so for each reply
+-- the marks of all replies change like this
 abbrev pub AreMarkedOn : Script → PlainGraph → ℕ → List Reply → List Bool → List Bool → Type 0
 AreMarkedOn script graph after replies old new =
     (place : ℕ) (reply : Reply) → slice_get replies place ≡ Some reply
@@ -45,7 +45,7 @@ abbrev pub refused_after : ReplyState → Option ℕ
 refused_after (Refused op reason at) = Some at
 refused_after _ = None
 
--- the marks of those that are refused after at most this number of commits say whether they are so
+-- the marks of those that are refused after at most this number of commits say whether they are refused there as said
 abbrev pub AreMarkedUpTo : ℕ → Script → Report → List Bool → Type 0
 AreMarkedUpTo most script report marks =
     (place at : ℕ) (reply : Reply) → slice_get report.replies place ≡ Some reply → refused_after reply.state ≡ Some at
@@ -57,7 +57,7 @@ AreMarkedUpTo most script report marks =
 abbrev pub AreMarked : Script → Report → List Bool → Type 0
 AreMarked script report marks = AreMarkedUpTo (commits report) script report marks
 
--- by its mark, a request that is refused stands well among the commits, and is so after them
+-- a refusal's number of commits is in order, and by its mark the request is refused after them
 abbrev pub is_refusal_in_place : Script → Report → ℕ → ReplyState → Bool → Bool
 is_refusal_in_place script report r (Refused op reason at) mark = stands_among_commits script report r at && mark
 is_refusal_in_place script report r _ mark = true

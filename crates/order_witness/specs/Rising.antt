@@ -63,13 +63,13 @@ DoSessionsTakeTurns script replies =
     (a b : ℕ) (x y : Request) → a < b → b < length replies → request_at script a ≡ Some x → request_at script b ≡ Some y
     → x.session ≡ y.session → IsTrue (are_begun_in_turn (stamp_in replies a) (stamp_in replies b))
 
--- the reply is of the request of its place, which there is, and its stamp is of the request's gatekeeper
+-- the reply is of the request of its place, which exists, and its stamp is of the request's gatekeeper
 abbrev pub is_at_place : Script → ℕ → Reply → Bool
 is_at_place script place reply =
     (reply.request == place) && nat_lt reply.request (length script.requests)
     && is_none_or (is_home_of (request_at script reply.request)) reply.stamp
 
--- and so for each reply
+-- each of the first `count` replies is at its place
 abbrev pub AreAtPlaces : Script → List Reply → ℕ → Type 0
 AreAtPlaces script replies count =
     (place : ℕ) (reply : Reply) → place < count → slice_get replies place ≡ Some reply

@@ -46,7 +46,7 @@ AreNumbersInTurn earlier later =
     ((n at : ℕ) → number_of earlier ≡ Some n → refused_after later ≡ Some at → n ≤ at)
     × ((n at : ℕ) → refused_after earlier ≡ Some at → number_of later ≡ Some n → at < n)
 
--- and so for the first replies
+-- the numbers of each two of the first `count` replies of one session are in turn
 abbrev pub DoNumbersTakeTurns : Script → List Reply → ℕ → Type 0
 DoNumbersTakeTurns script replies count =
     (a b : ℕ) (earlier later : Reply) (x y : Request) → a < b → b < count → slice_get replies a ≡ Some earlier
@@ -59,7 +59,7 @@ abbrev pub AreNumbersKept : Script → List Reply → ℕ → ℕ → Type 0
 AreNumbersKept script replies r at =
     IsTrue (list_all (λ (other : Reply). not (same_session script other.request r) || keeps_number at r other) replies)
 
--- and so for each refused request
+-- the commit numbers keep clear of each refused request
 abbrev pub AreAllKept : Script → List Reply → Type 0
 AreAllKept script replies =
     (place at : ℕ) (reply : Reply) → slice_get replies place ≡ Some reply → refused_after reply.state ≡ Some at

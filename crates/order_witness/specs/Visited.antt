@@ -24,14 +24,14 @@ abbrev pub MarksVisit : PlainGraph → Name → Work → ReplyState → Bool →
 MarksVisit graph v (Look program) (Finished answer) mark = Marks mark (IsVisited graph program v)
 MarksVisit graph v _ _ mark = ⊤
 
--- the mark of a pair says so of its later request, at that one's place
+-- the mark of a pair says this of its later request, at that one's place
 abbrev pub IsMarkedPair : Script → Report → Pair → Bool → Type 0
 IsMarkedPair script report pair mark =
     (request : Request) (reply : Reply) → request_at script pair.later ≡ Some request
     → reply_at report pair.later ≡ Some reply
     → MarksVisit (graph_at_place script report pair.later) pair.vertex request.work reply.state mark
 
--- and so for each pair
+-- each pair is marked
 abbrev pub AreVisitsMarked : Script → Report → List Bool → Type 0
 AreVisitsMarked script report marks =
     (place : ℕ) (pair : Pair) → slice_get report.pairs place ≡ Some pair
@@ -61,7 +61,7 @@ is_pair_in_place script report pair mark =
     may_be_later script report pair.vertex pair.later mark request.work reply.state)
     (request_at script pair.later) (reply_at report pair.later)
 
--- the pairs at these places are marked so by work on this graph
+-- the pairs at these places are marked like this by work on this graph
 abbrev pub AreMarkedBy : List Pair → PlainGraph → Work → ReplyState → List ℕ → List Bool → Type 0
 AreMarkedBy pairs graph work state places marks =
     (place : ℕ) (pair : Pair) → Contains places place → slice_get pairs place ≡ Some pair → place < length marks

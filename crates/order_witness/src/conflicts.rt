@@ -3,7 +3,7 @@
 ghost use Rattle.std.specs.Prelude.{◌≡◌, ◌&&◌, not, IfOk};
 ghost use Rattle.std.specs.List.{list_all};
 ghost use Rattle.report_rules.specs.declared.report.Reply.{Reply};
-ghost use Rattle.proof_base.specs.Facts.{AllHold};
+ghost use Rattle.weave_data.specs.Facts.{AllHold};
 ghost use Rattle.report_rules.specs.RightReport as right;
 ghost use Rattle.report_rules.specs.Lookups as told;
 ghost use Rattle.order_witness.specs.Paired.{IsPrecedenceOf};
@@ -19,7 +19,7 @@ use std::alloc::{AllocError, Global};
 use vector_stamp::laws::precedence_is_decided;
 use weave_data::Name;
 
-/// The first reply line that breaks the clause, from 1, where the clause on replies holds.
+/// The first reply line that breaks the clause, from 1. The clause on replies must hold.
 ///
 /// Precedence by the pairs is found only if the stamps of a conflict leave its two requests open.
 pub fn first_fault(

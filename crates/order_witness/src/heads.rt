@@ -10,7 +10,7 @@ ghost use Rattle.report_rules.specs.declared.report.Reply.{Reply};
 ghost use Rattle.report_rules.specs.RightReport.{replies_clause};
 ghost use Rattle.report_rules.specs.Lookups as told;
 ghost use Rattle.program_defs.specs.declared.script.Script.{Script};
-ghost use Rattle.proof_base.specs.Facts.{AllHold};
+ghost use Rattle.weave_data.specs.Facts.{AllHold};
 ghost use Rattle.order_witness.specs.Begun.{is_request_before};
 ghost use Rattle.order_witness.specs.Choices.{IsBest, home_at, is_better, is_free};
 ghost use Rattle.order_witness.specs.Heads as heads;
@@ -30,7 +30,7 @@ pub struct Run {
     pub end: usize,
 }
 
-/// For each request the earlier ends of its pairs, where both ends are begun.
+/// For each request the earlier ends of those of its pairs whose two ends are begun.
 pub fn earlier_ends(
     alloc: Global,
     replies: &[Reply],
@@ -83,7 +83,7 @@ pub fn runs_of(alloc: Global, report: &Report, line: &[usize]) -> Result<Vec<Run
     Ok(runs)
 }
 
-/// The next request in the printed order: of those left that none of them precedes, the one of the least home. The runs
+/// The next request in the printed order: of those left with no predecessor left, the one of the lowest home. The runs
 /// and what is seen go on to the requests that are left.
 pub fn next(
     alloc: Global,

@@ -1,7 +1,7 @@
 //! The clause on order by the graph of the pairs: each listed request is compared with the latest listed one of each
 //! gatekeeper.
 ghost use Rattle.std.specs.Prelude.{◌≡◌, IsTrue, IfOk};
-ghost use Rattle.proof_base.specs.Facts.{AllHold};
+ghost use Rattle.weave_data.specs.Facts.{AllHold};
 ghost use Rattle.report_rules.specs.RightReport as right;
 ghost use Rattle.report_rules.specs.Lookups as told;
 ghost use Rattle.order_witness.specs.Begun.{request_precedes};
@@ -16,7 +16,7 @@ use report_rules::Report;
 use std::alloc::{AllocError, Global};
 use vector_stamp::laws::{precedence_is_decided, stamps_are_ordered};
 
-/// Whether the graph of the pairs shows that the clause on order holds, where the clause on replies does. It can't be
+/// Whether the graph of the pairs shows that the clause on order holds. The clause on replies must hold. It can't be
 /// built if a pair may not be added.
 ///
 /// The listed stamps of a gatekeeper must rise. Then a request that precedes one listed before it precedes the latest

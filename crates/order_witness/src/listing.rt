@@ -2,7 +2,7 @@
 ghost use Rattle.std.specs.Prelude.{◌≡◌, ℕ, ◌<◌, ◌/◌, ◌==◌, ◌&&◌, ◌||◌, not, false, None, length, IsTrue, IfOk};
 ghost use Rattle.std.specs.List.{list_all};
 ghost use Rattle.report_rules.specs.declared.report.Reply.{Reply};
-ghost use Rattle.proof_base.specs.Facts.{facts_in_turn};
+ghost use Rattle.weave_data.specs.Facts.{facts_in_turn};
 ghost use Rattle.report_rules.specs.RightReport as right;
 ghost use Rattle.report_rules.specs.Lookups as told;
 ghost use Rattle.order_witness.specs.Bits.{has_bit};
@@ -14,8 +14,8 @@ use crate::words::{is_committed_or_finished, may_be_listed};
 use report_rules::Report;
 use std::alloc::{AllocError, Global};
 
-/// The first place in the order that repeats an earlier one or may not be listed, from 1; else one more than its length
-/// where a request is missing.
+/// The first place in the order that repeats an earlier one or may not be listed, from 1. If none is and a request is
+/// missing: the place after its end.
 pub fn first_fault(alloc: Global, report: &Report) -> Result<Option<u64>, AllocError>
     ensures { IfOk result (IsFirstFault (right.listing_clause report.now)) }
 {

@@ -1,7 +1,7 @@
 //! The clause on numbers: the commit numbers are 1 up to their count, each once.
 ghost use Rattle.std.specs.Prelude.{◌≡◌, ℕ, ◌<◌, ◌/◌, ◌==◌, ◌&&◌, ◌||◌, nat_lt, nat_le, not, false, length, IsTrue, IfOk};
 ghost use Rattle.report_rules.specs.declared.report.Reply.{Reply};
-ghost use Rattle.proof_base.specs.Facts.{facts_in_turn};
+ghost use Rattle.weave_data.specs.Facts.{facts_in_turn};
 ghost use Rattle.report_rules.specs.RightReport as right;
 ghost use Rattle.report_rules.specs.Lookups as told;
 ghost use Rattle.order_witness.specs.Bits.{has_bit};

@@ -1,8 +1,8 @@
-//! The clause on order: no listed request precedes itself or one listed before it, and those of a session stand in its
+//! The clause on order: no listed request precedes itself or one listed before it, and those of a session are in its
 //! order.
 ghost use Rattle.std.specs.Prelude.{◌≡◌, ◌||◌, ℕ, not, nat_lt, IfOk};
 ghost use Rattle.std.specs.List.{list_all};
-ghost use Rattle.proof_base.specs.Facts.{AllHold};
+ghost use Rattle.weave_data.specs.Facts.{AllHold};
 ghost use Rattle.report_rules.specs.RightReport as right;
 ghost use Rattle.report_rules.specs.Lookups as told;
 ghost use Rattle.order_witness.specs.Bits.{leads};
@@ -19,8 +19,8 @@ use report_rules::Report;
 use std::alloc::{AllocError, Global};
 use vector_stamp::laws::{precedence_is_decided, stamps_are_ordered};
 
-/// The first place in the order that breaks the clause with itself or an earlier place, from 1, where the clause on
-/// replies holds.
+/// The first place in the order that breaks the clause with itself or an earlier place, from 1. The clause on replies
+/// must hold.
 ///
 /// One walk over the order and the pairs shows that there is none, if the pairs join listed requests alone. If it
 /// doesn't, the graph of the pairs is asked. Precedence is closed over all requests only if that shows nothing either.

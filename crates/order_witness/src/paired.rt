@@ -6,7 +6,7 @@ ghost use Rattle.vector_stamp.specs.declared.clock.Stamp.{Stamp};
 ghost use Rattle.vector_stamp.specs.Coherence.{AreCoherent};
 ghost use Rattle.vector_stamp.specs.Precedence.{precedes};
 ghost use Rattle.report_rules.specs.declared.report.Reply.{Reply};
-ghost use Rattle.proof_base.specs.Facts.{AllHold};
+ghost use Rattle.weave_data.specs.Facts.{AllHold};
 ghost use Rattle.order_graph.specs.Building.{ends_of};
 ghost use Rattle.report_rules.specs.RightReport.{replies_clause};
 ghost use Rattle.order_witness.specs.Begun.{request_precedes};
@@ -34,7 +34,7 @@ pub enum Precedence {
     Closed(Relation),
 }
 
-/// Precedence between the begun requests of a report, where the clause on replies holds.
+/// Precedence between the begun requests of a report. The clause on replies must hold.
 ///
 /// The pairs are added one after another. If one may not be added, since it closes a cycle or its stamps are ordered,
 /// or if a gatekeeper is none of the eight, precedence is closed over all requests.

@@ -40,7 +40,7 @@ fn none_listed(alloc: Global) -> Result<Vec<Option<Stamp>>, AllocError> {
     vec![in alloc; None; 8]
 }
 
-// Gives the request the next place, where it may come next. Reports whether it did.
+// Gives the request the next place, if it may come next. Reports whether it did.
 fn put(
     report: &Report,
     request: u32,

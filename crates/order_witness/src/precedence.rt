@@ -9,7 +9,7 @@ use std::alloc::{AllocError, Global};
 use vector_stamp::Stamp;
 use vector_stamp::laws::{one_pair_joins_its_ends, precedence_is_decided};
 
-/// The relation between the requests of a report, by number: which precedes which. No two begun ones may have one
+/// The relation between the requests of a report, by number: which precedes which. No two begun ones may have the same
 /// stamp.
 pub fn precedence_of(alloc: Global, report: &Report) -> Result<Relation, AllocError>
     requires { StampsDiffer report.now }

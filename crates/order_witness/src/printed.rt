@@ -1,7 +1,7 @@
 //! The printed order.
 ghost use Rattle.std.specs.Prelude.{◌≡◌, ◌++◌, ◌↔◌, IsTrue, IfOk, OnOk, MatchOption, Some, length, replicate};
 ghost use Rattle.std.specs.List.{list_all};
-ghost use Rattle.proof_base.specs.Facts.{AllHold};
+ghost use Rattle.weave_data.specs.Facts.{AllHold};
 ghost use Rattle.report_rules.specs.RightReport.{replies_clause};
 ghost use Rattle.report_rules.specs.PrintedOrder.{IsPrintedOrder, begun_requests};
 ghost use Rattle.report_rules.specs.Lookups as told;
@@ -112,7 +112,7 @@ fn none_seen(alloc: Global, count: usize) -> Result<Vec<usize>, AllocError>
     vec![in alloc; 0; count]
 }
 
-// Adds the request to the order, where it may be listed.
+// Adds the request to the order, if it may be listed.
 fn add(report: &Report, order: &mut Vec<u32>, request: usize) -> Result<(), AllocError>
     ensures { OnOk result (order.new.items ≡ order.old.items ++ listed_in (told.reply_at report.now request)) }
 {

@@ -3,7 +3,7 @@
 ghost use Rattle.std.specs.Prelude.{◌≡◌, ◌||◌, ℕ, not, false, Some, IsTrue, IfOk, slice_index_or};
 ghost use Rattle.std.specs.List.{list_all};
 ghost use Rattle.report_rules.specs.declared.report.Reply.{Reply};
-ghost use Rattle.proof_base.specs.Facts.{AllHold};
+ghost use Rattle.weave_data.specs.Facts.{AllHold};
 ghost use Rattle.order_witness.specs.Turns.{AreAllKept, AreNumbersKept};
 ghost use Rattle.report_rules.specs.RightReport as right;
 ghost use Rattle.report_rules.specs.Lookups as told;
@@ -17,7 +17,7 @@ use program_defs::Script;
 use report_rules::{Reply, ReplyState, Report};
 use std::alloc::{AllocError, Global};
 
-/// The first reply line that breaks the clause, from 1, where the clause on replies holds.
+/// The first reply line that breaks the clause, from 1. The clause on replies must hold.
 ///
 /// One walk shows that commit numbers and refusals are in turn in each session. Each refusal is compared with all
 /// replies only if it doesn't.

@@ -3,7 +3,7 @@
 ghost use Rattle.std.specs.Prelude.{◌≡◌, ◌≢◌, ◌<◌, ◌^◌, ◌↔◌, ℕ, false, IsTrue, IfOk, OnOk, MatchBool, Ok, None, Some, Contains, length, slice_get, slice_index_or};
 ghost use Rattle.graph_ops.specs.Graphs.{plain_of};
 ghost use Rattle.graph_ops.specs.PlainGraph.{graph_left, transaction};
-ghost use Rattle.proof_base.specs.Facts.{AllHold};
+ghost use Rattle.weave_data.specs.Facts.{AllHold};
 ghost use Rattle.program_defs.specs.declared.script.Work.{Work};
 ghost use Rattle.program_defs.specs.Searching.{has_name};
 ghost use Rattle.report_rules.specs.declared.report.Pair.{Pair};
@@ -25,9 +25,8 @@ use report_rules::{Pair, ReplyState, Report};
 use std::alloc::{AllocError, Global};
 
 /// The first place in the order whose outcome isn't what its reply says, from 1. If there is none, the marks say of
-/// each
-/// pair whose later request is a finished program whether that one visits the pair's vertex at its place. Each program
-/// in the order is asked once.
+/// each pair whose later request is a finished program whether that one visits the pair's vertex at its place. Each
+/// program in the order is asked once.
 pub fn first_fault(
     alloc: Global,
     script: &Script,

@@ -3,7 +3,7 @@
 ghost use Rattle.std.specs.Prelude.{◌≡◌, ◌==◌, ◌&&◌, nat_lt, IsTrue, IfOk, length};
 ghost use Rattle.std.specs.List.{list_all};
 ghost use Rattle.report_rules.specs.declared.report.Reply.{Reply};
-ghost use Rattle.proof_base.specs.Facts.{AllHold, facts_in_turn};
+ghost use Rattle.weave_data.specs.Facts.{AllHold, facts_in_turn};
 ghost use Rattle.report_rules.specs.RightReport as right;
 ghost use Rattle.report_rules.specs.Lookups.{is_none_or, request_at};
 ghost use Rattle.order_witness.specs.Judgement.{IsFirstFault};
@@ -16,7 +16,7 @@ use report_rules::{Reply, Report};
 use std::alloc::{AllocError, Global};
 use vector_stamp::Stamp;
 
-/// The first reply line that breaks the clause, from 1; one more than the last where lines are missing.
+/// The first reply line that breaks the clause, from 1; one more than the last if lines are missing.
 ///
 /// A sort by stamps, and one by sessions, find that there is none. Each two replies are compared only if they do not.
 pub fn first_fault(
@@ -51,7 +51,7 @@ fn fault_in_place(
     Ok(first_out_of_place(script, replies))
 }
 
-// Whether each reply is in place. It is never wrong where it says so.
+// Whether each reply is in place. It is never wrong when it says so.
 fn are_surely_in_place(
     alloc: Global,
     script: &Script,

@@ -13,7 +13,7 @@ use std::alloc::{AllocError, Global};
 use vector_stamp::Stamp;
 use vector_stamp::laws::stamps_are_ordered;
 
-/// Whether the stamps of each two begun requests are apart. It is never wrong where it says so.
+/// Whether the stamps of each two begun requests are apart. It is never wrong when it says so.
 pub fn are_stamps_apart(alloc: Global, replies: &[Reply]) -> Result<bool, AllocError>
     ensures { IfOk result (λ holds. IsTrue holds → AreStampsApart replies.now) }
 {
@@ -114,7 +114,7 @@ fn has_lesser_id(a: &Stamp, b: &Stamp) -> bool
         || (a.clock.epoch == b.clock.epoch && a.own_count() < b.own_count())
 }
 
-/// Whether the requests of each session begin in turn. It is never wrong where it says so.
+/// Whether the requests of each session begin in turn. It is never wrong when it says so.
 pub fn do_sessions_take_turns(
     alloc: Global,
     script: &Script,

@@ -9,7 +9,7 @@ use std::alloc::{AllocError, Global};
 
 /// Whether in each session no commit number is above a later refusal's number of commits, and each is above an earlier
 /// one's.
-/// It is never wrong where it says so, and says so only of sessions whose numbers are at most the number of replies.
+/// It is never wrong when it says so, and says so only of sessions whose numbers are at most the number of replies.
 pub fn do_numbers_take_turns(
     alloc: Global,
     script: &Script,

@@ -34,7 +34,7 @@ pub fn reply_at(report: &Report, r: u32) -> Option<&Reply>
     report.replies.as_slice().get(r as usize)
 }
 
-/// The stamp of request r, where it is begun.
+/// The stamp of request r, if it is begun.
 pub fn stamp_at(report: &Report, r: u32) -> Option<Stamp>
     ensures { result ≡ told.stamp_at report.now r }
 {
@@ -44,7 +44,7 @@ pub fn stamp_at(report: &Report, r: u32) -> Option<Stamp>
     }
 }
 
-/// The stamp of the request at a place in the report, from 0, where it is begun.
+/// The stamp of the request at a place in the report, from 0, if it is begun.
 pub fn stamp_of(report: &Report, place: usize) -> Option<Stamp>
     ensures { result ≡ told.stamp_at report.now place }
 {

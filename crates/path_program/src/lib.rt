@@ -1,10 +1,9 @@
-//! The program `path`, and any of the node programs: made from a program as plain data, fed with one state after the other.
+//! The program `path`, and any of the node programs: made from a program as plain data, fed with one state after the
+//! other.
 #![tactic(auto)]
 
 mod any;
 mod path;
-#[cfg(test)]
-mod tests;
 
 pub use any::AnyProgram;
 pub use path::PathProgram;

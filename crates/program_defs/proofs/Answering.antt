@@ -1,4 +1,5 @@
--- What a search tells of its program.
+-- What a search says of its program.
+-- Used by `ask_with_visits`, `path_searches_are_right`, `searches_are_right`, Asking, Ending and Pathing.
 use Rattle.std.proofs.Common.{◌≡◌, ℕ, Bool, true, false, not, List, [], ◌∷◌, ◌++◌, IsTrue, length, refl, sym, ap, subst, ◌∙◌, Option, Some, None}
 use Rattle.std.specs.Prelude.{is_some, IsSome, if◌then◌else◌}
 use Rattle.std.specs.List.{find}
@@ -9,6 +10,7 @@ use Rattle.weave_data.specs.declared.name.Name.{Name}
 use Rattle.graph_ops.specs.Mentions.{is_among}
 use Rattle.graph_ops.specs.Operations.{State}
 use Rattle.graph_ops.specs.PlainGraph.{PlainGraph}
+use Rattle.graph_ops.proofs.Vertices.{itself}
 use Rattle.program_defs.specs.declared.program.Filter.{Filter}
 use Rattle.program_defs.specs.declared.program.Program.{Program}
 use Rattle.program_defs.specs.declared.program.Program.TheVariants.{Reach, Around}
@@ -21,7 +23,7 @@ use Rattle.program_defs.specs.Walks.{is_walk, is_walk_within}
 use Rattle.program_defs.proofs.Closed.{end_present}
 use Rattle.program_defs.proofs.Cutting.{cut, cut-free}
 use Rattle.program_defs.proofs.Levels.{levels-are-distances}
-use Rattle.program_defs.proofs.Members.{itself, as_set-has, as_set-only}
+use Rattle.program_defs.proofs.Members.{as_set-has, as_set-only}
 use Rattle.program_defs.proofs.NextVisit.{read-there, visits-of-reads}
 use Rattle.program_defs.proofs.Once.{new-after, visits-once}
 use Rattle.program_defs.proofs.Onward.{find-next, first-cut}
@@ -30,7 +32,7 @@ use Rattle.program_defs.specs.Searching.{IsOnce}
 use Rattle.program_defs.proofs.Sets.{set-rising, as_set-set}
 use Rattle.program_defs.proofs.VisitsAgree.{up-to-only}
 
--- none is left where all are read
+-- none is left if all are read
 find-none : (keys visits : List Name) → ((v : Name) → IsTrue (is_among visits v) → IsTrue (is_among keys v)) → find (λ v. not (is_among keys v)) visits ≡ None
 find-none keys [] all = refl
 find-none keys (v ∷ visits) all = rw (all v (or_left _ _ (itself v))) (find-none keys visits (λ w k. all w (or_right (same_name v w) _ k)))
@@ -66,7 +68,7 @@ no-first : (names : List Name) → IsSome (first_of names) → ¬ (first_of name
 no-first [] some none = cc
 no-first (x ∷ xs) some none = cc
 
--- where there is no next one, all are read
+-- if there is no next one, all are read
 pub over-at-end : (program : Program) (state : SearchState) (reads : List (Name × State)) → HasSearched program state reads → next_of state ≡ None → AllRead reads program
 over-at-end program state reads h none = at state.over refl none
   where

@@ -1,4 +1,5 @@
 -- The plain answer depends on the states at the vertices visited alone.
+-- Used by `only_visits_matter`, Asking and Feeding.
 use Rattle.std.proofs.Common.{◌&&◌, ◌≡◌, ℕ, ◌+◌, ◌-◌, ◌≤◌, ◌<◌, false, List, [], ◌∷◌, ◌++◌, IsTrue, sym, ap, subst, ◌∙◌, Option, Some, None, ◌⊎◌, inl, inr, arith}
 use Rattle.std.specs.Prelude.{is_some}
 use Rattle.std.proofs.lemmas.Bool.{cases_lt, both_ways, or_cases, or_left, or_right, and_parts, and_from, leb-true, le-leb, false_from_ne_true}
@@ -6,6 +7,7 @@ use Rattle.weave_data.specs.Names.{same_name, one_name}
 use Rattle.weave_data.specs.declared.name.Name.{Name}
 use Rattle.graph_ops.specs.Mentions.{is_among}
 use Rattle.graph_ops.specs.PlainGraph.{PlainGraph}
+use Rattle.graph_ops.proofs.Vertices.{itself}
 use Rattle.program_defs.specs.declared.program.Filter.{Filter}
 use Rattle.program_defs.specs.declared.program.Program.{Program}
 use Rattle.program_defs.specs.declared.program.Program.TheVariants.{Show, Reach, Around, Path}
@@ -15,7 +17,7 @@ use Rattle.program_defs.specs.PlainAnswer.{IsPlainAnswer}
 use Rattle.program_defs.specs.Visits.{through_level, up_to, visits_to}
 use Rattle.program_defs.specs.Walks.{targets, is_walk, walk_length, is_walk_within, IsLeastWalk}
 use Rattle.program_defs.proofs.Closed.{first_step, one_vertex, end_present}
-use Rattle.program_defs.proofs.Members.{itself, among-left}
+use Rattle.program_defs.proofs.Members.{among-left}
 use Rattle.program_defs.proofs.Levels.{levels-are-distances}
 use Rattle.program_defs.specs.Agreement.{Agree, AgreeOnVisits}
 use Rattle.program_defs.proofs.OneList.{not-there, goes-on}
@@ -23,7 +25,7 @@ use Rattle.program_defs.proofs.VisitsAgree.{target-there, up-to-only, same-level
 
 -- Walks
 
--- a walk in the one graph is one in the other, where these agree on its vertices
+-- a walk in the first graph is one in the second, if these agree on its vertices
 walk-same : (g h : PlainGraph) (pass : Option Filter) (walk : List Name) (from to : Name) → Agree g h walk → IsTrue (is_walk g pass from to walk) → IsTrue (is_walk h pass from to walk)
 walk-same g h pass [] from to a w = w
 walk-same g h pass (v ∷ []) from to a w = subst (λ s. IsTrue (same_name from v && is_some s && same_name v to)) (a v (or_left _ _ (itself v))) w
@@ -78,18 +80,18 @@ longer-levels : (g : PlainGraph) (pass : Option Filter) (from : Name) (n m : ℕ
 longer-levels g pass from n m le = let rest = goes-on g pass from (m - n) n in let e : m - n + n ≡ m = omega (arith, le) in (rest.0, ap (λ k. through_level k g pass from) (sym e) ∙ rest.1)
 
 module _ (g : PlainGraph) (pass : Option Filter) (from : Name) where
-  -- a walk's end stands in the levels that it reaches
+  -- a walk's end is in the levels that it reaches
   reaches : (to : Name) (walk : List Name) (n : ℕ) → IsTrue (is_walk g pass from to walk) → walk_length walk ≤ n → IsTrue (is_among (through_level n g pass from) to)
   reaches to walk n w le = (levels-are-distances g pass from n to (end_present g pass from to walk w)).1 (walk, and_from _ _ w (le-leb (walk_length walk) n le))
 
-  -- and what stands there and is there is a walk's end
+  -- and an existing vertex of these levels is a walk's end
   reached-by : (to : Name) (n : ℕ) → IsTrue (is_some (g to)) → IsTrue (is_among (through_level n g pass from) to) → (walk : List Name) × IsTrue (is_walk g pass from to walk) × (walk_length walk ≤ n)
   reached-by to n there k =
       let w = (levels-are-distances g pass from n to there).0 k in
       let parts = and_parts (is_walk g pass from to w.0) _ w.1 in
       (w.0, parts.0, leb-true (walk_length w.0) n parts.1)
 
--- Walks to a target, where the graphs agree on what is visited up to it
+-- Walks to a target, if the graphs agree on what is visited up to it
 
 module _ (g h : PlainGraph) (pass : Option Filter) (from to : Name) where
   -- there is a walk of at most that many edges in the other graph too
@@ -99,13 +101,13 @@ module _ (g h : PlainGraph) (pass : Option Filter) (from to : Name) where
       let present : IsTrue (is_some (h to)) = subst (λ s. IsTrue (is_some s)) (a to there) (end_present g pass from to walk w) in
       reached-by h pass from to n present (up-to-only to (through_level n h pass from) to (subst (λ xs. IsTrue (is_among xs to)) same there))
 
-  -- what stands in levels that don't have the target is visited
+  -- what is in levels that don't have the target is visited
   before-target : (n bound : ℕ) → n ≤ bound → is_among (through_level n g pass from) to ≡ false → (v : Name) → IsTrue (is_among (through_level n g pass from) v) → IsTrue (is_among (up_to to (through_level bound g pass from)) v)
   before-target n bound le none v k =
       let more = longer-levels g pass from n bound le in
       subst (λ xs. IsTrue (is_among xs v)) (sym (ap (up_to to) more.1 ∙ not-there to (through_level n g pass from) more.0 none)) (among-left (through_level n g pass from) (up_to to more.0) v k)
 
-  -- where no shorter walk leads there, the target isn't in the levels before
+  -- if no shorter walk leads there, the target isn't in the levels before
   not-before : (d : ℕ) → ((other : List Name) → IsTrue (is_walk g pass from to other) → d ≤ walk_length other) → IsTrue (is_some (g to)) → (n : ℕ) → n < d → is_among (through_level n g pass from) to ≡ false
   not-before d least there n lt = false_from_ne_true _ (λ k. let w = reached-by g pass from to n there k in let le = w.2 in let more = least w.0 w.1 in omega (arith, le, more, lt))
 
@@ -146,7 +148,7 @@ least-same g h pass from to bound a b walk least =
       first = λ other o same. least.first other (least-over h g pass from to bound b other o (omega (arith, same, le)) (λ third t. let k = shortest third t in omega (arith, same, k))) same;
     }
 
--- where each agrees with the other on what its own program visits, through each level
+-- if each agrees with the other on what its own program visits, through each level
 same-at : (g h : PlainGraph) (program : Program) → ((n : ℕ) → Agree g h (visits_to n g program)) → ((n : ℕ) → Agree h g (visits_to n h program)) → (answer : Answer) → IsPlainAnswer g program answer → IsPlainAnswer h program answer
 same-at g h (Show v) a b (Shown state) is = is ∙ a 0 v (or_left _ _ (itself v))
 same-at g h (Reach from to pass) a b (Reached reached) is = (

@@ -1,4 +1,5 @@
 -- Searches of a whole graph.
+-- Used by `ask_with_visits`, `searched` and `walked`.
 use Rattle.std.proofs.Common.{◌≡◌, Bool, true, false, ◌||◌, List, ◌∷◌, IsTrue, length, refl, sym, ap, subst, ◌∙◌, None}
 use Rattle.std.specs.Prelude.{if◌then◌else◌, ◌↔◌}
 use Rattle.std.specs.Map.{keys_of}
@@ -9,7 +10,7 @@ use Rattle.graph_ops.specs.Operations.{State}
 use Rattle.graph_ops.specs.PlainGraph.{PlainGraph}
 use Rattle.program_defs.specs.declared.program.Program.{Program}
 use Rattle.program_defs.specs.declared.program.Answer.{Answer}
-use Rattle.program_defs.specs.Asking.{AreRead, HasReadOf, HasAllRead, HasWalkedOf, HasAllWalked, HasNoted, HasNotedWalk}
+use Rattle.program_defs.specs.Asking.{AreRead, HasReadOf, HasAllRead, HasWalkedOf, HasAllWalked, HasReadNames, HasNotedWalk}
 use Rattle.program_defs.specs.PlainAnswer.{IsPlainAnswer}
 use Rattle.program_defs.specs.Searching.{SearchState, SameReached, HasSearched, has_name, next_of}
 use Rattle.program_defs.specs.Visits.{IsListOfVisits, IsVisited, graph_read, first_of, visits_to}
@@ -36,7 +37,7 @@ read-more program graph was made now v state h same is sees = record {
 pub same-next : (was made : SearchState) → SameReached was made → next_of made ≡ next_of was
 same-next was made same = λ i. if same.over i then None else first_of (same.rest i)
 
--- where all is read, the answer over the reads is that of the graph
+-- if all is read, the answer over the reads is that of the graph
 pub answer-of-all : (program : Program) (graph : PlainGraph) (state : SearchState) (answer : Answer) → (all : HasAllRead program graph state) → IsPlainAnswer (graph_read all.read.reads) program answer → IsPlainAnswer graph program answer
 answer-of-all program graph state answer all is =
     answer-same (graph_read all.read.reads) graph program (agree-on-visits program all.read.reads graph (over-at-end program state all.read.reads all.read.searched all.over) all.read.agree) answer is
@@ -64,8 +65,8 @@ all-of-walk program graph walk all = record { read = record { reads = all.read.r
 pub read-one : (reads : List (Name × State)) (v : Name) (state : State) (names now : List Name) → AreRead reads names → ((w : Name) → has_name now w ≡ (same_name v w || has_name names w)) → AreRead ((v, state) ∷ reads) now
 read-one reads v state names now h put w = put w ∙ ap (λ b. same_name v w || b) (h w)
 
-pub note-more : (program : Program) (graph : PlainGraph) (was made now : SearchState) (v : Name) (state : State) (names after : List Name) → HasNoted program graph was names → SameReached was made → state ≡ graph v
-    → ((reads : List (Name × State)) → HasSearched program made reads → HasSearched program now ((v, state) ∷ reads)) → ((w : Name) → has_name after w ≡ (same_name v w || has_name names w)) → HasNoted program graph now after
+pub note-more : (program : Program) (graph : PlainGraph) (was made now : SearchState) (v : Name) (state : State) (names after : List Name) → HasReadNames program graph was names → SameReached was made → state ≡ graph v
+    → ((reads : List (Name × State)) → HasSearched program made reads → HasSearched program now ((v, state) ∷ reads)) → ((w : Name) → has_name after w ≡ (same_name v w || has_name names w)) → HasReadNames program graph now after
 unfolding read-more
 note-more program graph was made now v state names after h same is sees put = record {
   read = read-more program graph was made now v state h.read same is sees;
@@ -80,7 +81,7 @@ note-walk program graph was made now v state names after h same is sees put = re
   noted = read-one h.read.reads v state names after h.noted put;
 }
 
--- where all is read, what was read is what the program visits
+-- if all is read, what was read is what the program visits
 pub visited-of-all : (program : Program) (graph : PlainGraph) (search : SearchState) (names : List Name) → (all : HasAllRead program graph search) → AreRead all.read.reads names → (v : Name) → IsTrue (has_name names v) ↔ IsVisited graph program v
 visited-of-all program graph search names all noted v =
     let reads = all.read.reads in

@@ -1,4 +1,5 @@
 -- No walk leaves a closed set.
+-- Used by Answering, AnswersAgree, FourVertices, Leads, Levels and Pathing.
 use Rattle.std.proofs.Common.{◌≡◌, Bool, ◌&&◌, List, [], ◌∷◌, IsTrue, subst, ◌∙◌, Option, inl, inr}
 use Rattle.std.specs.Prelude.{is_some}
 use Rattle.std.specs.List.{list_all}

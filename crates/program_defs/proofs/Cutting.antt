@@ -1,4 +1,5 @@
 -- A program's list of visits as the levels up to its target.
+-- Used by Answering, Ending and Searched.
 use Rattle.std.proofs.Common.{◌≡◌, ℕ, ◌+◌, ◌-◌, ◌≤◌, true, List, [], ◌∷◌, ◌++◌, IsTrue, length, refl, sym, ap, subst, ◌∙◌, Option, Some, None, arith}
 use Rattle.weave_data.specs.declared.name.Name.{Name}
 use Rattle.graph_ops.specs.Mentions.{is_among}
@@ -7,7 +8,7 @@ use Rattle.graph_ops.specs.PlainGraph.{PlainGraph}
 use Rattle.program_defs.specs.declared.program.Program.{Program}
 use Rattle.program_defs.specs.declared.program.Program.TheVariants.{Show, Reach, Around, Path}
 use Rattle.program_defs.specs.declared.aim.Aim.{Aim}
-use Rattle.program_defs.specs.Searching.{aim_of, IsLeft, IsFree}
+use Rattle.program_defs.specs.Searching.{aim_of, IsLeft, IsTargetNotIn}
 use Rattle.program_defs.specs.Visits.{through_level, up_to, visits_to, graph_read}
 use Rattle.program_defs.specs.Walks.{is_value}
 use Rattle.program_defs.proofs.NextVisit.{visits-of-reads}
@@ -15,12 +16,12 @@ use Rattle.program_defs.proofs.OneList.{not-there, first-there, goes-on, visits-
 use Rattle.program_defs.proofs.Sets.{head-in}
 use Rattle.program_defs.proofs.VisitsAgree.{up-to-only}
 
--- the names up to the target, where there is one
+-- the names up to the target, if there is one
 abbrev pub cut : Option Name → List Name → List Name
 cut None xs = xs
 cut (Some to) xs = up_to to xs
 
-pub cut-free : (target : Option Name) (xs ys : List Name) → IsFree target xs → cut target (xs ++ ys) ≡ xs ++ cut target ys
+pub cut-free : (target : Option Name) (xs ys : List Name) → IsTargetNotIn target xs → cut target (xs ++ ys) ≡ xs ++ cut target ys
 cut-free None xs ys free = refl
 cut-free (Some to) xs ys free = not-there to xs ys free
 
@@ -67,7 +68,7 @@ cut-at reads (Path from to bound pass) aim n left e l =
     within bound None l = absurd l
     within bound (Some k) l = omega (arith, l)
 
--- and no later one where the bound is reached
+-- and no later one if the bound is reached
 pub cut-at-bound : (reads : List (Name × State)) (program : Program) (aim : Aim) (n : ℕ) → aim_of program ≡ Some aim → IsLeft aim.bound n (Some 0)
     → visits_to (length reads) (graph_read reads) program ≡ cut aim.target (through_level n (graph_read reads) aim.pass aim.from)
 cut-at-bound reads (Show v) aim n e l = cc

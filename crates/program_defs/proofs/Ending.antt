@@ -1,4 +1,5 @@
 -- A search of a whole graph ends: each vertex that it reads is the start or a target of an edge, and is read once.
+-- Used by `searched` and `walked`.
 use Rattle.std.proofs.Common.{◌≡◌, ℕ, zero, suc, ◌<◌, Bool, true, false, not, ◌||◌, cond, List, [], ◌∷◌, ◌++◌, IsTrue, length, refl, sym, ap, subst, ◌∙◌, Option, Some, None, inl, inr, arith}
 use Rattle.std.specs.FinMap as map
 use Rattle.std.specs.List.{find, flat_map}
@@ -10,6 +11,7 @@ use Rattle.graph_ops.specs.Graphs.{Vertices, plain_of}
 use Rattle.graph_ops.specs.Mentions.{is_among}
 use Rattle.graph_ops.specs.Operations.{State}
 use Rattle.graph_ops.specs.declared.record.Record.{Record}
+use Rattle.graph_ops.proofs.Vertices.{itself}
 use Rattle.program_defs.specs.declared.aim.Aim.{Aim}
 use Rattle.program_defs.specs.declared.program.Filter.{Filter}
 use Rattle.program_defs.specs.declared.program.Program.{Program}
@@ -21,7 +23,7 @@ use Rattle.program_defs.specs.Walks.{targets}
 use Rattle.program_defs.proofs.Answering.{next-is-next}
 use Rattle.program_defs.proofs.Cutting.{cut-at, cut-only}
 use Rattle.program_defs.proofs.Levels.{source-before}
-use Rattle.program_defs.proofs.Members.{itself, among-left, among-right, among-cases, target-of}
+use Rattle.program_defs.proofs.Members.{among-left, among-right, among-cases, target-of}
 use Rattle.program_defs.proofs.NextVisit.{count-more, read-there}
 
 -- The names of a graph

@@ -103,7 +103,7 @@ last_visit = refl
 pub show_visit : next_visit ((a, graph a) ∷ []) (Show a) ≡ None
 show_visit = refl
 
--- Filters: an edge passes where its tag at the key has the value
+-- Filters: an edge passes if its tag at the key has the value
 
 abbrev tagged : PlainGraph
 tagged = changed graph (Tag a e2 x d ∷ Tag a e1 x c ∷ [])

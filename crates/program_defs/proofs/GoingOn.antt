@@ -1,4 +1,6 @@
--- A program that has read the first of its visits goes on to the next one.
+-- If the reads are a program's first n visits, a read of its next vertex, anywhere in the list, makes them its first
+-- n + 1.
+-- Used by `visits_go_on` and crate weaver_core.
 use Rattle.std.proofs.Common.{◌≡◌, ℕ, zero, suc, ◌+◌, Bool, true, false, not, ◌||◌, List, [], ◌∷◌, ◌++◌, IsTrue, length, take, drop, refl, sym, ap, subst, ◌∙◌, Some, inl, inr, arith}
 use Rattle.std.specs.Prelude.{if◌then◌else◌}
 use Rattle.std.specs.List.{find}
@@ -21,7 +23,8 @@ use Rattle.program_defs.proofs.Onward.{GoesOn, visits-onward, find-next}
 
 -- One more read
 
-key-added : (front back : List (Name × State)) (v : Name) (state : State) (w : Name) → is_among (keys_of (front ++ (v, state) ∷ back)) w ≡ (same_name v w || is_among (keys_of (front ++ back)) w)
+-- a vertex is among the reads with one more if it is that one or among the others
+pub key-added : (front back : List (Name × State)) (v : Name) (state : State) (w : Name) → is_among (keys_of (front ++ (v, state) ∷ back)) w ≡ (same_name v w || is_among (keys_of (front ++ back)) w)
 key-added [] back v state w = refl
 key-added (read ∷ front) back v state w = ap (λ b. same_name read.0 w || b) (key-added front back v state w) ∙ swapped (same_name read.0 w) (same_name v w) _
   where

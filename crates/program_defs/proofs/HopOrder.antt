@@ -1,4 +1,5 @@
 -- Sorted hops come by rank, and by target within a rank.
+-- Used by `mark_targets`.
 use Rattle.std.proofs.Common.{◌≡◌, ℕ, suc, ◌<◌, ◌≤◌, false, true, List, [], ◌∷◌, length, get_or, refl, sym, ap, subst, ◌∙◌, inl, inr, arith}
 use Rattle.std.specs.Cmp.{IsTotalOrder, ranks}
 use Rattle.std.specs.List.Sorted.{IsSorted}
@@ -9,7 +10,7 @@ use Rattle.std.proofs.lemmas.Cmp.{nat_list_cmp_total, nat_cmp_total, on_total, t
 use Rattle.std.proofs.lemmas.List.Sorted.{sorted_far, ranks_by}
 use Rattle.weave_data.specs.Names.{name_cmp}
 use Rattle.program_defs.specs.declared.path_search.Hop.{Hop}
-use Rattle.program_defs.specs.Walking.{IsIn, IsNoLater, IsRising}
+use Rattle.program_defs.specs.Walking.{IsIn, IsNoLater, HopsRise}
 
 -- the order of hops
 abbrev pub hop_cmp : Hop → Hop → Ordering
@@ -43,9 +44,9 @@ above-all x [] h other i = absurd i
 above-all x (y ∷ ys) h other (inl same) = subst (IsNoLater x) same (no-later x y (h 0 (omega arith)))
 above-all x (y ∷ ys) h other (inr i) = above-all x ys (λ k p. h (suc k) (omega (arith, p))) other i
 
-rising-of : (xs : List Hop) → ((i j : ℕ) (d : Hop) → i ≤ j → j < length xs → is_lt (hop_cmp (get_or xs j d) (get_or xs i d)) ≡ false) → IsRising xs
+rising-of : (xs : List Hop) → ((i j : ℕ) (d : Hop) → i ≤ j → j < length xs → is_lt (hop_cmp (get_or xs j d) (get_or xs i d)) ≡ false) → HopsRise xs
 rising-of [] h = tt
 rising-of (x ∷ xs) h = (above-all x xs (λ k p. h 0 (suc k) x (omega arith) (omega (arith, p))), rising-of xs (λ i j d p q. h (suc i) (suc j) d (omega (arith, p)) (omega (arith, q))))
 
-pub sorted-rising : (xs : List Hop) → IsSorted hop_cmp xs → IsRising xs
+pub sorted-rising : (xs : List Hop) → IsSorted hop_cmp xs → HopsRise xs
 sorted-rising xs sorted = rising-of xs (sorted_far (λ x y. is_lt (hop_cmp x y)) (ranks_by hop-total (λ h. h)) xs sorted)

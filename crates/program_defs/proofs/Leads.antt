@@ -1,38 +1,30 @@
 -- The list over parents is the least walk: the least list to a vertex goes over its source of least rank.
+-- Used by Backs and Pathing.
 use Rattle.std.proofs.Common.{append-nil, append_assoc, ◌≡◌, ℕ, zero, suc, ◌+◌, ◌-◌, ◌<◌, ◌≤◌, List, [], ◌∷◌, ◌++◌, IsTrue, length, refl, sym, ap, subst, ◌∙◌, Option, inl, inr, arith}
 use Rattle.std.specs.Prelude.{is_some}
 use Rattle.std.specs.Cmp.Lexicographic.{slice_cmp}
-use Rattle.std.specs.FinMap.{slice_cmp-IsAntisymmetric}
 use Rattle.std.specs.declared.cmp.Ordering.{Ordering}
 use Rattle.std.specs.declared.cmp.Ordering.TheVariants.{Less, Equal, Greater}
-use Rattle.std.specs.Ordering.{is_le, is_eq, ordering_then}
+use Rattle.std.specs.Ordering.{is_le, ordering_then}
 use Rattle.std.proofs.lemmas.Cmp.{nat_list_cmp_total, lists_total, tied_itself}
 use Rattle.std.proofs.lemmas.Bool.{cases_lt, and_from, le-leb, or_cases, or_left, both_ways}
 use Rattle.weave_data.specs.Names.{name_cmp, same_name, one_name}
 use Rattle.weave_data.specs.declared.name.Name.{Name}
 use Rattle.graph_ops.specs.Mentions.{is_among}
 use Rattle.graph_ops.specs.PlainGraph.{PlainGraph}
+use Rattle.graph_ops.proofs.Vertices.{itself}
 use Rattle.program_defs.specs.declared.program.Filter.{Filter}
 use Rattle.program_defs.specs.Ranks.{IsRankedAt, trace}
 use Rattle.program_defs.specs.Visits.{levels_to, through_level}
 use Rattle.program_defs.specs.Walks.{targets, is_walk, walk_length, IsLeastWalk}
 use Rattle.program_defs.proofs.Closed.{first_step, one_vertex}
 use Rattle.program_defs.proofs.Levels.{targets-through, through-more, new-in-level, walk-and-edge, length-and-edge}
-use Rattle.program_defs.proofs.Members.{itself, among-cases, target-of}
+use Rattle.program_defs.proofs.Members.{among-cases, target-of, lists-equal}
 
 -- The order of lists of names
 
-name-equal : (x y : Name) → name_cmp x y ≡ Equal → x ≡ y
-name-equal x y e = one_name x y (ap is_eq e)
-
-lists-equal : (xs ys : List Name) → slice_cmp name_cmp xs ys ≡ Equal → xs ≡ ys
-lists-equal xs ys e = slice_cmp-IsAntisymmetric name-equal xs ys e
-
 le-itself : (xs : List Name) → IsTrue (is_le (slice_cmp name_cmp xs xs))
 le-itself xs = ap is_le (tied_itself (lists_total nat_list_cmp_total) xs)
-
-name-le-itself : (x : Name) → IsTrue (is_le (name_cmp x x))
-name-le-itself x = ap is_le (tied_itself nat_list_cmp_total x)
 
 lists-chain : (xs ys zs : List Name) → IsTrue (is_le (slice_cmp name_cmp xs ys)) → IsTrue (is_le (slice_cmp name_cmp ys zs)) → IsTrue (is_le (slice_cmp name_cmp xs zs))
 lists-chain xs ys zs a b = at (slice_cmp name_cmp xs ys) (slice_cmp name_cmp ys zs) refl refl a b
@@ -187,7 +179,7 @@ module _ (graph : PlainGraph) (pass : Option Filter) (from : Name) where
           let u_in = source-level n l.0 v (lead-level n l.0 l.1 l.3) l.4 h in
           let below = lists-chain (trace parent n p) (trace parent n l.0) l.1 (was.order p l.0 (at.before v h) u_in (at.first v l.0 h u_in l.4)) (was.least l.0 u_in l.1 l.3) in
           subst (λ xs. IsTrue (is_le (slice_cmp name_cmp (trace parent n p ++ v ∷ []) xs))) (sym l.2)
-          (le-snoc (trace parent n p) l.1 v v (trace-long parent n p ∙ sym (lead-long n l.0 l.1 l.3)) below (λ e. name-le-itself v))
+          (le-snoc (trace parent n p) l.1 v v (trace-long parent n p ∙ sym (lead-long n l.0 l.1 l.3)) below (λ e. ap is_le (tied_itself nat_list_cmp_total v)))
 
       order-next : (v w : Name) → IsTrue (is_among (levels_to (suc n) graph pass from).level v) → IsTrue (is_among (levels_to (suc n) graph pass from).level w) → rank v ≤ rank w → IsTrue (is_le (slice_cmp name_cmp (trace parent (suc n) v) (trace parent (suc n) w)))
       order-next v w h g le =

@@ -1,4 +1,5 @@
--- A vertex that is there stands in the levels 0 to n exactly where a walk of at most n edges leads to it.
+-- An existing vertex is in the levels 0 to n exactly if a walk of at most n edges leads to it.
+-- Used by `levels_are_distances`, Answering, AnswersAgree, Ending, FourVertices, Leads, NextVisit, Once and 3 more.
 use Rattle.std.proofs.Common.{◌≡◌, ℕ, zero, suc, ◌+◌, ◌≤◌, Bool, true, false, not, List, [], ◌∷◌, ◌++◌, IsTrue, length, refl, sym, ap, subst, ◌∙◌, Option, inl, inr, arith}
 use Rattle.std.specs.Prelude.{is_some, ◌↔◌}
 use Rattle.std.proofs.lemmas.Bool.{and_parts, and_from, not-true, leb-true, le-leb, or_cases, or_left}
@@ -6,12 +7,13 @@ use Rattle.weave_data.specs.Names.{same_name}
 use Rattle.weave_data.specs.declared.name.Name.{Name}
 use Rattle.graph_ops.specs.Mentions.{is_among}
 use Rattle.graph_ops.specs.PlainGraph.{PlainGraph}
+use Rattle.graph_ops.proofs.Vertices.{itself}
 use Rattle.program_defs.specs.declared.program.Filter.{Filter}
 use Rattle.program_defs.specs.declared.program.Program.TheVariants.{Around}
 use Rattle.program_defs.specs.Walks.{targets, is_walk, walk_length, is_walk_within}
 use Rattle.program_defs.specs.Visits.{targets_of_all, levels_to, through_level, visits_to}
 use Rattle.program_defs.proofs.Closed.{first_step, one_vertex}
-use Rattle.program_defs.proofs.Members.{itself, among-left, among-right, among-cases, all-targets-has, filter-has, as_set-has, filter-only, as_set-only, target-of, IsSource, all-targets-only}
+use Rattle.program_defs.proofs.Members.{among-left, among-right, among-cases, all-targets-has, filter-has, as_set-has, filter-only, as_set-only, target-of, IsSource, all-targets-only}
 
 module _ (graph : PlainGraph) (pass : Option Filter) (start : Name) where
   -- the next level has the new targets of this one
@@ -86,13 +88,13 @@ length-and-edge graph pass from u v (x ∷ rest) walks = one_more rest
     one_more (y ∷ xs) = ap suc (one_more xs)
 
 module _ (graph : PlainGraph) (pass : Option Filter) (from : Name) where
-  -- a vertex of a level is a target of one before, where it isn't the start
+  -- a vertex of a level is a target of one before, if it isn't the start
   pub source-before : (n : ℕ) (v : Name) → IsTrue (is_among (levels_to (suc n) graph pass from).level v) → (u : Name) × IsSource graph pass (levels_to n graph pass from).level v u
   source-before n v h =
       all-targets-only graph pass (levels_to n graph pass from).level v
       (and_parts (is_among (targets_of_all graph pass (levels_to n graph pass from).level) v) _ (filter-only _ _ v (as_set-only _ v h))).0
 
-  -- a vertex of a level stands in no earlier one
+  -- a vertex of a level is in no earlier one
   pub new-in-level : (n : ℕ) (v : Name) → IsTrue (is_among (levels_to n graph pass from).level v) → is_among (levels_to n graph pass from).before v ≡ false
   new-in-level zero v h = refl
   new-in-level (suc n) v h =

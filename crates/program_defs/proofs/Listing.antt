@@ -1,4 +1,5 @@
 -- A graph with finitely many vertices has a list of visits for each program.
+-- Used by `finite_graphs_have_visits`.
 use Rattle.std.proofs.Common.{◌≡◌, Bool, true, false, cond, List, [], ◌∷◌, length, refl, sym, ◌∙◌, Some}
 use Rattle.std.specs.FinMap as map
 use Rattle.std.specs.Prelude.{if◌then◌else◌}

@@ -1,4 +1,5 @@
 -- Marks that are given to targets in the order of sorted hops: the first hop to a new target counts.
+-- Used by Noting and Walked.
 use Rattle.std.proofs.Common.{◌≡◌, ℕ, ◌+◌, ◌≤◌, Bool, true, false, List, [], ◌∷◌, IsTrue, refl, sym, ap, subst, ◌∙◌, Option, Some, inl, inr, arith}
 use Rattle.std.specs.Prelude.{is_some}
 use Rattle.std.specs.Ordering.{is_le}
@@ -6,14 +7,11 @@ use Rattle.std.proofs.lemmas.Bool.{both_ways}
 use Rattle.std.proofs.lemmas.Cmp.{nat_list_cmp_total, tied_itself}
 use Rattle.weave_data.specs.Names.{name_cmp, same_name, one_name}
 use Rattle.weave_data.specs.declared.name.Name.{Name}
+use Rattle.graph_ops.proofs.Vertices.{itself}
 use Rattle.program_defs.specs.declared.path_search.Hop.{Hop}
 use Rattle.program_defs.specs.declared.path_search.Mark.{Mark}
 use Rattle.program_defs.specs.Ranks.{ComesNoLater}
-use Rattle.program_defs.specs.Walking.{IsIn, IsRising, with_mark, marked}
-use Rattle.program_defs.proofs.Members.{itself}
-
-name-le-itself : (x : Name) → IsTrue (is_le (name_cmp x x))
-name-le-itself x = ap is_le (tied_itself nat_list_cmp_total x)
+use Rattle.program_defs.specs.Walking.{IsIn, HopsRise, with_mark, marked}
 
 abbrev Marks : Type 0
 Marks = Name → Option Mark
@@ -128,7 +126,7 @@ module _ (rank : Name → ℕ) where
   HaveRanks hops = (hop : Hop) → IsIn hops hop → hop.rank ≡ rank hop.parent
 
   -- a new mark has the parent of least rank
-  pub first-of : (hops : List Hop) (marks : Marks) (count : ℕ) (v : Name) (mark : Mark) → HaveRanks hops → IsRising hops → is_some (marks v) ≡ false → marked marks count hops v ≡ Some mark
+  pub first-of : (hops : List Hop) (marks : Marks) (count : ℕ) (v : Name) (mark : Mark) → HaveRanks hops → HopsRise hops → is_some (marks v) ≡ false → marked marks count hops v ≡ Some mark
       → (other : Hop) → IsIn hops other → other.target ≡ v → rank mark.parent ≤ other.rank
   first-of [] marks count v mark ranks rising new is other k t = absurd k
   first-of (hop ∷ rest) marks count v mark ranks rising new is other k t = at (λ ms n e i j. first-of rest ms n v mark (λ h l. ranks h (inr l)) rising.1 e i other j t) (is_some (marks hop.target)) refl k
@@ -162,7 +160,7 @@ module _ (rank : Name → ℕ) where
       at more false e j = fresh more e (same_name hop.target v) refl j
 
   -- new marks are ranked by their parents' ranks, and then by name
-  pub in-order : (hops : List Hop) (marks : Marks) (count : ℕ) (v w : Name) (a b : Mark) → HaveRanks hops → IsRising hops → is_some (marks v) ≡ false → is_some (marks w) ≡ false
+  pub in-order : (hops : List Hop) (marks : Marks) (count : ℕ) (v w : Name) (a b : Mark) → HaveRanks hops → HopsRise hops → is_some (marks v) ≡ false → is_some (marks w) ≡ false
       → marked marks count hops v ≡ Some a → marked marks count hops w ≡ Some b → a.rank ≤ b.rank → ComesNoLater (rank a.parent) (rank b.parent) v w
   in-order [] marks count v w a b ranks rising new-v new-w is-v is-w le = absurd (both_ways _ new-v (ap is_some is-v))
   in-order (hop ∷ rest) marks count v w a b ranks rising new-v new-w is-v is-w le =
@@ -183,7 +181,7 @@ module _ (rank : Name → ℕ) where
           let one : hop.parent ≡ a.parent = ap (λ (m : Mark). m.parent) (mine e v a f is-v) in
           let two : hop.parent ≡ b.parent = ap (λ (m : Mark). m.parent) (mine e w b g is-w) in
           let same : v ≡ w = sym (one_name hop.target v f) ∙ one_name hop.target w g in
-          inr (ap rank (sym one ∙ two), subst (λ u. IsTrue (is_le (name_cmp v u))) same (name-le-itself v))
+          inr (ap rank (sym one ∙ two), subst (λ u. IsTrue (is_le (name_cmp v u))) same (ap is_le (tied_itself nat_list_cmp_total v)))
       both more e true false f g =
           let o = origin rest given (count + 1) w b (still-new w g new-w) (sym (marked-new marks count hop rest w e) ∙ is-w) in
           let one : hop.rank ≡ rank a.parent = ranks hop (inl refl) ∙ ap rank (ap (λ (m : Mark). m.parent) (mine e v a f is-v)) in

@@ -1,25 +1,32 @@
 -- Members of the lists that levels are made of.
+-- Used by Answering, AnswersAgree, Ending, GoingOn, Leads, Levels, NextVisit, Once, OneAnswer, OneList and 9 more.
 use Rattle.std.proofs.Common.{◌≡◌, ◌&&◌, Bool, true, false, cond, List, [], ◌∷◌, ◌++◌, IsTrue, refl, sym, ap, subst, Option, Some, None, ◌⊎◌, inl, inr}
 use Rattle.std.specs.Prelude.{is_some}
 use Rattle.std.specs.BTreeSet.{insert_key}
+use Rattle.std.specs.Cmp.Lexicographic.{slice_cmp}
+use Rattle.std.specs.FinMap.{slice_cmp-IsAntisymmetric}
 use Rattle.std.specs.List.{filter}
 use Rattle.std.specs.declared.cmp.Ordering.{Ordering}
 use Rattle.std.specs.declared.cmp.Ordering.TheVariants.{Less, Equal, Greater}
 use Rattle.std.specs.Ordering.{is_eq, match_ordering}
-use Rattle.std.proofs.lemmas.Cmp.{eq_by_cmp_equiv, nat_list_cmp_total}
 use Rattle.std.proofs.lemmas.Bool.{or_cases, or_left, or_right, and_parts, and_from}
 use Rattle.weave_data.specs.Names.{name_cmp, same_name, one_name}
 use Rattle.weave_data.specs.declared.name.Name.{Name}
 use Rattle.graph_ops.specs.Mentions.{is_among}
 use Rattle.graph_ops.specs.Operations.{State}
 use Rattle.graph_ops.specs.PlainGraph.{PlainGraph}
+use Rattle.graph_ops.proofs.Vertices.{itself}
 use Rattle.program_defs.specs.declared.program.Filter.{Filter}
 use Rattle.program_defs.specs.Walks.{targets}
 use Rattle.program_defs.specs.Visits.{as_set, targets_of_all}
 
--- a name is the same as itself
-pub itself : (v : Name) → IsTrue (same_name v v)
-itself = (eq_by_cmp_equiv nat_list_cmp_total).refl
+-- names that the order doesn't tell apart are one
+pub name-equal : (x y : Name) → name_cmp x y ≡ Equal → x ≡ y
+name-equal x y e = one_name x y (ap is_eq e)
+
+-- and so are lists of names
+pub lists-equal : (xs ys : List Name) → slice_cmp name_cmp xs ys ≡ Equal → xs ≡ ys
+lists-equal xs ys e = slice_cmp-IsAntisymmetric name-equal xs ys e
 
 pub among-left : (xs ys : List Name) (w : Name) → IsTrue (is_among xs w) → IsTrue (is_among (xs ++ ys) w)
 among-left [] ys w h = cc

@@ -1,4 +1,5 @@
 -- Names that are new to a table, and the targets of edges that are looked at in turn.
+-- Used by `look`, `note_all`, `reach`, Noting and Seeing.
 use Rattle.std.proofs.Common.{append_assoc, add-one, ◌≡◌, ◌+◌, ◌<◌, ℕ, length, get_or, drop, Bool, true, false, ◌||◌, ◌&&◌, not, List, [], ◌∷◌, ◌++◌, map, refl, sym, ap, subst, ◌∙◌, Option}
 use Rattle.std.proofs.Math.Seq.{drop-cons}
 use Rattle.std.specs.Prelude.{if◌then◌else◌}
@@ -8,11 +9,11 @@ use Rattle.weave_data.specs.Names.{same_name, one_name}
 use Rattle.weave_data.specs.declared.name.Name.{Name}
 use Rattle.graph_ops.specs.Mentions.{is_among}
 use Rattle.graph_ops.specs.declared.record.Edge.{Edge}
+use Rattle.graph_ops.proofs.Vertices.{itself}
 use Rattle.program_defs.specs.declared.program.Filter.{Filter}
 use Rattle.program_defs.specs.Searching.{has_name, new_names, IsOnce}
 use Rattle.program_defs.specs.Walks.{passes}
 use Rattle.program_defs.proofs.OneList.{same-turned}
-use Rattle.program_defs.proofs.Members.{itself}
 
 -- a table has the names among its own
 pub has-among : (names : List Name) (v : Name) → has_name names v ≡ is_among names v
@@ -35,10 +36,14 @@ targets_in pass edges = map (λ (edge : Edge). edge.target) (filter (passes pass
 pub next-edge : (all edges : List (Name × Edge)) (i : ℕ) (one : Name × Edge) → all ≡ edges → i < length all → one ≡ get_or all i one → drop i edges ≡ one ∷ drop (i + 1) edges
 next-edge all edges i one same inside is = subst (λ (xs : List (Name × Edge)). drop i xs ≡ one ∷ drop (i + 1) xs) same (drop-cons all i one inside ∙ rw (← is, add-one) refl)
 
+-- a set of names that has this one besides
+abbrev pub AddsName : List Name → Name → List Name → Type 0
+AddsName names name more = (v : Name) → has_name more v ≡ same_name name v || has_name names v
+
 -- the next edge passes
 pub new-more : (pass : Option Filter) (front rest : List (Name × Edge)) (key : Name) (edge : Edge) (all found found' reached reached' : List Name)
     → front ≡ (key, edge) ∷ rest → passes pass edge ≡ true
-    → found' ≡ found ++ (if has_name reached edge.target then [] else edge.target ∷ []) → ((v : Name) → has_name reached' v ≡ same_name edge.target v || has_name reached v)
+    → found' ≡ found ++ (if has_name reached edge.target then [] else edge.target ∷ []) → AddsName reached edge.target reached'
     → found ++ new_names (has_name reached) (targets_in pass front) ≡ all → found' ++ new_names (has_name reached') (targets_in pass rest) ≡ all
 new-more pass front rest key edge all found found' reached reached' next pass_it adds knows so_far =
     let known : has_name reached' ≡ (λ w. same_name edge.target w || has_name reached w) = λ i v. knows v i in

@@ -1,4 +1,5 @@
--- The list of visits of what was read is whole after as many levels as reads.
+-- The list of visits of what was read is complete after as many levels as there are reads.
+-- Used by `next_visit_misses_none`, Answering, Asking, Cutting, Ending, GoingOn, Listing, Onward, Pathing and 2 more.
 use Rattle.std.proofs.Common.{append-nil, ◌≡◌, ℕ, zero, suc, ◌+◌, ◌-◌, ◌<◌, ◌≤◌, Bool, true, false, cond, List, [], ◌∷◌, ◌++◌, IsTrue, length, refl, sym, ap, subst, ◌∙◌, Option, inl, inr, arith}
 use Rattle.std.specs.Prelude.{is_some, if◌then◌else◌}
 use Rattle.std.specs.List.{filter}
@@ -38,7 +39,7 @@ count-within p (x ∷ xs) = kept (p x) (count-within p xs)
     kept true le = omega (arith, le)
     kept false le = omega (arith, le)
 
--- a wider test passes as many at least
+-- a wider test passes at least as many
 count-wider : (p q : Name → Bool) → ((v : Name) → IsTrue (p v) → IsTrue (q v)) → (xs : List Name) → count p xs ≤ count q xs
 count-wider p q wider [] = omega arith
 count-wider p q wider (x ∷ xs) = kept (p x) (q x) (wider x) (count-wider p q wider xs)
@@ -49,7 +50,7 @@ count-wider p q wider (x ∷ xs) = kept (p x) (q x) (wider x) (count-wider p q w
     kept false true f le = omega (arith, le)
     kept false false f le = le
 
--- and more where it passes a further one of them
+-- and more if it passes a further one of them
 pub count-more : (p q : Name → Bool) → ((v : Name) → IsTrue (p v) → IsTrue (q v)) → (xs : List Name) (v : Name) → IsTrue (is_among xs v) → p v ≡ false → IsTrue (q v) → count p xs < count q xs
 count-more p q wider [] v among before after = cc
 count-more p q wider (x ∷ xs) v among before after =
@@ -122,7 +123,7 @@ module _ (reads : List (Name × State)) (pass : Option Filter) (from : Name) whe
       ∙ append-nil (through_level (k + length reads) read pass from)
       ∙ through-same k
 
-  -- what stands before the target in the levels to n does so in the levels to as many as reads
+  -- what is before the target in the levels to n is so in the levels to the number of reads
   up_to-whole : (target : Name) (n : ℕ) (v : Name) → IsTrue (is_among (up_to target (through_level n read pass from)) v) → IsTrue (is_among (up_to target (through_level (length reads) read pass from)) v)
   up_to-whole target n v h =
       elim (cases_lt n (length reads)) [

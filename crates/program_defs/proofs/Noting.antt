@@ -1,4 +1,5 @@
 -- Hops that are noted edge by edge, and marks that are given hop by hop.
+-- Used by `first_mark`, `mark_in_turn` and `note_all`.
 use Rattle.std.proofs.Common.{append_assoc, ◌≡◌, ℕ, ◌+◌, Bool, true, false, cond, ◌||◌, List, [], ◌∷◌, ◌++◌, length, refl, sym, ap, ◌∙◌, Option, Some, None, arith}
 use Rattle.std.specs.Prelude.{is_some, if◌then◌else◌}
 use Rattle.weave_data.specs.Names.{same_name}

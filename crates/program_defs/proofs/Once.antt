@@ -1,4 +1,5 @@
 -- No vertex is visited twice.
+-- Used by Answering, GoingOn, Onward, Searched and Seeing.
 use Rattle.std.proofs.Common.{◌≡◌, ℕ, zero, suc, Bool, true, false, List, [], ◌∷◌, ◌++◌, IsTrue, refl, sym, subst, Option, inl, inr}
 use Rattle.std.specs.Prelude.{if◌then◌else◌}
 use Rattle.std.proofs.lemmas.Bool.{or_parts, both_ways, false_from_ne_true, or_cases}
@@ -6,13 +7,14 @@ use Rattle.weave_data.specs.Names.{same_name, one_name}
 use Rattle.weave_data.specs.declared.name.Name.{Name}
 use Rattle.graph_ops.specs.Mentions.{is_among}
 use Rattle.graph_ops.specs.PlainGraph.{PlainGraph}
+use Rattle.graph_ops.proofs.Vertices.{itself}
 use Rattle.program_defs.specs.declared.program.Filter.{Filter}
 use Rattle.program_defs.specs.declared.program.Program.{Program}
 use Rattle.program_defs.specs.declared.program.Program.TheVariants.{Show, Reach, Around, Path}
 use Rattle.program_defs.specs.Visits.{targets_of_all, not_among, levels_to, through_level, up_to, visits_to}
 use Rattle.program_defs.specs.Searching.{IsOnce}
 use Rattle.program_defs.proofs.Levels.{new-in-level}
-use Rattle.program_defs.proofs.Members.{itself, among-cases, among-right}
+use Rattle.program_defs.proofs.Members.{among-cases, among-right}
 use Rattle.program_defs.proofs.Sets.{IsSet, as_set-set, not-below-itself, head-in}
 use Rattle.program_defs.proofs.VisitsAgree.{up-to-only}
 

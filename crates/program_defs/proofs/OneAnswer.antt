@@ -1,14 +1,14 @@
 -- A program has one plain answer at most on a graph.
+-- Used by `plain_answer_is_one`.
 use Rattle.std.proofs.Common.{◌≡◌, List, IsTrue, refl, sym, ap, ◌∙◌, Some, None, arith}
 use Rattle.std.specs.Cmp.{both_ways as same_test}
 use Rattle.std.specs.Cmp.Lexicographic.{slice_cmp}
 use Rattle.std.specs.declared.cmp.Ordering.{Ordering}
 use Rattle.std.specs.declared.cmp.Ordering.TheVariants.{Less, Equal, Greater}
-use Rattle.std.specs.Ordering.{is_le, is_eq, ordering_reverse}
-use Rattle.std.specs.FinMap.{slice_cmp-IsAntisymmetric}
+use Rattle.std.specs.Ordering.{is_le, ordering_reverse}
 use Rattle.std.proofs.lemmas.Cmp.{nat_list_cmp_total, lists_total}
 use Rattle.std.proofs.lemmas.Bool.{and_parts}
-use Rattle.weave_data.specs.Names.{name_cmp, one_name}
+use Rattle.weave_data.specs.Names.{name_cmp}
 use Rattle.weave_data.specs.declared.name.Name.{Name}
 use Rattle.graph_ops.specs.PlainGraph.{PlainGraph}
 use Rattle.program_defs.specs.declared.program.Program.{Program}
@@ -17,14 +17,12 @@ use Rattle.program_defs.specs.declared.program.Answer.{Answer}
 use Rattle.program_defs.specs.declared.program.Answer.TheVariants.{Shown, Reached, Found, Walk}
 use Rattle.program_defs.specs.PlainAnswer.{IsPlainAnswer}
 use Rattle.program_defs.specs.Walks.{is_walk, walk_length}
+use Rattle.program_defs.proofs.Members.{lists-equal}
 use Rattle.program_defs.proofs.Sets.{same-sets, rising-set}
 
-name-equal : (x y : Name) → name_cmp x y ≡ Equal → x ≡ y
-name-equal x y e = one_name x y (ap is_eq e)
-
--- names lists that are each at most the other are one
+-- names lists that are each at most the other are equal
 same-walks : (a b : List Name) → IsTrue (is_le (slice_cmp name_cmp a b)) → IsTrue (is_le (slice_cmp name_cmp b a)) → a ≡ b
-same-walks a b h g = slice_cmp-IsAntisymmetric name-equal a b (at (slice_cmp name_cmp a b) (slice_cmp name_cmp b a) ((lists_total nat_list_cmp_total).antisymm a b) h g)
+same-walks a b h g = lists-equal a b (at (slice_cmp name_cmp a b) (slice_cmp name_cmp b a) ((lists_total nat_list_cmp_total).antisymm a b) h g)
   where
     at : (o p : Ordering) → o ≡ ordering_reverse p → IsTrue (is_le o) → IsTrue (is_le p) → o ≡ Equal
     at Equal p e h g = refl

@@ -1,4 +1,5 @@
 -- A program has one list of visits at most.
+-- Used by `list_of_visits_is_one`, AnswersAgree, Cutting, GoingOn, Listing, NewNames, Onward, ReadOrder and 3 more.
 use Rattle.std.proofs.Common.{append-nil, ◌||◌, ◌≡◌, ℕ, zero, suc, ◌+◌, ◌-◌, ◌≤◌, Bool, true, false, List, [], ◌∷◌, ◌++◌, IsTrue, refl, sym, ap, subst, ◌∙◌, Option, inl, inr, arith}
 use Rattle.std.specs.Prelude.{if◌then◌else◌}
 use Rattle.std.proofs.lemmas.Bool.{cases_lt, both_ways, or_left, or_parts}
@@ -8,11 +9,12 @@ use Rattle.weave_data.specs.Names.{same_name}
 use Rattle.weave_data.specs.declared.name.Name.{Name}
 use Rattle.graph_ops.specs.Mentions.{is_among}
 use Rattle.graph_ops.specs.PlainGraph.{PlainGraph}
+use Rattle.graph_ops.proofs.Vertices.{itself}
 use Rattle.program_defs.specs.declared.program.Filter.{Filter}
 use Rattle.program_defs.specs.declared.program.Program.{Program}
 use Rattle.program_defs.specs.declared.program.Program.TheVariants.{Show, Reach, Around, Path}
 use Rattle.program_defs.specs.Visits.{as_set, targets_of_all, not_among, levels_to, through_level, up_to, visits_to, IsVisited, IsListOfVisits}
-use Rattle.program_defs.proofs.Members.{itself, among-right}
+use Rattle.program_defs.proofs.Members.{among-right}
 use Rattle.program_defs.proofs.Levels.{new-in-level}
 
 -- Names up to a target
@@ -31,7 +33,7 @@ cut-there target (x ∷ xs) more h = here (same_name target x) (subst (λ b. IsT
     here true g rest = refl
     here false g rest = ap (λ ys. x ∷ ys) (rest g)
 
--- and nothing is where it isn't there
+-- a target that isn't in the first list cuts the second alone
 pub not-there : (target : Name) (xs more : List Name) → is_among xs target ≡ false → up_to target (xs ++ more) ≡ xs ++ up_to target more
 not-there target [] more h = refl
 not-there target (x ∷ xs) more h =
@@ -77,7 +79,7 @@ module _ (graph : PlainGraph) (pass : Option Filter) (from : Name) where
       let level = (levels_to (suc (k + n)) graph pass from).level in
       (rest.0 ++ level, ap (λ m. through_level m graph pass from) e ∙ ap (λ xs. xs ++ level) rest.1 ∙ append_assoc (through_level n graph pass from) rest.0 level)
 
-  -- where the list up to the target is whole, more levels change nothing
+  -- if the list up to the target is whole, more levels change nothing
   reach-whole : (to : Name) (n k : ℕ) → ((v : Name) → IsVisited graph (Reach from to pass) v → IsTrue (is_among (up_to to (through_level n graph pass from)) v))
       → up_to to (through_level (k + n) graph pass from) ≡ up_to to (through_level n graph pass from)
   reach-whole to n k whole = there (is_among (through_level n graph pass from) to) refl
@@ -101,7 +103,7 @@ module _ (graph : PlainGraph) (pass : Option Filter) (from : Name) where
               let new = new-in-level graph pass from (suc n) x (subst (λ level. IsTrue (is_among level x)) (sym e) (or_left _ _ (itself x))) in
               absurd (both_ways _ new old)
 
--- the list gone through to one level, where it is whole, is the one gone through to another
+-- the list gone through to one level, if it is whole, is the one gone through to another
 pub visits-whole : (graph : PlainGraph) (program : Program) (n k : ℕ) → ((v : Name) → IsVisited graph program v → IsTrue (is_among (visits_to n graph program) v)) → visits_to (k + n) graph program ≡ visits_to n graph program
 visits-whole graph (Show v) n k whole = refl
 visits-whole graph (Reach from to pass) n k whole = reach-whole graph pass from to n k whole

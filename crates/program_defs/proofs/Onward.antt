@@ -1,4 +1,5 @@
--- Where graphs agree on the first vertices of a list of visits, the next one is the same.
+-- If graphs agree on the first vertices of a list of visits, the next one is the same.
+-- Used by `visits_are_asked_for`, Answering, Feeding and GoingOn.
 use Rattle.std.proofs.Common.{append-nil, append_assoc, ◌≡◌, ℕ, zero, suc, ◌+◌, Bool, true, false, not, List, [], ◌∷◌, ◌++◌, IsTrue, length, refl, sym, ap, subst, ◌∙◌, Option, Some, ◌⊎◌, inl, inr, arith}
 use Rattle.std.specs.Prelude.{if◌then◌else◌}
 use Rattle.std.specs.List.{find}
@@ -8,12 +9,13 @@ use Rattle.weave_data.specs.Names.{same_name, one_name}
 use Rattle.weave_data.specs.declared.name.Name.{Name}
 use Rattle.graph_ops.specs.Mentions.{is_among}
 use Rattle.graph_ops.specs.PlainGraph.{PlainGraph}
+use Rattle.graph_ops.proofs.Vertices.{itself}
 use Rattle.program_defs.specs.declared.program.Filter.{Filter}
 use Rattle.program_defs.specs.declared.program.Program.{Program}
 use Rattle.program_defs.specs.declared.program.Program.TheVariants.{Show, Reach, Around, Path}
 use Rattle.program_defs.specs.Agreement.{Agree}
 use Rattle.program_defs.specs.Visits.{levels_to, through, through_level, up_to, visits_to, IsListOfVisits, graph_read, next_visit, states_at, first_of}
-use Rattle.program_defs.proofs.Members.{itself, among-left}
+use Rattle.program_defs.proofs.Members.{among-left}
 use Rattle.program_defs.proofs.NextVisit.{visits-of-reads}
 use Rattle.program_defs.proofs.Once.{visits-once, new-after}
 use Rattle.program_defs.specs.Searching.{IsOnce}

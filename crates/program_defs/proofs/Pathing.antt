@@ -1,4 +1,5 @@
 -- The search for the least walk after one more read, and what it answers.
+-- Used by `new`, `path_searches_are_right`, `see`, `walk` and Asking.
 use Rattle.std.proofs.Common.{append-nil, ◌≡◌, ℕ, zero, suc, ◌≤◌, Bool, true, false, List, [], ◌∷◌, ◌++◌, IsTrue, length, refl, sym, ap, subst, ◌∙◌, Option, Some, None, inl, inr, arith}
 use Rattle.std.specs.Prelude.{is_some, is_none, nat_le}
 use Rattle.std.specs.Map.{keys_of}
@@ -16,7 +17,7 @@ use Rattle.program_defs.specs.declared.program.Program.TheVariants.{Path}
 use Rattle.program_defs.specs.declared.program.Answer.TheVariants.{Walk}
 use Rattle.program_defs.specs.PlainAnswer.{IsPlainAnswer}
 use Rattle.program_defs.specs.Ranks.{trace}
-use Rattle.program_defs.specs.Searching.{SearchState, Seen, IsWithinLevel, IsGoing, IsFree, HasSearched, SameReached, aim_of, next_of, levels_read, gone_on}
+use Rattle.program_defs.specs.Searching.{SearchState, Seen, IsWithinLevel, IsGoing, IsTargetNotIn, HasSearched, SameReached, aim_of, next_of, levels_read, gone_on}
 use Rattle.program_defs.specs.Visits.{levels_to, through_level, graph_read, first_of}
 use Rattle.program_defs.specs.Walking.{WalkState, HasWalked, HasHops, HasMarked, IsMarkedBy, IsRankedTo, SameWalked, mark_in, marked, parents, ranks, hops_from}
 use Rattle.program_defs.specs.Walks.{targets, is_walk, IsLeastWalk}
@@ -66,10 +67,10 @@ module _ (program : Program) (old : WalkState) (v : Name) (state : State) (reads
   aim' : aim_of program ≡ Some step.added.aim
   aim' = h.searched.aim ∙ ap Some (sym step.adds.aim)
 
-  free' : IsFree step.added.aim.target ((levels_read reads' step.added.aim h.level).before ++ h.done)
+  free' : IsTargetNotIn step.added.aim.target ((levels_read reads' step.added.aim h.level).before ++ h.done)
   free' =
-      subst (λ a. IsFree a.target ((levels_read reads' a h.level).before ++ h.done)) (sym step.adds.aim)
-      (subst (λ levels. IsFree old.search.aim.target (levels.before ++ h.done)) (same-levels-read old.search reads h.level h.done going.within v step.added.rest step.adds.rest state) going.free)
+      subst (λ a. IsTargetNotIn a.target ((levels_read reads' a h.level).before ++ h.done)) (sym step.adds.aim)
+      (subst (λ levels. IsTargetNotIn old.search.aim.target (levels.before ++ h.done)) (same-levels-read old.search reads h.level h.done going.within v step.added.rest step.adds.rest state) going.free)
 
   stage-now : last.over ≡ false → IsStage program step.added reads' h.level h.done v (gone_on v step.added)
   stage-now more = stage program step.added reads' h.level h.done v within' aim' free' (sym (ap (λ (s : SearchState). s.over) goes) ∙ more)
@@ -205,17 +206,14 @@ same-walked program old new reads same h =
 
 -- The plain answer
 
-record IsInLevel (graph : PlainGraph) (pass : Option Filter) (from v : Name) (n : ℕ) : Type 0 where
-  level : ℕ
-  within : level ≤ n
-  there : IsTrue (is_among (levels_to level graph pass from).level v)
-
-level-of : (graph : PlainGraph) (pass : Option Filter) (from v : Name) (n : ℕ) → IsTrue (is_among (through_level n graph pass from) v) → IsInLevel graph pass from v n
-level-of graph pass from v zero h = record { level = 0; within = omega arith; there = h }
+-- a vertex of the levels up to one is of one of them
+level-of : (graph : PlainGraph) (pass : Option Filter) (from v : Name) (n : ℕ) → IsTrue (is_among (through_level n graph pass from) v)
+    → (level : ℕ) × (level ≤ n) × IsTrue (is_among (levels_to level graph pass from).level v)
+level-of graph pass from v zero h = (0, omega arith, h)
 level-of graph pass from v (suc n) h =
     elim (among-cases (through_level n graph pass from) (levels_to (suc n) graph pass from).level v h) [
-      | inl earlier ↦ (let is = level-of graph pass from v n earlier in let le = is.within in record { level = is.level; within = omega (arith, le); there = is.there })
-      | inr here ↦ record { level = suc n; within = omega arith; there = here }
+      | inl earlier ↦ (let is = level-of graph pass from v n earlier in let le = is.1 in (is.0, omega (arith, le), is.2))
+      | inr here ↦ (suc n, omega arith, here)
     ]
 
 module _ (from to : Name) (bound : ℕ) (pass : Option Filter) (walk : WalkState) (reads : List (Name × State)) (h : HasWalked (Path from to bound pass) walk reads) where
@@ -239,13 +237,13 @@ module _ (from to : Name) (bound : ℕ) (pass : Option Filter) (walk : WalkState
       let graph : PlainGraph = graph_read reads in
       let in_levels : IsTrue (is_among (through_level h.level graph pass from) to) = subst (λ (a : Aim). IsTrue (is_among (through_level h.level graph a.pass a.from) to)) (sym aim-is) (h.inside to k) in
       let at = level-of graph pass from to h.level in_levels in
-      let le = at.within in
+      let le = at.1 in
       let ranked_all : IsRankedTo h.level graph pass from (mark_in walk.marks) = subst (λ (a : Aim). IsRankedTo h.level graph a.pass a.from (mark_in walk.marks)) (sym aim-is) h.marked.ranked in
-      let ranked : IsRankedTo at.level graph pass from (mark_in walk.marks) = λ j less. ranked_all j (omega (arith, less, le)) in
+      let ranked : IsRankedTo at.0 graph pass from (mark_in walk.marks) = λ j less. ranked_all j (omega (arith, less, le)) in
       let near = up-to-only to (through_level bound graph pass from) to (h.searched.found.visited to (read-there reads to (sym (h.searched.found.present to) ∙ k))) in
-      let least = trace-is-least graph pass from (parents (mark_in walk.marks)) (ranks (mark_in walk.marks)) at.level bound to ranked at.there (sym (h.searched.found.present to) ∙ k) near in
+      let least = trace-is-least graph pass from (parents (mark_in walk.marks)) (ranks (mark_in walk.marks)) at.0 bound to ranked at.2 (sym (h.searched.found.present to) ∙ k) near in
       let from-is : from ≡ walk.search.aim.from = ap (λ (a : Aim). a.from) aim-is in
-      let same = is graph pass at.level (no-nearer graph pass from at.level to at.there bound near) (subst (λ f. IsRankedTo at.level graph pass f (mark_in walk.marks)) from-is ranked) (subst (λ f. IsTrue (is_among (levels_to at.level graph pass f).level to)) from-is at.there) in
+      let same = is graph pass at.0 (no-nearer graph pass from at.0 to at.2 bound near) (subst (λ f. IsRankedTo at.0 graph pass f (mark_in walk.marks)) from-is ranked) (subst (λ f. IsTrue (is_among (levels_to at.0 graph pass f).level to)) from-is at.2) in
       subst (λ xs. IsLeastWalk bound graph pass from to xs) (sym same) least
 
   -- or there is no walk

@@ -1,4 +1,5 @@
 -- The order of the reads doesn't matter.
+-- Used by `order_of_reads_is_free` and Feeding.
 use Rattle.std.proofs.Common.{◌≡◌, not, List, length, subst}
 use Rattle.std.specs.List.{find}
 use Rattle.weave_data.specs.declared.name.Name.{Name}

@@ -1,4 +1,5 @@
 -- What is known of marks and hops when one more vertex is read.
+-- Used by Pathing.
 use Rattle.std.proofs.Common.{◌≡◌, ℕ, zero, suc, ◌+◌, ◌-◌, ◌<◌, ◌≤◌, List, [], ◌∷◌, ◌++◌, IsTrue, refl, sym, ap, subst, ◌∙◌, Option, ◌⊎◌, inl, inr, arith}
 use Rattle.std.proofs.lemmas.Bool.{or_cases, or_left, or_right}
 use Rattle.weave_data.specs.Names.{same_name, one_name}
@@ -6,6 +7,7 @@ use Rattle.weave_data.specs.declared.name.Name.{Name}
 use Rattle.graph_ops.specs.Mentions.{is_among}
 use Rattle.graph_ops.specs.Operations.{State}
 use Rattle.graph_ops.specs.PlainGraph.{PlainGraph}
+use Rattle.graph_ops.proofs.Vertices.{itself}
 use Rattle.program_defs.specs.declared.path_search.Hop.{Hop}
 use Rattle.program_defs.specs.declared.path_search.Mark.{Mark}
 use Rattle.program_defs.specs.declared.program.Filter.{Filter}
@@ -15,7 +17,7 @@ use Rattle.program_defs.specs.Visits.{levels_to, through, through_level, graph_r
 use Rattle.program_defs.specs.Walking.{IsIn, HasHops, HasMarked, ranks, hops_from}
 use Rattle.program_defs.specs.Walks.{targets}
 use Rattle.program_defs.proofs.Levels.{through-more}
-use Rattle.program_defs.proofs.Members.{itself, among-left, among-right, among-cases}
+use Rattle.program_defs.proofs.Members.{among-left, among-right, among-cases}
 use Rattle.program_defs.proofs.Seeing.{levels-same, read-agrees}
 use Rattle.program_defs.proofs.Walked.{in-left, in-right, in-cases, level-through}
 

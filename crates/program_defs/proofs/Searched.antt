@@ -1,4 +1,5 @@
 -- The search of a program after one more read.
+-- Used by `see`, Answering, Pathing and Stages.
 use Rattle.std.proofs.Common.{append-nil, append_assoc, ◌≡◌, ℕ, zero, suc, ◌+◌, ◌-◌, ◌≤◌, Bool, true, false, not, ◌&&◌, ◌||◌, List, [], ◌∷◌, ◌++◌, IsTrue, length, refl, sym, ap, subst, ◌∙◌, Option, Some, None, inl, inr, arith}
 use Rattle.std.specs.Prelude.{is_some, is_none, IsSome, if◌then◌else◌}
 use Rattle.std.specs.Cmp.{both_ways as same_test}
@@ -10,7 +11,7 @@ use Rattle.graph_ops.specs.Mentions.{is_among}
 use Rattle.graph_ops.specs.Operations.{State}
 use Rattle.graph_ops.specs.PlainGraph.{PlainGraph}
 use Rattle.program_defs.specs.declared.program.Program.{Program}
-use Rattle.program_defs.specs.Searching.{SearchState, Adds, IsWithinLevel, IsFree, IsOnce, IsLeft, HasFound, HasSearched, AllRead, aim_of, next_of, levels_read, turned, onto_next_level, gone_on}
+use Rattle.program_defs.specs.Searching.{SearchState, AddsState, IsWithinLevel, IsTargetNotIn, IsOnce, IsLeft, HasFound, HasSearched, AllRead, aim_of, next_of, levels_read, turned, onto_next_level, gone_on}
 use Rattle.program_defs.specs.Visits.{as_set, not_among, targets_of_all, through_level, visits_to, graph_read, first_of}
 use Rattle.program_defs.specs.Walks.{is_value}
 use Rattle.program_defs.proofs.Cutting.{cut, cut-free, cut-only, cut-first, cut-here, cut-at, cut-at-bound, begins}
@@ -24,7 +25,7 @@ use Rattle.program_defs.proofs.Turning.{next-first}
 
 -- What is there
 
-pub found-next : (search next : SearchState) (program : Program) (reads : List (Name × State)) (v : Name) (state : State) → is_among (keys_of reads) v ≡ false → HasFound search program reads → Adds v state search next
+pub found-next : (search next : SearchState) (program : Program) (reads : List (Name × State)) (v : Name) (state : State) → is_among (keys_of reads) v ≡ false → HasFound search program reads → AddsState v state search next
     → ((w : Name) → IsTrue (is_among (keys_of ((v, state) ∷ reads)) w) → IsTrue (is_among (visits_to (length ((v, state) ∷ reads)) (graph_read ((v, state) ∷ reads)) program) w))
     → HasFound next program ((v, state) ∷ reads)
 found-next search next program reads v state new was adds all =
@@ -104,7 +105,7 @@ module _ (search : SearchState) (program : Program) (reads : List (Name × State
   visits-after : IsVisitsAfter
   visits-after = record { more = search.rest ++ visits-through.0; is = visits-through.1 }
 
-  -- all is read where the visits are among these
+  -- all is read if the visits are among these
   read-of : (xs : List Name) → visits_to (length reads) graph program ≡ cut search.aim.target xs → ((w : Name) → IsTrue (is_among xs w) → IsTrue (is_among all_read w)) → AllRead reads program
   read-of xs is inside w k = within.read w ∙ inside w (cut-only search.aim.target xs w (subst (λ ys. IsTrue (is_among ys w)) is k))
 
@@ -170,8 +171,8 @@ module _ (search : SearchState) (program : Program) (reads : List (Name × State
         unit true = refl
         unit false = refl
 
-    pub free-down : IsFree search.aim.target all_read → IsFree search.aim.target ((levels_read reads search.aim (suc n)).before ++ [])
-    free-down free = subst (IsFree search.aim.target) (sym whole ∙ sym (append-nil (through_level n graph search.aim.pass search.aim.from))) free
+    pub free-down : IsTargetNotIn search.aim.target all_read → IsTargetNotIn search.aim.target ((levels_read reads search.aim (suc n)).before ++ [])
+    free-down free = subst (IsTargetNotIn search.aim.target) (sym whole ∙ sym (append-nil (through_level n graph search.aim.pass search.aim.from))) free
 
 -- One more read
 
@@ -202,23 +203,24 @@ over-now program search reads aim found all = record {
 }
 
 -- the target is free of what was read before it, and of this one
-pub free-more : (target : Option Name) (xs : List Name) (v : Name) → IsFree target xs → is_value target v ≡ false → IsFree target (xs ++ v ∷ [])
+pub free-more : (target : Option Name) (xs : List Name) (v : Name) → IsTargetNotIn target xs → is_value target v ≡ false → IsTargetNotIn target (xs ++ v ∷ [])
 free-more None xs v free other = free
 free-more (Some to) xs v free other =
     among-append xs (v ∷ []) to ∙ rw (free, same-turned v to, other) refl
+
+-- what was read before a vertex of a level: the levels before, and what precedes it in its own
+abbrev pub read-earlier : SearchState → List (Name × State) → ℕ → List Name → List Name
+read-earlier search reads n before = (levels_read reads search.aim n).before ++ before
 
 module _ (program : Program) (search : SearchState) (reads : List (Name × State)) (n : ℕ) (before : List Name) (v : Name) where
   abbrev done : List Name
   done = before ++ v ∷ []
 
-  abbrev earlier : List Name
-  earlier = (levels_read reads search.aim n).before ++ before
-
   -- what was added goes on
-  pub goes-on-from : (within : IsWithinLevel search reads n done) → aim_of program ≡ Some search.aim → IsFree search.aim.target earlier → HasFound search program reads → search.over ≡ false → HasSearched program (gone_on v search) reads
+  pub goes-on-from : (within : IsWithinLevel search reads n done) → aim_of program ≡ Some search.aim → IsTargetNotIn search.aim.target (read-earlier search reads n before) → HasFound search program reads → search.over ≡ false → HasSearched program (gone_on v search) reads
   goes-on-from within aim free found going = by_target (is_value search.aim.target v) refl
     where
-      split : (levels_read reads search.aim n).before ++ done ≡ earlier ++ v ∷ []
+      split : (levels_read reads search.aim n).before ++ done ≡ (read-earlier search reads n before) ++ v ∷ []
       split = sym (append_assoc (levels_read reads search.aim n).before before (v ∷ []))
 
       at-target : is_value search.aim.target v ≡ true → AllRead reads program
@@ -226,9 +228,9 @@ module _ (program : Program) (search : SearchState) (reads : List (Name × State
           let visits = visits-after search program reads n done within aim in
           let cut_here : cut search.aim.target (((levels_read reads search.aim n).before ++ done) ++ visits.more) ≡ (levels_read reads search.aim n).before ++ done =
           ap (λ xs. cut search.aim.target (xs ++ visits.more)) split
-          ∙ ap (cut search.aim.target) (append_assoc earlier (v ∷ []) visits.more)
-          ∙ cut-free search.aim.target earlier (v ∷ visits.more) free
-          ∙ ap (λ xs. earlier ++ xs) (cut-here search.aim.target v visits.more hit)
+          ∙ ap (cut search.aim.target) (append_assoc (read-earlier search reads n before) (v ∷ []) visits.more)
+          ∙ cut-free search.aim.target (read-earlier search reads n before) (v ∷ visits.more) free
+          ∙ ap (λ xs. (read-earlier search reads n before) ++ xs) (cut-here search.aim.target v visits.more hit)
           ∙ sym split in
           λ w k. within.read w ∙ subst (λ xs. IsTrue (is_among xs w)) (visits.is ∙ cut_here) k
 
@@ -242,7 +244,7 @@ module _ (program : Program) (search : SearchState) (reads : List (Name × State
           record {
             within = within-down search program reads n done within aim none left so_many;
             more = some-first (as_set search.found) more;
-            free = free-down search program reads n done within aim none (subst (IsFree search.aim.target) (sym split) (free-more search.aim.target earlier v free other));
+            free = free-down search program reads n done within aim none (subst (IsTargetNotIn search.aim.target) (sym split) (free-more search.aim.target (read-earlier search reads n before) v free other));
           },
         );
         ended = λ over. read-at-end search program reads n done within aim none (none-first (as_set search.found) over);
@@ -266,7 +268,7 @@ module _ (program : Program) (search : SearchState) (reads : List (Name × State
       by_rest other false e = record {
         aim = aim;
         found = found;
-        going = λ still. (n, done, record { within = within; more = some-first search.rest e; free = subst (IsFree search.aim.target) (sym split) (free-more search.aim.target earlier v free other) });
+        going = λ still. (n, done, record { within = within; more = some-first search.rest e; free = subst (IsTargetNotIn search.aim.target) (sym split) (free-more search.aim.target (read-earlier search reads n before) v free other) });
         ended = λ over. absurd (both_ways _ going over);
       }
 
@@ -276,7 +278,7 @@ module _ (program : Program) (search : SearchState) (reads : List (Name × State
 
 -- the search after one more read
 pub seen : (program : Program) (search next last : SearchState) (v : Name) (state : State) (reads : List (Name × State)) → next_of search ≡ Some v → HasSearched program search reads
-    → Adds v state search next → (IsOnce next.found → last ≡ record (gone_on v next) { room = last.room }) → HasSearched program last ((v, state) ∷ reads)
+    → AddsState v state search next → (IsOnce next.found → last ≡ record (gone_on v next) { room = last.room }) → HasSearched program last ((v, state) ∷ reads)
 seen program search next last v state reads is h adds goes =
     let first = next-first search v is in
     let now = h.going first.1 in
@@ -286,12 +288,12 @@ seen program search next last v state reads is h adds goes =
     let reads' : List (Name × State) = (v, state) ∷ reads in
     let within = within-next search reads n done g.within v next.rest adds.rest state next adds in
     let aim = h.aim ∙ ap Some (sym adds.aim) in
-    let free : IsFree next.aim.target ((levels_read reads' next.aim n).before ++ done) =
-    subst (λ a. IsFree a.target ((levels_read reads' a n).before ++ done)) (sym adds.aim) (subst (λ levels. IsFree search.aim.target (levels.before ++ done)) (same-levels-read search reads n done g.within v next.rest adds.rest state) g.free) in
+    let free : IsTargetNotIn next.aim.target ((levels_read reads' next.aim n).before ++ done) =
+    subst (λ a. IsTargetNotIn a.target ((levels_read reads' a n).before ++ done)) (sym adds.aim) (subst (λ levels. IsTargetNotIn search.aim.target (levels.before ++ done)) (same-levels-read search reads n done g.within v next.rest adds.rest state) g.free) in
     let found = found-next search next program reads v state (new-read search reads n done g.within v next.rest adds.rest state) h.found adds (all n done within aim free) in
     subst (λ s. HasSearched program s reads') (sym (goes within.found_once)) (with-room program (gone_on v next) reads' last.room (goes-on-from program next reads' n done v within aim free found (adds.over ∙ first.1)))
   where
-    all : (n : ℕ) (done : List Name) → IsWithinLevel next ((v, state) ∷ reads) n (done ++ v ∷ []) → aim_of program ≡ Some next.aim → IsFree next.aim.target ((levels_read ((v, state) ∷ reads) next.aim n).before ++ done)
+    all : (n : ℕ) (done : List Name) → IsWithinLevel next ((v, state) ∷ reads) n (done ++ v ∷ []) → aim_of program ≡ Some next.aim → IsTargetNotIn next.aim.target ((levels_read ((v, state) ∷ reads) next.aim n).before ++ done)
         → (w : Name) → IsTrue (is_among (keys_of ((v, state) ∷ reads)) w) → IsTrue (is_among (visits_to (length ((v, state) ∷ reads)) (graph_read ((v, state) ∷ reads)) program) w)
     all n done within aim free w k =
         let visits = visits-after next program ((v, state) ∷ reads) n (done ++ v ∷ []) within aim in

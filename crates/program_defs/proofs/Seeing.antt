@@ -1,4 +1,5 @@
 -- One more vertex is read.
+-- Used by Pathing, Rereading and Searched.
 use Rattle.std.proofs.Common.{append-nil, append_assoc, ◌≡◌, ℕ, zero, suc, Bool, true, false, not, ◌&&◌, ◌||◌, List, [], ◌∷◌, ◌++◌, IsTrue, refl, sym, ap, subst, ◌∙◌, Option}
 use Rattle.std.specs.Prelude.{if◌then◌else◌}
 use Rattle.std.specs.Map.{keys_of}
@@ -8,12 +9,13 @@ use Rattle.weave_data.specs.declared.name.Name.{Name}
 use Rattle.graph_ops.specs.Mentions.{is_among}
 use Rattle.graph_ops.specs.Operations.{State}
 use Rattle.graph_ops.specs.PlainGraph.{PlainGraph}
+use Rattle.graph_ops.proofs.Vertices.{itself}
 use Rattle.program_defs.specs.declared.program.Filter.{Filter}
 use Rattle.program_defs.specs.Agreement.{Agree}
-use Rattle.program_defs.specs.Searching.{SearchState, Adds, IsWithinLevel, IsOnce, has_name, new_names, levels_read}
+use Rattle.program_defs.specs.Searching.{SearchState, AddsState, IsWithinLevel, IsOnce, has_name, new_names, levels_read}
 use Rattle.program_defs.specs.Visits.{targets_of_all, levels_to, through, through_level, graph_read}
 use Rattle.program_defs.specs.Walks.{targets}
-use Rattle.program_defs.proofs.Members.{itself, among-left, among-right}
+use Rattle.program_defs.proofs.Members.{among-left, among-right}
 use Rattle.program_defs.proofs.NewNames.{new-among, new-once}
 use Rattle.program_defs.proofs.Once.{through-once, new-after, once-append}
 use Rattle.program_defs.proofs.VisitsAgree.{next-levels, targets-same}
@@ -77,7 +79,7 @@ module _ (search : SearchState) (reads : List (Name × State)) (n : ℕ) (done :
       here : now v ≡ state
       here = rw (itself v) refl
 
-  module _ (next : SearchState) (adds : Adds v state search next) where
+  module _ (next : SearchState) (adds : AddsState v state search next) where
     abbrev tg : Name → Bool
     tg w = is_among (targets search.aim.pass state) w
 

@@ -1,4 +1,5 @@
--- Lists of names in rising order: two of them with the same members are one list.
+-- Lists of names in rising order: two of them with the same members are equal.
+-- Used by Answering, Cutting, Once, OneAnswer, Searched and Sorting.
 use Rattle.std.proofs.Common.{◌≡◌, ◌+◌, true, false, List, [], ◌∷◌, IsTrue, refl, sym, ap, subst, ◌∙◌, ◌⊎◌, inl, inr, arith, get_or}
 use Rattle.std.specs.Prelude.{⊤}
 use Rattle.std.specs.BTreeSet.{insert_key}
@@ -14,9 +15,10 @@ use Rattle.std.specs.Cmp.{both_ways as same_test}
 use Rattle.weave_data.specs.Names.{name_cmp, same_name, one_name}
 use Rattle.weave_data.specs.declared.name.Name.{Name}
 use Rattle.graph_ops.specs.Mentions.{is_among}
+use Rattle.graph_ops.proofs.Vertices.{itself}
 use Rattle.program_defs.specs.PlainAnswer.{is_rising}
 use Rattle.program_defs.specs.Visits.{as_set}
-use Rattle.program_defs.proofs.Members.{itself, insert-only}
+use Rattle.program_defs.proofs.Members.{insert-only}
 
 -- the name comes before each of these
 abbrev pub IsBelowAll : Name → List Name → Type 0
@@ -44,7 +46,7 @@ head-in x xs = or_left _ _ (itself x)
 pub tail-in : (x : Name) (xs : List Name) (v : Name) → IsTrue (is_among xs v) → IsTrue (is_among (x ∷ xs) v)
 tail-in x xs v h = or_right (same_name x v) _ h
 
--- sets with the same members are one
+-- sets with the same members are equal
 pub same-sets : (xs ys : List Name) → IsSet xs → IsSet ys → HaveSame xs ys → xs ≡ ys
 same-sets [] [] s t same = refl
 same-sets [] (y ∷ ys) s t same = let e : false ≡ true = same y ∙ head-in y ys in cc

@@ -1,4 +1,5 @@
 -- A sorted list of names, none twice, is their set.
+-- Used by `go_down` and `present`.
 use Rattle.std.proofs.Common.{◌≡◌, List, [], ◌∷◌, sym, ◌∙◌, false}
 use Rattle.std.specs.Cmp.{both_ways as same_test}
 use Rattle.std.specs.List.{IsDistinct, AllByRecursion}

@@ -1,32 +1,30 @@
 -- Where a search is after one more read: further in its level, or at the start of the next one.
+-- Used by Pathing.
 use Rattle.std.proofs.Common.{append_assoc, ◌≡◌, ℕ, zero, suc, Bool, true, false, List, [], ◌∷◌, ◌++◌, sym, subst, ◌∙◌, Option, Some, None, arith}
 use Rattle.std.specs.Prelude.{is_none, if◌then◌else◌}
 use Rattle.weave_data.specs.declared.name.Name.{Name}
 use Rattle.graph_ops.specs.Operations.{State}
 use Rattle.program_defs.specs.declared.program.Program.{Program}
-use Rattle.program_defs.specs.Searching.{SearchState, IsWithinLevel, IsGoing, IsFree, IsLeft, aim_of, levels_read, turned, onto_next_level, gone_on}
+use Rattle.program_defs.specs.Searching.{SearchState, IsWithinLevel, IsGoing, IsTargetNotIn, IsLeft, aim_of, levels_read, turned, onto_next_level, gone_on}
 use Rattle.program_defs.specs.Visits.{as_set, first_of}
 use Rattle.program_defs.specs.Walks.{is_value}
-use Rattle.program_defs.proofs.Searched.{some-first, none-first, free-more, within-down, free-down}
+use Rattle.program_defs.proofs.Searched.{some-first, none-first, free-more, within-down, free-down, read-earlier}
 
 module _ (program : Program) (search : SearchState) (reads : List (Name × State)) (n : ℕ) (before : List Name) (v : Name) where
   abbrev done : List Name
   done = before ++ v ∷ []
-
-  abbrev earlier : List Name
-  earlier = (levels_read reads search.aim n).before ++ before
 
   -- this level, while some of it is left, and then the next one
   pub record IsStage (next : SearchState) : Type 0 where
     pub on : is_none (first_of search.rest) ≡ false → IsGoing next reads n done
     pub down : is_none (first_of search.rest) ≡ true → IsGoing next reads (suc n) []
 
-  module _ (within : IsWithinLevel search reads n done) (aim : aim_of program ≡ Some search.aim) (free : IsFree search.aim.target earlier) where
-    split : (levels_read reads search.aim n).before ++ done ≡ earlier ++ v ∷ []
+  module _ (within : IsWithinLevel search reads n done) (aim : aim_of program ≡ Some search.aim) (free : IsTargetNotIn search.aim.target (read-earlier search reads n before)) where
+    split : (levels_read reads search.aim n).before ++ done ≡ (read-earlier search reads n before) ++ v ∷ []
     split = sym (append_assoc (levels_read reads search.aim n).before before (v ∷ []))
 
-    free-now : is_value search.aim.target v ≡ false → IsFree search.aim.target ((levels_read reads search.aim n).before ++ done)
-    free-now other = subst (IsFree search.aim.target) (sym split) (free-more search.aim.target earlier v free other)
+    free-now : is_value search.aim.target v ≡ false → IsTargetNotIn search.aim.target ((levels_read reads search.aim n).before ++ done)
+    free-now other = subst (IsTargetNotIn search.aim.target) (sym split) (free-more search.aim.target (read-earlier search reads n before) v free other)
 
     down-now : search.rest ≡ [] → is_value search.aim.target v ≡ false → (left : Option ℕ) → IsLeft search.aim.bound (suc n) left → (onto_next_level left search).over ≡ false → IsGoing (onto_next_level left search) reads (suc n) []
     down-now none other left so_many more = record {

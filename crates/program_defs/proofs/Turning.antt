@@ -1,4 +1,5 @@
 -- From one level to the next.
+-- Used by `add`, `go_down`, `go_on`, Pathing and Searched.
 use Rattle.std.proofs.Common.{◌≡◌, ◌<◌, ◌≤◌, ℕ, suc, drop, arith, refl, Bool, true, false, List, [], ◌∷◌, length, ap, ◌∙◌, sym, Option, Some, None, ◌+◌}
 use Rattle.std.specs.Prelude.{is_none, ◌==◌, if◌then◌else◌}
 use Rattle.std.proofs.Math.Seq.{drop-cons}

@@ -1,4 +1,5 @@
 -- Graphs that agree on the vertices that a program visits have the same list of visits.
+-- Used by `only_visits_matter`, Answering, AnswersAgree, Asking, Cutting, Feeding, Listing, Once, Onward and 2 more.
 use Rattle.std.proofs.Common.{◌≡◌, ℕ, zero, suc, Bool, true, false, List, [], ◌∷◌, ◌++◌, IsTrue, refl, sym, ap, subst, ◌∙◌, Option, ◌⊎◌, inl, inr}
 use Rattle.std.specs.Prelude.{if◌then◌else◌}
 use Rattle.std.proofs.lemmas.Bool.{cases_Bool, both_ways, or_cases, or_left, or_right}
@@ -6,13 +7,14 @@ use Rattle.weave_data.specs.Names.{same_name}
 use Rattle.weave_data.specs.declared.name.Name.{Name}
 use Rattle.graph_ops.specs.Mentions.{is_among}
 use Rattle.graph_ops.specs.PlainGraph.{PlainGraph}
+use Rattle.graph_ops.proofs.Vertices.{itself}
 use Rattle.program_defs.specs.declared.program.Filter.{Filter}
 use Rattle.program_defs.specs.declared.program.Program.{Program}
 use Rattle.program_defs.specs.declared.program.Program.TheVariants.{Show, Reach, Around, Path}
 use Rattle.program_defs.specs.Visits.{Levels, through, next_level, as_set, targets_of_all, not_among, levels_to, through_level, up_to, visits_to, IsVisited, IsListOfVisits}
 use Rattle.program_defs.specs.Walks.{targets}
 use Rattle.program_defs.specs.Agreement.{Agree, AgreeOnVisits}
-use Rattle.program_defs.proofs.Members.{itself, among-left, among-right}
+use Rattle.program_defs.proofs.Members.{among-left, among-right}
 use Rattle.program_defs.proofs.OneList.{same-turned, cut-there, not-there}
 
 -- Names up to a target
@@ -85,7 +87,7 @@ visits-same g h (Path from to bound pass) n a = same-up-to g h pass from to boun
 pub visited-same : (g h : PlainGraph) (program : Program) → AgreeOnVisits g h program → (v : Name) → IsVisited g program v → IsVisited h program v
 visited-same g h program a v visited = (visited.0, subst (λ xs. IsTrue (is_among xs v)) (visits-same g h program visited.0 (λ w k. a w (visited.0, k))) visited.1)
 
--- what the one graph's program visits, the other's does
+-- if two graphs agree on what a program visits in the first, they agree on what it visits in the second
 pub agree-back : (g h : PlainGraph) (program : Program) → AgreeOnVisits g h program → AgreeOnVisits h g program
 agree-back g h program a v visited = sym (a v (visited.0, subst (λ xs. IsTrue (is_among xs v)) (sym (visits-same g h program visited.0 (λ w k. a w (visited.0, k)))) visited.1))
 

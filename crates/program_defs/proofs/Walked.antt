@@ -1,4 +1,5 @@
 -- The marks of a level, and the search for the least walk after one more read.
+-- Used by Pathing and Rereading.
 use Rattle.std.proofs.Common.{◌≡◌, ℕ, suc, ◌+◌, ◌-◌, ◌<◌, ◌≤◌, Bool, true, false, List, [], ◌∷◌, ◌++◌, IsTrue, refl, sym, ap, subst, ◌∙◌, Option, Some, None, ◌⊎◌, inl, inr, arith}
 use Rattle.std.specs.Prelude.{is_some}
 use Rattle.std.specs.Cmp.{both_ways as same_test}
@@ -15,7 +16,7 @@ use Rattle.program_defs.specs.declared.path_search.Mark.{Mark}
 use Rattle.program_defs.specs.declared.program.Filter.{Filter}
 use Rattle.program_defs.specs.Ranks.{ComesNoLater, IsRankedAt}
 use Rattle.program_defs.specs.Visits.{levels_to, through_level}
-use Rattle.program_defs.specs.Walking.{IsIn, IsRising, HasHops, HasMarked, parent_or, rank_or, parents, ranks, marked}
+use Rattle.program_defs.specs.Walking.{IsIn, HopsRise, HasHops, HasMarked, parent_or, rank_or, parents, ranks, marked}
 use Rattle.program_defs.specs.Walks.{targets}
 use Rattle.program_defs.proofs.Levels.{targets-through, through-more, new-in-level, source-before}
 use Rattle.program_defs.proofs.Marking.{marked-stays, marked-has, origin, first-of, in-order}
@@ -92,7 +93,7 @@ module _ (graph : PlainGraph) (pass : Option Filter) (from : Name) where
 
   -- The marks of one more level
 
-  module _ (n : ℕ) (marks : Name → Option Mark) (was : HasMarked marks graph pass from n) (hops sorted : List Hop) (has : HasHops marks graph pass (levels_to n graph pass from).level hops) (moved : IsPermutation hops sorted) (rising : IsRising sorted) (count : ℕ) where
+  module _ (n : ℕ) (marks : Name → Option Mark) (was : HasMarked marks graph pass from n) (hops sorted : List Hop) (has : HasHops marks graph pass (levels_to n graph pass from).level hops) (moved : IsPermutation hops sorted) (rising : HopsRise sorted) (count : ℕ) where
     abbrev now : Name → Option Mark
     now v = marked marks count sorted v
 

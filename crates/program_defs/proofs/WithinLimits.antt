@@ -1,4 +1,5 @@
 -- The test of the limits on scripts.
+-- Used by `is_within_limits`.
 use Rattle.std.proofs.Common.{◌≡◌, ℕ, zero, suc, Bool, ◌&&◌, List, [], ◌∷◌, IsTrue, length, refl, subst, Some, nat_le, nat_lt}
 use Rattle.std.specs.Prelude.{◌↔◌, slice_get}
 use Rattle.std.specs.List.{list_all}

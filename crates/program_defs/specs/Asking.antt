@@ -43,23 +43,26 @@ abbrev pub AreRead : List (Name × State) → List Name → Type 0
 AreRead reads names = (v : Name) → has_name names v ≡ is_among (keys_of reads) v
 
 -- the search has read states of the graph, and no others; of these vertices
-pub record HasNoted (program : Program) (graph : PlainGraph) (search : SearchState) (names : List Name) : Type 0 where
-  pub read : HasReadOf program graph search
-  pub noted : AreRead read.reads names
+pub record HasReadNames (program : Program) (graph : PlainGraph) (search : SearchState) (names : List Name) : Type 0
+  where
+    pub read : HasReadOf program graph search
+    pub noted : AreRead read.reads names
 
 -- it has read all that the program visits there
-pub record HasReadVisits (program : Program) (graph : PlainGraph) (search : SearchState) (names : List Name) : Type 0 where
-  pub all : HasAllRead program graph search
-  pub noted : AreRead all.read.reads names
+pub record HasReadVisits (program : Program) (graph : PlainGraph) (search : SearchState) (names : List Name) : Type 0
+  where
+    pub all : HasAllRead program graph search
+    pub noted : AreRead all.read.reads names
 
 -- the same of the search for the least walk
 pub record HasNotedWalk (program : Program) (graph : PlainGraph) (walk : WalkState) (names : List Name) : Type 0 where
   pub read : HasWalkedOf program graph walk
   pub noted : AreRead read.reads names
 
-pub record HasWalkedVisits (program : Program) (graph : PlainGraph) (walk : WalkState) (names : List Name) : Type 0 where
-  pub all : HasAllWalked program graph walk
-  pub noted : AreRead all.read.reads names
+pub record HasWalkedVisits (program : Program) (graph : PlainGraph) (walk : WalkState) (names : List Name) : Type 0
+  where
+    pub all : HasAllWalked program graph walk
+    pub noted : AreRead all.read.reads names
 
 -- the names that a search of a graph can ask for: the start, and the targets of the passing edges
 abbrev pub names_in : Vertices → Aim → List Name

@@ -4,7 +4,8 @@ use Rattle.program_defs.specs.Works.{ops_of}
 use Rattle.program_defs.specs.declared.script.Request.{Request}
 use Rattle.program_defs.specs.declared.script.Script.{Script}
 
--- 1 to 8 gatekeepers, 1 to 16 shards and at most 10,000 requests; each of these has one of the gatekeepers, a session below 64, and at most 64 operations
+-- 1 to 8 gatekeepers, 1 to 16 shards and at most 10,000 requests; each of these has one of the gatekeepers, a session
+-- below 64, and at most 64 operations
 pub record IsWithinLimits (script : Script) : Type 0 where
   pub some_gate : 1 ≤ script.gates
   pub few_gates : script.gates ≤ 8
@@ -13,12 +14,15 @@ pub record IsWithinLimits (script : Script) : Type 0 where
   pub few_requests : length script.requests ≤ 10000
   pub homes : (r : ℕ) (request : Request) → slice_get script.requests r ≡ Some request → request.gate < script.gates
   pub sessions : (r : ℕ) (request : Request) → slice_get script.requests r ≡ Some request → request.session < 64
-  pub few_ops : (r : ℕ) (request : Request) → slice_get script.requests r ≡ Some request → length (ops_of request.work) ≤ 64
+  pub few_ops : (r : ℕ) (request : Request) → slice_get script.requests r ≡ Some request
+      → length (ops_of request.work) ≤ 64
 
 -- The same as tests, for proofs
 
 abbrev pub are_counts_within_limits : ℕ → ℕ → ℕ → Bool
-are_counts_within_limits gates shards requests = (nat_le 1 gates && nat_le 1 shards) && ((nat_le gates 8 && nat_le shards 16) && nat_le requests 10000)
+are_counts_within_limits gates shards requests =
+    (nat_le 1 gates && nat_le 1 shards) && ((nat_le gates 8 && nat_le shards 16) && nat_le requests 10000)
 
 abbrev pub is_request_within : ℕ → Request → Bool
-is_request_within gates request = (nat_lt request.gate gates && nat_lt request.session 64) && nat_le (length (ops_of request.work)) 64
+is_request_within gates request =
+    (nat_lt request.gate gates && nat_lt request.session 64) && nat_le (length (ops_of request.work)) 64

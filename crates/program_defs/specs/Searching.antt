@@ -19,7 +19,9 @@ aim_of (Reach from to pass) = Some (record { from = from; target = Some to; boun
 aim_of (Around from bound pass) = Some (record { from = from; target = None; bound = Some bound; pass = pass })
 aim_of (Path from to bound pass) = Some (record { from = from; target = Some to; bound = Some bound; pass = pass })
 
--- what contracts see of a search: its aim, how many levels may follow this one, what is left of this level, the new targets found in it, all names reached, the vertices that are there, whether it is over, and for how many more names there is room
+-- what contracts see of a search: its aim, how many levels may follow this one, what is left of this level, the new
+-- targets found in it, all names reached, the vertices that are there, whether it is over, and for how many more names
+-- there is room
 pub record SearchState : Type 0 where
   pub aim : Aim
   pub left : Option ℕ
@@ -59,34 +61,39 @@ abbrev pub levels_read : List (Name × State) → Aim → ℕ → Levels
 levels_read reads aim n = levels_to n (graph_read reads) aim.pass aim.from
 
 -- the target is not among these
-abbrev pub IsFree : Option Name → List Name → Type 0
-IsFree None vertices = ⊤
-IsFree (Some target) vertices = is_among vertices target ≡ false
+abbrev pub IsTargetNotIn : Option Name → List Name → Type 0
+IsTargetNotIn None vertices = ⊤
+IsTargetNotIn (Some target) vertices = is_among vertices target ≡ false
 
 -- the search is within level n, of which these were read
 pub record IsWithinLevel (search : SearchState) (reads : List (Name × State)) (n : ℕ) (done : List Name) : Type 0 where
   pub left : IsLeft search.aim.bound n search.left
   pub level : (levels_read reads search.aim n).level ≡ done ++ search.rest
   pub read : (v : Name) → is_among (keys_of reads) v ≡ is_among ((levels_read reads search.aim n).before ++ done) v
-  pub reached : (v : Name) → has_name search.reached v ≡ is_among (through_level n (graph_read reads) search.aim.pass search.aim.from) v || is_among search.found v
-  pub found : (v : Name) → is_among search.found v ≡ is_among (targets_of_all (graph_read reads) search.aim.pass done) v && not (is_among (through_level n (graph_read reads) search.aim.pass search.aim.from) v)
+  pub reached : (v : Name) → has_name search.reached v
+      ≡ is_among (through_level n (graph_read reads) search.aim.pass search.aim.from) v || is_among search.found v
+  pub found : (v : Name) → is_among search.found v
+      ≡ is_among (targets_of_all (graph_read reads) search.aim.pass done) v && not
+      (is_among (through_level n (graph_read reads) search.aim.pass search.aim.from) v)
   pub found_once : IsOnce search.found
 
 -- it goes on: there is more of the level, and the target wasn't read
 pub record IsGoing (search : SearchState) (reads : List (Name × State)) (n : ℕ) (done : List Name) : Type 0 where
   pub within : IsWithinLevel search reads n done
   pub more : IsSome (first_of search.rest)
-  pub free : IsFree search.aim.target ((levels_read reads search.aim n).before ++ done)
+  pub free : IsTargetNotIn search.aim.target ((levels_read reads search.aim n).before ++ done)
 
 -- each vertex in the list of visits was read
 abbrev pub AllRead : List (Name × State) → Program → Type 0
-AllRead reads program = (v : Name) → IsTrue (is_among (visits_to (length reads) (graph_read reads) program) v) → IsTrue (is_among (keys_of reads) v)
+AllRead reads program = (v : Name) → IsTrue (is_among (visits_to (length reads) (graph_read reads) program) v)
+    → IsTrue (is_among (keys_of reads) v)
 
 -- the vertices that are there, each once; each that was read was visited
 pub record HasFound (search : SearchState) (program : Program) (reads : List (Name × State)) : Type 0 where
   pub present : (v : Name) → is_among search.present v ≡ is_some (graph_read reads v)
   pub once : IsOnce search.present
-  pub visited : (v : Name) → IsTrue (is_among (keys_of reads) v) → IsTrue (is_among (visits_to (length reads) (graph_read reads) program) v)
+  pub visited : (v : Name) → IsTrue (is_among (keys_of reads) v)
+      → IsTrue (is_among (visits_to (length reads) (graph_read reads) program) v)
 
 -- the search is that of the program after these reads, the newest first
 pub record HasSearched (program : Program) (search : SearchState) (reads : List (Name × State)) : Type 0 where
@@ -111,7 +118,7 @@ pub record SameReached (old new : SearchState) : Type 0 where
   pub over : new.over ≡ old.over
 
 -- the state of the next vertex adds to what was reached and found
-pub record Adds (v : Name) (state : State) (old new : SearchState) : Type 0 where
+pub record AddsState (v : Name) (state : State) (old new : SearchState) : Type 0 where
   pub aim : new.aim ≡ old.aim
   pub left : new.left ≡ old.left
   pub over : new.over ≡ old.over
@@ -122,19 +129,29 @@ pub record Adds (v : Name) (state : State) (old new : SearchState) : Type 0 wher
 
 -- the search after the last vertex of a level, if that many levels may follow: the names found are the next level
 abbrev pub onto_next_level : Option ℕ → SearchState → SearchState
-onto_next_level left search = record search { left = left; rest = as_set search.found; found = []; over = is_none (first_of (as_set search.found)) }
+onto_next_level left search =
+    record search {
+      left = left;
+      rest = as_set search.found;
+      found = [];
+      over = is_none
+          (first_of (as_set search.found));
+    }
 
 abbrev pub turned : Option ℕ → SearchState → SearchState
 turned (Some zero) search = record search { over = true }
 turned (Some (suc left)) search = onto_next_level (Some left) search
 turned None search = onto_next_level None search
 
--- the search after what was read of this vertex was added: it ends with the target, and goes on to the next level after the last vertex of this one
+-- the search after what was read of this vertex was added: it ends with the target, and goes on to the next level after
+-- the last vertex of this one
 abbrev pub gone_on : Name → SearchState → SearchState
-gone_on v search = if is_value search.aim.target v then record search { over = true } else (if is_none (first_of search.rest) then turned search.left search else search)
+gone_on v search =
+    if is_value search.aim.target v then record search { over = true } else
+    (if is_none (first_of search.rest) then turned search.left search else search)
 
 -- the search after the read of the next vertex in this state
 pub record Seen (v : Name) (state : State) (old new : SearchState) : Type 0 where
   pub added : SearchState
-  pub adds : Adds v state old added
+  pub adds : AddsState v state old added
   pub onward : IsOnce added.found → new ≡ record (gone_on v added) { room = new.room }

@@ -38,7 +38,12 @@ through levels = levels.before ++ levels.level
 
 -- level n + 1 is the set of the targets of level n's passing edges that are in no earlier level
 abbrev pub next_level : PlainGraph → Option Filter → Levels → Levels
-next_level graph pass levels = record { before = through levels; level = as_set (not_among (through levels) (targets_of_all graph pass levels.level)) }
+next_level graph pass levels =
+    record {
+      before = through levels;
+      level = as_set
+          (not_among (through levels) (targets_of_all graph pass levels.level));
+    }
 
 -- level 0 is the start
 abbrev pub levels_to : ℕ → PlainGraph → Option Filter → Name → Levels
@@ -54,8 +59,10 @@ abbrev pub up_to : Name → List Name → List Name
 up_to target [] = []
 up_to target (v ∷ rest) = if same_name target v then v ∷ [] else v ∷ up_to target rest
 
--- The list of visits. `show` visits its vertex alone; the others go level by level. `reach` and `path` end with the target, `around` and `path` with the level of their bound.
--- `reach` has no bound and is gone through to level n: if a level is empty, so is each later one, and the list is whole.
+-- The list of visits. `show` visits its vertex alone; the others go level by level. `reach` and `path` end with the
+-- target, `around` and `path` with the level of their bound.
+-- `reach` has no bound and is gone through to level n: if a level is empty, so are later ones, and the list is
+-- complete.
 abbrev pub visits_to : ℕ → PlainGraph → Program → List Name
 visits_to n graph (Show v) = v ∷ []
 visits_to n graph (Reach from to pass) = up_to to (through_level n graph pass from)
@@ -66,7 +73,7 @@ visits_to n graph (Path from to bound pass) = up_to to (through_level bound grap
 abbrev pub IsVisited : PlainGraph → Program → Name → Type 0
 IsVisited graph program v = (n : ℕ) × IsTrue (is_among (visits_to n graph program) v)
 
--- the list of visits, whole: it is gone through so far that it has each vertex visited
+-- the complete list of visits: long enough to have every visited vertex
 pub record IsListOfVisits (graph : PlainGraph) (program : Program) (visits : List Name) : Type 0 where
   pub last_level : ℕ
   pub in_turn : visits ≡ visits_to last_level graph program
@@ -77,9 +84,11 @@ abbrev pub graph_read : List (Name × State) → PlainGraph
 graph_read [] v = None
 graph_read (read ∷ reads) v = if same_name read.0 v then read.1 else graph_read reads v
 
--- the first vertex not yet read in the list of visits of what was read. Each level after the start is reached from one of a vertex that was read, so there are no more of them than reads.
+-- the first vertex not yet read in the list of visits of what was read. Each level after the start is reached from one
+-- of a vertex that was read, so there are no more of them than reads.
 abbrev pub next_visit : List (Name × State) → Program → Option Name
-next_visit reads program = find (λ v. not (is_among (keys_of reads) v)) (visits_to (length reads) (graph_read reads) program)
+next_visit reads program =
+    find (λ v. not (is_among (keys_of reads) v)) (visits_to (length reads) (graph_read reads) program)
 
 -- the states that a graph has at these vertices
 abbrev pub states_at : PlainGraph → List Name → List (Name × State)
@@ -92,4 +101,5 @@ first_of (v ∷ rest) = Some v
 
 -- those read are the first that many of the list of visits over the states read, in whatever order
 abbrev pub AreFirstVisits : List (Name × State) → Program → Type 0
-AreFirstVisits reads program = (v : Name) → IsTrue (is_among (keys_of reads) v) ↔ IsTrue (is_among (take (length reads) (visits_to (length reads) (graph_read reads) program)) v)
+AreFirstVisits reads program = (v : Name) → IsTrue (is_among (keys_of reads) v)
+    ↔ IsTrue (is_among (take (length reads) (visits_to (length reads) (graph_read reads) program)) v)

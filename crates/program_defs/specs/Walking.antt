@@ -16,7 +16,8 @@ use Rattle.program_defs.specs.Searching.{SearchState, IsGoing, HasSearched, Same
 use Rattle.program_defs.specs.Visits.{through_level, graph_read}
 use Rattle.program_defs.specs.Walks.{targets}
 
--- what contracts see of a search for the least walk: the search, the marks of the levels up to this one, the passing edges of what was read of this level, and for how many more names there is room
+-- what contracts see of a search for the least walk: the search, the marks of the levels up to this one, the passing
+-- edges of what was read of this level, and for how many more names there is room
 pub record WalkState : Type 0 where
   pub search : SearchState
   pub marks : List (Name × Mark)
@@ -33,9 +34,9 @@ abbrev pub IsNoLater : Hop → Hop → Type 0
 IsNoLater a b = ComesNoLater a.rank b.rank a.target b.target
 
 -- each hop comes no later than those after it
-abbrev pub IsRising : List Hop → Type 0
-IsRising [] = ⊤
-IsRising (hop ∷ rest) = ((other : Hop) → IsIn rest other → IsNoLater hop other) × IsRising rest
+abbrev pub HopsRise : List Hop → Type 0
+HopsRise [] = ⊤
+HopsRise (hop ∷ rest) = ((other : Hop) → IsIn rest other → IsNoLater hop other) × HopsRise rest
 
 -- the marks in a table
 abbrev pub mark_in : List (Name × Mark) → Name → Option Mark
@@ -63,25 +64,30 @@ with_mark v mark marks w = if same_name v w then Some mark else marks w
 -- the marks after these hops in turn, if there were that many marks before: each new target is marked once
 abbrev pub marked : (Name → Option Mark) → ℕ → List Hop → Name → Option Mark
 marked marks count [] v = marks v
-marked marks count (hop ∷ rest) v = if is_some (marks hop.target) then marked marks count rest v else marked (with_mark hop.target (record { parent = hop.parent; rank = count }) marks) (count + 1) rest v
+marked marks count (hop ∷ rest) v =
+    if is_some (marks hop.target) then marked marks count rest v else marked
+    (with_mark hop.target (record { parent = hop.parent; rank = count }) marks) (count + 1) rest v
 
 -- the hops from a vertex of this rank to these targets
 abbrev pub hops_from : Name → ℕ → List Name → List Hop
 hops_from v rank names = map (λ name. record { rank = rank; target = name; parent = v }) names
 
 -- the hops are the passing edges of these vertices, with the ranks of these
-pub record HasHops (marks : Name → Option Mark) (graph : PlainGraph) (pass : Option Filter) (done : List Name) (hops : List Hop) : Type 0 where
+pub record HasHops (marks : Name
+    → Option Mark) (graph : PlainGraph) (pass : Option Filter) (done : List Name) (hops : List Hop) : Type 0 where
   pub parent : (hop : Hop) → IsIn hops hop → IsTrue (is_among done hop.parent)
   pub edge : (hop : Hop) → IsIn hops hop → IsTrue (is_among (targets pass (graph hop.parent)) hop.target)
   pub rank : (hop : Hop) → IsIn hops hop → hop.rank ≡ ranks marks hop.parent
-  pub all : (u v : Name) → IsTrue (is_among done u) → IsTrue (is_among (targets pass (graph u)) v) → IsIn hops (record { rank = ranks marks u; target = v; parent = u })
+  pub all : (u v : Name) → IsTrue (is_among done u) → IsTrue (is_among (targets pass (graph u)) v)
+      → IsIn hops (record { rank = ranks marks u; target = v; parent = u })
 
 -- the levels 1 to n are ranked
 abbrev pub IsRankedTo : ℕ → PlainGraph → Option Filter → Name → (Name → Option Mark) → Type 0
 IsRankedTo n graph pass from marks = (k : ℕ) → k < n → IsRankedAt k graph pass from (parents marks) (ranks marks)
 
 -- the vertices of the levels 0 to n are marked, and ranked in each level
-pub record HasMarked (marks : Name → Option Mark) (graph : PlainGraph) (pass : Option Filter) (from : Name) (n : ℕ) : Type 0 where
+pub record HasMarked (marks : Name
+    → Option Mark) (graph : PlainGraph) (pass : Option Filter) (from : Name) (n : ℕ) : Type 0 where
   pub marked : (v : Name) → is_some (marks v) ≡ is_among (through_level n graph pass from) v
   pub ranked : IsRankedTo n graph pass from marks
 
@@ -91,9 +97,11 @@ pub record HasWalked (program : Program) (walk : WalkState) (reads : List (Name 
   pub level : ℕ
   pub done : List Name
   pub marked : HasMarked (mark_in walk.marks) (graph_read reads) walk.search.aim.pass walk.search.aim.from level
-  pub inside : (v : Name) → IsTrue (is_among walk.search.present v) → IsTrue (is_among (through_level level (graph_read reads) walk.search.aim.pass walk.search.aim.from) v)
+  pub inside : (v : Name) → IsTrue (is_among walk.search.present v)
+      → IsTrue (is_among (through_level level (graph_read reads) walk.search.aim.pass walk.search.aim.from) v)
   pub going : walk.search.over ≡ false → IsGoing walk.search reads level done
-  pub hops : walk.search.over ≡ false → HasHops (mark_in walk.marks) (graph_read reads) walk.search.aim.pass done walk.hops
+  pub hops : walk.search.over ≡ false
+      → HasHops (mark_in walk.marks) (graph_read reads) walk.search.aim.pass done walk.hops
 
 -- without regard to the room and to the order in the tables, the search is the same
 pub record SameWalked (old new : WalkState) : Type 0 where
@@ -105,6 +113,6 @@ pub record SameWalked (old new : WalkState) : Type 0 where
 pub record IsMarkedBy (old new : List (Name × Mark)) (before after : List Hop) : Type 0 where
   pub sorted : List Hop
   pub moved : IsPermutation before sorted
-  pub rising : IsRising sorted
+  pub rising : HopsRise sorted
   pub marks : (v : Name) → mark_in new v ≡ marked (mark_in old) (length old) sorted v
   pub taken : after ≡ []

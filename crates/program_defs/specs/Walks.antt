@@ -28,7 +28,8 @@ abbrev pub targets : Option Filter → State → List Name
 targets pass None = []
 targets pass (Some now) = map (λ (edge : Edge). edge.target) (filter (passes pass) (values_of now.edges))
 
--- whether a list is a walk from one vertex to another: it begins at the first and ends at the second, each of its vertices is there, and a passing edge joins each to the next
+-- whether a list is a walk from one vertex to another: it begins at the first and ends at the second, each of its
+-- vertices is there, and a passing edge joins each to the next
 abbrev pub is_walk : PlainGraph → Option Filter → Name → Name → List Name → Bool
 is_walk graph pass from to [] = false
 is_walk graph pass from to (v ∷ []) = same_name from v && is_some (graph v) && same_name v to
@@ -45,7 +46,9 @@ abbrev pub is_walk_within : ℕ → PlainGraph → Option Filter → Name → Na
 is_walk_within bound graph pass from to walk = is_walk graph pass from to walk && nat_le (walk_length walk) bound
 
 -- a walk of least length, within the bound, and of the walks of this length the first in the order of lists of names
-pub record IsLeastWalk (bound : ℕ) (graph : PlainGraph) (pass : Option Filter) (from : Name) (to : Name) (walk : List Name) : Type 0 where
+pub record IsLeastWalk (bound : ℕ) (graph : PlainGraph) (pass : Option Filter) (from : Name) (to : Name)
+    (walk : List Name) : Type 0 where
   pub walks : IsTrue (is_walk_within bound graph pass from to walk)
   pub shortest : (other : List Name) → IsTrue (is_walk graph pass from to other) → walk_length walk ≤ walk_length other
-  pub first : (other : List Name) → IsTrue (is_walk graph pass from to other) → walk_length other ≡ walk_length walk → IsTrue (is_le (slice_cmp name_cmp walk other))
+  pub first : (other : List Name) → IsTrue (is_walk graph pass from to other) → walk_length other ≡ walk_length walk
+      → IsTrue (is_le (slice_cmp name_cmp walk other))

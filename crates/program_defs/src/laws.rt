@@ -64,7 +64,8 @@ pub fn visits_are_asked_for()
         → next_visit (states_at graph done) program ≡ first_of rest }
 {}
 
-/// The law of programs: one that is fed the states of one graph, with the newest read first, asks for that graph's list of visits in order, and then its outcome is that graph's plain answer.
+/// The law of programs: one that is fed the states of one graph, with the newest read first, asks for that graph's list
+/// of visits in order, and then its outcome is that graph's plain answer.
 pub fn programs_visit_in_order()
     ensures next { (graph : PlainGraph) (program : Program) (visits done rest : List Name)
         → IsListOfVisits graph program visits → visits ≡ done ++ rest
@@ -75,7 +76,8 @@ pub fn programs_visit_in_order()
         → IsPlainAnswer graph program answer }
 {}
 
-/// A program that has read the first of its visits and then reads the next one has again read the first of its visits, whatever that one's state is.
+/// A program that has read the first of its visits and then reads the next one has again read the first of its visits,
+/// whatever that one's state is.
 pub fn visits_go_on()
     ensures { (program : Program) (front back : List (Name × State)) (v : Name) (state : State)
         → AreFirstVisits (front ++ back) program → next_visit (front ++ back) program ≡ Some v

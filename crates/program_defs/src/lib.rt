@@ -3,8 +3,6 @@
 
 mod aim;
 pub mod laws;
-#[cfg(test)]
-mod limit_tests;
 mod limits;
 mod path_search;
 mod plain;
@@ -12,8 +10,6 @@ mod program;
 mod script;
 mod search;
 mod targets;
-#[cfg(test)]
-mod tests;
 mod visits;
 
 pub use aim::Aim;

@@ -6,7 +6,8 @@ ghost use Rattle.program_defs.specs.Limits.{IsWithinLimits, are_counts_within_li
 use crate::script::{Request, Script, Work};
 
 impl Script {
-    /// Whether the script is within the product's limits: on its gatekeepers, its shards and the number of its requests, and for each request on its gatekeeper, its session and the number of its operations.
+    /// Whether the script is within the product's limits: on its gatekeepers, its shards and the number of its
+    /// requests, and for each request on its gatekeeper, its session and the number of its operations.
     pub fn is_within_limits(&self) -> bool
         ensures { IsTrue result ↔ IsWithinLimits self.now }
     {

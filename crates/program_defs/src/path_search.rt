@@ -26,7 +26,8 @@ use std::collections::HashMap;
 use std::marker::Model;
 use weave_data::{Items, Name};
 
-/// What is known of a vertex that was reached: the vertex before it on the least walk, and its place in the order of the least walks.
+/// What is known of a vertex that was reached: the vertex before it on the least walk, and its place in the order of
+/// the least walks.
 #[derive(Clone, Copy)]
 pub struct Mark {
     pub parent: Name,
@@ -131,7 +132,8 @@ impl PathSearch {
         }
     }
 
-    /// The plain answer over the states read: the least walk, if there is one within the bound. The one error is out of memory.
+    /// The plain answer over the states read: the least walk, if there is one within the bound. The one error is out of
+    /// memory.
     pub fn walk(&self, alloc: Global) -> Result<Option<Items<Name>>, AllocError>
         ensures { IfOk result (λ walk. (from to : Name) (bound : ℕ) (pass : Option Filter) (reads : List (Name × State))
             → HasWalked (Path from to bound pass) self.now reads

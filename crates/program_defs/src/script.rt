@@ -63,9 +63,9 @@ pub struct Script {
     /// The number of shards, 1 to 16.
     pub shards: u32,
     pub requests: Items<Request>,
-    /// For each `phase` line, how many requests stand before it.
+    /// For each `phase` line, how many requests are before it.
     pub phases: Items<u32>,
-    /// The atomic steps, where the script has a line `steps`.
+    /// The atomic steps, if the script has a line `steps`.
     pub steps: Option<Items<Step>>,
 }
 

@@ -4,7 +4,7 @@ ghost use Rattle.weave_data.specs.declared.name.Name.{Name};
 ghost use Rattle.graph_ops.specs.Mentions.{is_among};
 ghost use Rattle.graph_ops.specs.Operations.{State};
 ghost use Rattle.program_defs.specs.declared.program.Program.{Program};
-ghost use Rattle.program_defs.specs.Searching.{aim_of, next_of, has_name, new_names, edges_of, Adds, gone_on, turned, onto_next_level, SameReached, IsOnce, HasSearched, IsGoing, Seen};
+ghost use Rattle.program_defs.specs.Searching.{aim_of, next_of, has_name, new_names, edges_of, AddsState, gone_on, turned, onto_next_level, SameReached, IsOnce, HasSearched, IsGoing, Seen};
 ghost use Rattle.program_defs.specs.Visits.{as_set};
 ghost use Rattle.program_defs.specs.Walks.{is_value};
 
@@ -169,7 +169,7 @@ impl Search {
     fn add(&mut self, v: Name, state: Option<&Record>)
         requires room { edges_of (option_copied state) + 1 ≤ self.old.room }
         requires next { next_of self.old ≡ Some v }
-        ensures { Adds v (option_copied state.entry) self.old self.new }
+        ensures { AddsState v (option_copied state.entry) self.old self.new }
     {
         self.at += 1;
         if let Some(found) = state {

@@ -2,7 +2,5 @@
 #![tactic(auto)]
 
 mod reach;
-#[cfg(test)]
-mod tests;
 
 pub use reach::{Goal, ReachProgram};

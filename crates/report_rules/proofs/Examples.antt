@@ -1,4 +1,5 @@
 -- Words for worked examples.
+-- Used by NoText, OneSession, 3 more and crates hands_account, seen_logs, weave_account and weave_report.
 use Rattle.std.proofs.Common.{ℕ, List, [], ◌++◌, Some, None}
 use Rattle.std.specs.Prelude.{codes, replicate, ◌-◌, length}
 use Rattle.vector_stamp.specs.declared.clock.Stamp.{Stamp}
@@ -28,7 +29,7 @@ transaction name session gate ops = record { name = name; session = session; gat
 abbrev pub look : Name → ℕ → ℕ → Program → Request
 look name session gate program = record { name = name; session = session; gate = gate; work = Look program }
 
--- a script for so many gatekeepers
+-- a script with this number of gatekeepers
 abbrev pub script_of : ℕ → List Request → Script
 script_of gates requests = record { gates = gates; shards = 1; requests = requests; phases = []; steps = None }
 

@@ -1,4 +1,5 @@
 -- A right report breaks no clause. Another one has one verdict: one clause at most breaks first, at one place.
+-- Used by `right_report_breaks_nowhere` and `wrong_report_breaks_first_once`.
 use Rattle.std.proofs.Common.{◌≡◌, ℕ, zero, suc, ◌<◌, List, [], ◌∷◌, take, refl, sym, ap, ◌∙◌, subst, Some, inl, inr, arith}
 use Rattle.std.specs.Prelude.{slice_get}
 use Rattle.std.specs.Option.{unwrap_or}
@@ -7,11 +8,11 @@ use Rattle.program_defs.specs.declared.script.Script.{Script}
 use Rattle.report_rules.specs.declared.report.Report.{Report}
 use Rattle.report_rules.specs.declared.report.Clause.{Clause}
 use Rattle.report_rules.specs.declared.report.Clause.TheVariants.{I, Ii, Iii, Iv, V, Vi, Vii, Viii}
-use Rattle.proof_base.specs.Facts.{AllHold, BreaksFirstAt}
+use Rattle.weave_data.specs.Facts.{AllHold, BreaksFirstAt}
 use Rattle.report_rules.specs.RightReport.{facts_of, EachHolds, IsRightReport, clauses_before, BreaksFirst}
-use Rattle.proof_base.proofs.FactsLaws.{none_breaks, one_place}
+use Rattle.weave_data.proofs.FactsLaws.{none_breaks, one_place}
 
--- the clauses in order, and where each stands
+-- the clauses in order, and the place of each
 abbrev all_clauses : List Clause
 all_clauses = I ∷ Ii ∷ Iii ∷ Iv ∷ V ∷ Vi ∷ Vii ∷ Viii ∷ []
 
@@ -58,7 +59,7 @@ module _ (script : Script) (report : Report) where
   holds_among (c ∷ clauses) (suc n) zero clause lt at h = subst (λ x. AllHold (facts_of script report x)) (same_value c clause at) h.0
   holds_among (c ∷ clauses) (suc n) (suc i) clause lt at h = holds_among clauses n i clause (omega (arith, lt)) at h.1
 
-  -- where one clause breaks first, those before it hold
+  -- if one clause breaks first, those before it hold
   holds_before : (clause other : Clause) → rank other < rank clause → EachHolds script report (clauses_before clause) → AllHold (facts_of script report other)
   holds_before clause other lt h = holds_among all_clauses (rank clause) (rank other) other lt (stands other) (subst (EachHolds script report) (those_before clause) h)
 

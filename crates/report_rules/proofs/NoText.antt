@@ -23,7 +23,7 @@ told r stamp state = report_of (record { request = r; stamp = stamp; state = sta
 abbrev s : Option Stamp
 s = Some (stamp 0 (1 ∷ []))
 
--- What a text gives, right or wrong: there is no limit on numbers, and what is told need not be so
+-- What a text can give, right or wrong: numbers have no limit, and what it says need not be so
 
 pub committed : IsReportOf script (told 0 s (Committed 0 (record { op = 2; state = None } ∷ [])))
 committed = record { replies = ((refl, refl), tt); pairs = tt; order = tt }

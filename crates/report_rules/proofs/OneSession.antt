@@ -8,7 +8,7 @@ use Rattle.program_defs.specs.declared.script.Script.{Script}
 use Rattle.report_rules.specs.declared.report.Report.{Report}
 use Rattle.report_rules.specs.declared.report.ReplyState.TheVariants.{Committed, Conflict}
 use Rattle.report_rules.specs.declared.report.Clause.TheVariants.{I, Ii, Iii, Iv, Vi}
-use Rattle.proof_base.specs.Facts.{AllHold}
+use Rattle.weave_data.specs.Facts.{AllHold}
 use Rattle.report_rules.specs.RightReport.{IsRightReport, BreaksFirst, facts_of}
 use Rattle.report_rules.specs.PrintedOrder.{IsPrintedOrder}
 use Rattle.report_rules.specs.ReportOf.{IsReportOf}

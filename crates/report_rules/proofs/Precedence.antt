@@ -1,4 +1,5 @@
 -- Precedence by its test.
+-- Used by OneSession, ThreeGatekeepers, TwoSessions, WithPrograms and crate order_witness.
 use Rattle.std.proofs.Common.{◌≡◌, false, IsTrue, List}
 use Rattle.std.specs.Prelude.{◌↔◌}
 use Rattle.std.proofs.lemmas.Bool.{both_ways}

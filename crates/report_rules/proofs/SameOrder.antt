@@ -1,8 +1,9 @@
 -- The printed order looks at replies and pairs alone.
+-- Used by `orders_are_of_replies_and_pairs`.
 use Rattle.std.proofs.Common.{◌≡◌, ℕ, not, List, [], ◌∷◌, IsTrue, sym, ap, subst, ◌∙◌}
 use Rattle.std.specs.Prelude.{◌==◌}
 use Rattle.std.specs.List.{filter}
-use Rattle.proof_base.proofs.Lists.{all-map}
+use Rattle.weave_data.proofs.Lists.{all-map}
 use Rattle.report_rules.specs.declared.report.Pair.{Pair}
 use Rattle.report_rules.specs.declared.report.Reply.{Reply}
 use Rattle.report_rules.specs.declared.report.Report.{Report}

@@ -104,7 +104,7 @@ module _ (decided : IsDecided) where
   pub line_missing : BreaksFirst script (report_of (reply 0 s10 (Committed 1 []) ∷ []) [] (0 ∷ [])) I 2
   line_missing = (tt, (refl, λ fact. cc))
 
-  -- one number stands twice: numbers, 2
+  -- one number is used twice: numbers, 2
   abbrev numbered_twice : Report
   numbered_twice = report_of (reply 0 s10 (Committed 1 []) ∷ reply 1 s01 (Committed 1 []) ∷ []) (settled v 0 1 ∷ []) (0 ∷ 1 ∷ [])
 
@@ -166,7 +166,7 @@ module _ (decided : IsDecided) where
     (tt, λ fact. let h = fact.0 in cc),
   )
 
-  -- The first hears of the second, which comes to the store later
+  -- The first hears of the second, which reaches the store later
 
   abbrev conflict_report : ℕ → Report
   conflict_report newer = report_of (reply 0 (stamp 0 (1 ∷ 1 ∷ [])) (Committed 1 []) ∷ reply 1 s01 (Conflict v newer) ∷ []) [] (0 ∷ [])

@@ -1,4 +1,4 @@
-pub use Rattle.proof_base.specs.Facts
+pub use Rattle.weave_data.specs.Facts
 pub mod Lookups
 pub mod Replay
 pub mod RightReport

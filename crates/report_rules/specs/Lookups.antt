@@ -50,7 +50,8 @@ request_at script r = slice_get script.requests r
 
 -- the two requests are of one session
 abbrev pub same_session : Script → ℕ → ℕ → Bool
-same_session script a b = are_both (λ (x : Request) (y : Request). x.session == y.session) (request_at script a) (request_at script b)
+same_session script a b =
+    are_both (λ (x : Request) (y : Request). x.session == y.session) (request_at script a) (request_at script b)
 
 -- the work is a transaction that names the vertex
 abbrev pub work_names : Name → Work → Bool
@@ -120,7 +121,8 @@ given_by _ _ = None
 
 -- the pairs of the report, as stamps
 abbrev pub given_pairs : Report → List Given
-given_pairs report = filter_map (λ (pair : Pair). given_by (stamp_at report pair.earlier) (stamp_at report pair.later)) report.pairs
+given_pairs report =
+    filter_map (λ (pair : Pair). given_by (stamp_at report pair.earlier) (stamp_at report pair.later)) report.pairs
 
 -- both requests are begun, finished or not, and the first precedes the second by the order of stamps and the pairs
 abbrev pub RequestPrecedes : Report → ℕ → ℕ → Type 0

@@ -1,4 +1,4 @@
--- Requests that meet at a vertex, and the phases of a script: what a run keeps beside the clauses of a right report.
+-- Requests that meet at a vertex, and the phases of a script: what a run keeps besides the clauses of a right report.
 use Rattle.std.specs.Prelude.{◌≡◌, ◌≢◌, ◌<◌, ◌≤◌, ◌⊎◌, ◌||◌, ℕ, Bool, IsTrue, Option, Some, IsSomeAnd, nat_le, ⊤, count_by}
 use Rattle.std.specs.List.{AllByRecursion}
 use Rattle.std.specs.Option.{option_and_then}
@@ -28,8 +28,9 @@ WorkIsAt script report v r (Change ops) = IsTrue (work_names v (Change ops))
 WorkIsAt script report v r (Look program) = IsVisited (graph_at_place script report r) program v
 
 -- the request is at the vertex
-abbrev pub IsAt : Script → Report → Name → ℕ → Type 0
-IsAt script report v r = IsSomeAnd (request_at script r) (λ (request : Request). WorkIsAt script report v r request.work)
+abbrev pub RequestIsAt : Script → Report → Name → ℕ → Type 0
+RequestIsAt script report v r =
+    IsSomeAnd (request_at script r) (λ (request : Request). WorkIsAt script report v r request.work)
 
 -- two listed requests, of which one at least is a transaction, meet at a vertex
 pub record MeetAt (script : Script) (report : Report) (v : Name) (a b : ℕ) : Type 0 where
@@ -37,12 +38,13 @@ pub record MeetAt (script : Script) (report : Report) (v : Name) (a b : ℕ) : T
   pub first_is_listed : IsTrue (is_in a report.order)
   pub second_is_listed : IsTrue (is_in b report.order)
   pub one_changes : IsTrue (is_transaction script a || is_transaction script b)
-  pub first_is_there : IsAt script report v a
-  pub second_is_there : IsAt script report v b
+  pub first_is_there : RequestIsAt script report v a
+  pub second_is_there : RequestIsAt script report v b
 
 -- of two listed requests that meet, one precedes the other
 abbrev pub MeetingsAreOrdered : Script → Report → Type 0
-MeetingsAreOrdered script report = (v : Name) (a b : ℕ) → MeetAt script report v a b → RequestPrecedes report a b ⊎ RequestPrecedes report b a
+MeetingsAreOrdered script report = (v : Name) (a b : ℕ) → MeetAt script report v a b
+    → RequestPrecedes report a b ⊎ RequestPrecedes report b a
 
 -- Phases
 
@@ -63,12 +65,17 @@ IsConflictInOnePhase script r _ = ⊤
 abbrev pub IsRefusalInPhase : Script → Report → ℕ → ReplyState → Type 0
 IsRefusalInPhase script report r (Refused op reason at) =
     (other number : ℕ) → commit_number report other ≡ Some number
-    → (phase_of script other < phase_of script r → number ≤ at) × (phase_of script r < phase_of script other → at < number)
+    → (phase_of script other < phase_of script r → number ≤ at)
+    × (phase_of script r < phase_of script other → at < number)
 IsRefusalInPhase script report r _ = ⊤
 
--- no request of a later phase precedes one of an earlier phase; conflicts, commit numbers and refusals keep the phases too
+-- no request of a later phase precedes one of an earlier phase; conflicts, commit numbers and refusals keep the phases
+-- too
 pub record PhasesAreKept (script : Script) (report : Report) : Type 0 where
   pub later_never_precedes : (a b : ℕ) → phase_of script a < phase_of script b → ¬ RequestPrecedes report b a
-  pub conflicts : AllByRecursion (λ (reply : Reply). IsConflictInOnePhase script reply.request reply.state) report.replies
-  pub numbers : (a b m n : ℕ) → phase_of script a < phase_of script b → commit_number report a ≡ Some m → commit_number report b ≡ Some n → m < n
-  pub refusals : AllByRecursion (λ (reply : Reply). IsRefusalInPhase script report reply.request reply.state) report.replies
+  pub conflicts : AllByRecursion (λ (reply : Reply). IsConflictInOnePhase script reply.request reply.state)
+      report.replies
+  pub numbers : (a b m n : ℕ) → phase_of script a < phase_of script b → commit_number report a ≡ Some m
+      → commit_number report b ≡ Some n → m < n
+  pub refusals : AllByRecursion (λ (reply : Reply). IsRefusalInPhase script report reply.request reply.state)
+      report.replies

@@ -1,4 +1,5 @@
--- The printed order: again and again, among the remaining begun requests that no remaining one precedes, the one of the least home gatekeeper.
+-- The printed order: again and again, among the remaining begun requests that no remaining one precedes, the one of the
+-- least home gatekeeper.
 use Rattle.std.specs.Prelude.{ℕ, not, ◌==◌, ◌≡◌, ◌<◌, IsTrue, List, [], ◌∷◌}
 use Rattle.std.specs.List.{filter, filter_map, AllByRecursion}
 use Rattle.std.specs.Option.{option_map}
@@ -9,7 +10,8 @@ use Rattle.report_rules.specs.Lookups.{is_in, AreBoth, stamp_at, may_be_listed, 
 
 -- the begun requests, finished or not
 abbrev pub begun_requests : Report → List ℕ
-begun_requests report = filter_map (λ (reply : Reply). option_map (λ (stamp : Stamp). reply.request) reply.stamp) report.replies
+begun_requests report =
+    filter_map (λ (reply : Reply). option_map (λ (stamp : Stamp). reply.request) reply.stamp) report.replies
 
 -- no remaining request precedes this one
 abbrev pub IsFree : Report → List ℕ → ℕ → Type 0
@@ -19,11 +21,13 @@ IsFree report remaining r = AllByRecursion (λ other. ¬ RequestPrecedes report 
 abbrev pub IsOfLesserHome : Report → ℕ → ℕ → Type 0
 IsOfLesserHome report a b = AreBoth (λ (x : Stamp) (y : Stamp). x.home < y.home) (stamp_at report a) (stamp_at report b)
 
--- among the remaining requests that no remaining one precedes, this is the one of the least home: there is one at most of a home, since the stamps of a home are ordered
+-- among the remaining requests that no remaining one precedes, this is the one of the least home: there is one at most
+-- of a home, since the stamps of a home are ordered
 pub record IsNext (report : Report) (remaining : List ℕ) (r : ℕ) : Type 0 where
   pub remains : IsTrue (is_in r remaining)
   pub free : IsFree report remaining r
-  pub least : AllByRecursion (λ other. IsTrue (not (other == r)) → IsFree report remaining other → IsOfLesserHome report r other) remaining
+  pub least : AllByRecursion (λ other. IsTrue (not (other == r)) → IsFree report remaining other
+      → IsOfLesserHome report r other) remaining
 
 -- the requests without this one
 abbrev pub without_request : ℕ → List ℕ → List ℕ

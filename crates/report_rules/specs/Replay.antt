@@ -14,7 +14,7 @@ use Rattle.report_rules.specs.declared.report.Report.{Report}
 use Rattle.report_rules.specs.declared.report.Reply.{Reply}
 use Rattle.report_rules.specs.declared.report.ReplyState.{ReplyState}
 use Rattle.report_rules.specs.declared.report.ReplyState.TheVariants.{Committed, Finished}
-use Rattle.proof_base.specs.Facts.{Facts}
+use Rattle.weave_data.specs.Facts.{Facts}
 use Rattle.report_rules.specs.Lookups.{is_some_and, AreBoth, request_at, reply_at, number_of}
 
 -- One request
@@ -50,7 +50,8 @@ graph_after graph (Some request) = graph_after_work graph request.work
 abbrev pub replay_from : PlainGraph → Script → Report → List ℕ → Facts
 replay_from graph script report [] = []
 replay_from graph script report (r ∷ order) =
-    AreBoth (λ (request : Request) (reply : Reply). MatchesReply graph request.work reply.state) (request_at script r) (reply_at report r)
+    AreBoth (λ (request : Request) (reply : Reply). MatchesReply graph request.work reply.state) (request_at script r)
+    (reply_at report r)
     ∷ replay_from (graph_after graph (request_at script r)) script report order
 
 -- the graph that the requests listed before this one leave
@@ -68,9 +69,10 @@ graph_at_place script report r = graph_before r empty_graph script report.order
 -- the requests with this commit number
 abbrev pub requests_numbered : ℕ → Report → List ℕ
 requests_numbered number report =
-    map (λ (reply : Reply). reply.request) (filter (λ (reply : Reply). is_some_and (λ n. n == number) (number_of reply.state)) report.replies)
+    map (λ (reply : Reply). reply.request)
+    (filter (λ (reply : Reply). is_some_and (λ n. n == number) (number_of reply.state)) report.replies)
 
--- the one of a list of one
+-- the element of a list that has exactly one
 abbrev pub the_only : List ℕ → Option ℕ
 the_only (r ∷ []) = Some r
 the_only _ = None
@@ -94,7 +96,8 @@ graph_after_commit (Some request) graph = option_and_then (graph_if_work_passed 
 abbrev pub graph_of_commits : Script → Report → ℕ → Option PlainGraph
 graph_of_commits script report zero = Some empty_graph
 graph_of_commits script report (suc m) =
-    graph_after_commit (option_and_then (request_at script) (the_only (requests_numbered (suc m) report))) (graph_of_commits script report m)
+    graph_after_commit (option_and_then (request_at script) (the_only (requests_numbered (suc m) report)))
+    (graph_of_commits script report m)
 
 -- on this graph the operations before this one pass, and it is refused for this reason
 abbrev pub IsWorkRefused : PlainGraph → Work → ℕ → Reason → Type 0
@@ -104,4 +107,5 @@ IsWorkRefused graph (Look program) op reason = ⊥
 -- the same after commits 1 to `at`
 abbrev pub IsRefusedAfter : Script → Report → ℕ → ℕ → ℕ → Reason → Type 0
 IsRefusedAfter script report at r op reason =
-    AreBoth (λ graph (request : Request). IsWorkRefused graph request.work op reason) (graph_of_commits script report at) (request_at script r)
+    AreBoth (λ graph (request : Request). IsWorkRefused graph request.work op reason)
+    (graph_of_commits script report at) (request_at script r)

@@ -1,10 +1,12 @@
--- What it is to be the report of some text for a script. The types of reports have more values, which no text gives. Of a value of the program the types say besides that its names are names, that numbers other than a stamp's are within their ranges, and that keys rise.
-use Rattle.std.specs.Prelude.{ℕ, Bool, true, false, ◌+◌, ◌^◌, ◌&&◌, nat_lt, ◌==◌, ◌≡◌, IsTrue, List, [], ◌∷◌, length, map, drop, Option, Some, None, IsSomeAnd, ⊤}
+-- What it is to be the report of some text for a script. The types of reports have more values, which no text gives. Of
+-- a value of the program the types say besides that its names are names, that numbers other than a stamp's are within
+-- their ranges, and that keys rise.
+use Rattle.std.specs.Prelude.{ℕ, Bool, true, false, ◌+◌, ◌^◌, ◌&&◌, nat_lt, ◌==◌, ◌≡◌, IsTrue, List, [], ◌∷◌, length, map, drop, Option, Some, None, IsSomeAnd, ⊤, if◌then◌else◌}
 use Rattle.std.specs.List.{list_all, AllByRecursion}
 use Rattle.vector_stamp.specs.declared.clock.Clock.{Clock}
 use Rattle.vector_stamp.specs.declared.clock.Stamp.{Stamp}
+use Rattle.graph_ops.specs.Operations.{is_get}
 use Rattle.graph_ops.specs.declared.op.Op.{Op}
-use Rattle.graph_ops.specs.declared.op.Op.TheVariants.{Get}
 use Rattle.graph_ops.specs.declared.tx.Got.{Got}
 use Rattle.program_defs.specs.declared.program.Program.{Program}
 use Rattle.program_defs.specs.declared.program.Program.TheVariants.{Show, Reach, Around, Path}
@@ -29,17 +31,19 @@ is_request_of script r = nat_lt r (length script.requests)
 abbrev pub has_64_bits : Clock → Bool
 has_64_bits clock = nat_lt clock.epoch (2 ^ 64) && list_all (λ count. nat_lt count (2 ^ 64)) clock.counts
 
--- a stamp's home is a gatekeeper of the script; there are eight counts, of which those past the number of gatekeepers are 0; its numbers have 64 bits
+-- a stamp's home is a gatekeeper of the script; there are eight counts, of which those past the number of gatekeepers
+-- are 0; its numbers have 64 bits
 abbrev pub is_stamp_of : Script → Stamp → Bool
 is_stamp_of script stamp =
-    nat_lt stamp.home script.gates && (length stamp.clock.counts == 8) && list_all (λ count. count == 0) (drop script.gates stamp.clock.counts)
+    nat_lt stamp.home script.gates && (length stamp.clock.counts == 8)
+    && list_all (λ count. count == 0) (drop script.gates stamp.clock.counts)
     && has_64_bits stamp.clock
 
 -- the numbers of the `get`s among operations, of which the first has this number
 abbrev pub numbers_of_gets : ℕ → List Op → List ℕ
 numbers_of_gets number [] = []
-numbers_of_gets number (Get v ∷ ops) = number ∷ numbers_of_gets (number + 1) ops
-numbers_of_gets number (op ∷ ops) = numbers_of_gets (number + 1) ops
+numbers_of_gets number (op ∷ ops) =
+    if is_get op then number ∷ numbers_of_gets (number + 1) ops else numbers_of_gets (number + 1) ops
 
 -- there is one answer for each `get`, in order
 abbrev pub AnswersEachGet : List Op → List Got → Type 0
@@ -53,7 +57,9 @@ has_form_for (Around from bound pass) (Found vertices) = true
 has_form_for (Path from to bound pass) (Walk walk) = true
 has_form_for _ _ = false
 
--- A line can say this of the work, with or without a stamp. Without one it says `unbegun`; with one it says of a transaction that it is begun, committed, aborted by a conflict or refused, and of a program that it is running or done.
+-- A line can say this of the work, with or without a stamp. Without one it says `unbegun`; with one it says of a
+-- transaction that it is begun, committed, aborted by a conflict or refused, and of a program that it is running or
+-- done.
 abbrev pub MatchesWork : Script → Work → Option Stamp → ReplyState → Type 0
 MatchesWork script work None Unbegun = ⊤
 MatchesWork script work (Some stamp) Begun = ⊤
@@ -67,13 +73,15 @@ MatchesWork script _ _ _ = ⊥
 abbrev pub IsReplyOf : Script → Reply → Type 0
 IsReplyOf script reply =
     IsTrue (is_none_or (is_stamp_of script) reply.stamp)
-    × IsSomeAnd (request_at script reply.request) (λ (request : Request). MatchesWork script request.work reply.stamp reply.state)
+    × IsSomeAnd (request_at script reply.request)
+    (λ (request : Request). MatchesWork script request.work reply.stamp reply.state)
 
 -- a pair is of two requests of the script
 abbrev pub IsPairOf : Script → Pair → Type 0
 IsPairOf script pair = IsTrue (is_request_of script pair.earlier && is_request_of script pair.later)
 
--- the report of some text for this script: its replies, its pairs and its order speak of the script's requests in the forms of lines; the answers of steps are free
+-- the report of some text for this script: its replies, its pairs and its order speak of the script's requests in the
+-- forms of lines; the answers of steps are free
 pub record IsReportOf (script : Script) (report : Report) : Type 0 where
   pub replies : AllByRecursion (IsReplyOf script) report.replies
   pub pairs : AllByRecursion (IsPairOf script) report.pairs

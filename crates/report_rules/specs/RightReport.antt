@@ -18,7 +18,7 @@ use Rattle.report_rules.specs.declared.report.ReplyState.{ReplyState}
 use Rattle.report_rules.specs.declared.report.ReplyState.TheVariants.{Conflict, Refused, Finished}
 use Rattle.report_rules.specs.declared.report.Clause.{Clause}
 use Rattle.report_rules.specs.declared.report.Clause.TheVariants.{I, Ii, Iii, Iv, V, Vi, Vii, Viii}
-use Rattle.proof_base.specs.Facts.{Facts, AllHold, BreaksFirstAt, facts_in_turn, facts_of_each}
+use Rattle.weave_data.specs.Facts.{Facts, AllHold, BreaksFirstAt, facts_in_turn, facts_of_each}
 use Rattle.report_rules.specs.Lookups.{is_in, is_some_and, is_none_or, are_both, AreBoth, request_at, reply_at, stamp_at, same_session, names_vertex, number_of, commits, is_committed, is_committed_or_finished, may_be_listed, RequestPrecedes}
 use Rattle.report_rules.specs.Replay.{replay_from, graph_at_place, IsRefusedAfter}
 
@@ -28,7 +28,8 @@ use Rattle.report_rules.specs.Replay.{replay_from, graph_at_place, IsRefusedAfte
 abbrev pub is_home_of : Option Request → Stamp → Bool
 is_home_of request stamp = is_some_and (λ (r : Request). stamp.home == r.gate) request
 
--- if both requests are begun, their stamps are apart: of one home they have different ids, and are ordered as their epochs, then their own counts
+-- if both requests are begun, their stamps are apart: of one home they have different ids, and are ordered as their
+-- epochs, then their own counts
 abbrev pub are_apart_where_begun : Option Stamp → Option Stamp → Bool
 are_apart_where_begun a b = is_none_or (λ x. is_none_or (are_apart x) b) a
 
@@ -36,13 +37,15 @@ are_apart_where_begun a b = is_none_or (λ x. is_none_or (are_apart x) b) a
 abbrev pub are_begun_in_turn : Option Stamp → Option Stamp → Bool
 are_begun_in_turn earlier later = is_none_or (λ y. is_some_and (λ x. stamp_before x y) earlier) later
 
--- Of two replies: their stamps are apart, and in one session the requests begin in turn. It is asked of every earlier request of a session; since the order of stamps is transitive, that breaks at the same line as asking it of the one before.
+-- Of two replies: their stamps are apart, and in one session the requests begin in turn. Every earlier request of a
+-- session is compared; since the order of stamps is transitive, that breaks at the same line as comparing the one
+-- before.
 abbrev pub stands_after : Script → Reply → Reply → Bool
 stands_after script reply earlier =
     are_apart_where_begun earlier.stamp reply.stamp
     && (not (same_session script earlier.request reply.request) || are_begun_in_turn earlier.stamp reply.stamp)
 
--- reply i is of request i, which there is; its stamp is of the request's gatekeeper; it stands well after each earlier reply
+-- reply i is of request i, which exists; its stamp is of that one's gatekeeper; it is in order after each earlier reply
 abbrev pub is_reply_in_place : Script → List Reply → Reply → Bool
 is_reply_in_place script before reply =
     (reply.request == length before)
@@ -60,7 +63,9 @@ replies_clause script report =
 
 -- the order lists each committed transaction and each finished program
 abbrev pub all_are_listed : Report → Bool
-all_are_listed report = list_all (λ (reply : Reply). not (is_committed_or_finished reply.state) || is_in reply.request report.order) report.replies
+all_are_listed report =
+    list_all (λ (reply : Reply). not (is_committed_or_finished reply.state) || is_in reply.request report.order)
+    report.replies
 
 -- each once, and nothing else
 abbrev pub listing_clause : Report → Facts
@@ -70,13 +75,14 @@ listing_clause report =
 
 -- Order. Place: that in the order.
 
--- a listed request precedes neither itself nor one listed before it, and the listed requests of its session before it are earlier ones
+-- a listed request precedes neither itself nor one listed before it, and the listed requests of its session before it
+-- are earlier ones
 abbrev pub IsListedInOrder : Script → Report → List ℕ → ℕ → Type 0
 IsListedInOrder script report before r =
     AllByRecursion (λ earlier. ¬ RequestPrecedes report r earlier) (r ∷ before)
     × IsTrue (list_all (λ earlier. not (same_session script earlier r) || nat_lt earlier r) before)
 
--- and so for each place in the order
+-- this for each place in the order
 abbrev pub order_clause : Script → Report → Facts
 order_clause script report = facts_in_turn (IsListedInOrder script report) report.order
 
@@ -97,57 +103,71 @@ abbrev pub VisitsWhereFinished : PlainGraph → Program → Name → ReplyState 
 VisitsWhereFinished graph program v (Finished answer) = IsVisited graph program v
 VisitsWhereFinished graph program v _ = ⊤
 
--- the work may be the later end of a pair at the vertex: it is a committed transaction that names it, or a program that, if it is finished, visits it at its place
+-- the work may be the later end of a pair at the vertex: it is a committed transaction that names it, or a program
+-- that, if it is finished, visits it at its place
 abbrev pub MayBeLaterAt : Script → Report → Name → ℕ → Work → ReplyState → Type 0
 MayBeLaterAt script report v r (Change ops) state = IsTrue (is_committed_and_names script report v r)
-MayBeLaterAt script report v r (Look program) state = VisitsWhereFinished (graph_at_place script report r) program v state
+MayBeLaterAt script report v r (Look program) state =
+    VisitsWhereFinished (graph_at_place script report r) program v state
 
--- Both requests of a pair are begun, and their stamps are unordered; the earlier one is a committed transaction that names the vertex; the later one is such a transaction, or a begun program that, if it is finished, visits the vertex at its place.
--- A request put before itself passes here, since no stamp is before itself; it precedes itself, and the order can't list it.
+-- Both requests of a pair are begun, and their stamps are unordered; the earlier one is a committed transaction that
+-- names the vertex; the later one is such a transaction, or a begun program that, if it is finished, visits the vertex
+-- at its place.
+-- A request put before itself passes here, since no stamp is before itself; it precedes itself, and the order can't
+-- list it.
 abbrev pub IsPairInPlace : Script → Report → Pair → Type 0
 IsPairInPlace script report pair =
     IsTrue (are_both unordered (stamp_at report pair.earlier) (stamp_at report pair.later))
     × IsTrue (is_committed_and_names script report pair.vertex pair.earlier)
-    × AreBoth (λ (request : Request) (reply : Reply). MayBeLaterAt script report pair.vertex pair.later request.work reply.state) (request_at script pair.later) (reply_at report pair.later)
+    × AreBoth
+    (λ (request : Request) (reply : Reply). MayBeLaterAt script report pair.vertex pair.later request.work reply.state)
+    (request_at script pair.later) (reply_at report pair.later)
 
--- and so for each pair
+-- this for each pair
 abbrev pub pairs_clause : Script → Report → Facts
 pairs_clause script report = facts_of_each (IsPairInPlace script report) report.pairs
 
 -- Conflicts. Place: the reply line.
 
--- the newer request of a conflict is a committed transaction of another session, both name the vertex, and the aborted one precedes it
+-- the newer request of a conflict is a committed transaction of another session, both name the vertex, and the aborted
+-- one precedes it
 abbrev pub IsConflictInPlace : Script → Report → ℕ → ReplyState → Type 0
 IsConflictInPlace script report r (Conflict v newer) =
-    IsTrue (is_committed_and_names script report v newer && not (same_session script r newer) && names_vertex script r v)
+    IsTrue (is_committed_and_names script report v newer && not (same_session script r newer)
+    && names_vertex script r v)
     × RequestPrecedes report r newer
 IsConflictInPlace script report r _ = ⊤
 
--- and so for each reply
+-- this for each reply
 abbrev pub conflicts_clause : Script → Report → Facts
-conflicts_clause script report = facts_of_each (λ (reply : Reply). IsConflictInPlace script report reply.request reply.state) report.replies
+conflicts_clause script report =
+    facts_of_each (λ (reply : Reply). IsConflictInPlace script report reply.request reply.state) report.replies
 
 -- Refusals. Place: the reply line.
 
--- the commit number of another reply, if it has one, is at most `at` if its request is earlier than r, and above `at` if it is later
+-- the commit number of another reply, if it has one, is at most `at` if its request is earlier than r, and above `at`
+-- if it is later
 abbrev pub keeps_number : ℕ → ℕ → Reply → Bool
 keeps_number at r other =
-    if nat_lt other.request r then is_none_or (λ number. nat_le number at) (number_of other.state) else is_none_or (λ number. nat_lt at number) (number_of other.state)
+    if nat_lt other.request r then is_none_or (λ number. nat_le number at) (number_of other.state)
+    else is_none_or (λ number. nat_lt at number) (number_of other.state)
 
--- `at` is at most the number of commits, and stands so among the commit numbers of the session of r
+-- `at` is at most the number of commits, and is in order among the commit numbers of the session of r
 abbrev pub stands_among_commits : Script → Report → ℕ → ℕ → Bool
 stands_among_commits script report r at =
-    nat_le at (commits report) && list_all (λ (other : Reply). not (same_session script other.request r) || keeps_number at r other) report.replies
+    nat_le at (commits report)
+    && list_all (λ (other : Reply). not (same_session script other.request r) || keeps_number at r other) report.replies
 
--- a request is refused after so many commits as stand well, and by them: on the graph that they leave the operations before that one pass, and it is refused for that reason
+-- `at` is in order; on the graph after `at` commits the operations before `op` pass, and `op` is refused for `reason`
 abbrev pub IsRefusalInPlace : Script → Report → ℕ → ReplyState → Type 0
 IsRefusalInPlace script report r (Refused op reason at) =
     IsTrue (stands_among_commits script report r at) × IsRefusedAfter script report at r op reason
 IsRefusalInPlace script report r _ = ⊤
 
--- and so for each reply
+-- this for each reply
 abbrev pub refusals_clause : Script → Report → Facts
-refusals_clause script report = facts_of_each (λ (reply : Reply). IsRefusalInPlace script report reply.request reply.state) report.replies
+refusals_clause script report =
+    facts_of_each (λ (reply : Reply). IsRefusalInPlace script report reply.request reply.state) report.replies
 
 -- Numbers. Place: the reply line.
 
@@ -158,10 +178,12 @@ is_number_in_place count before =
     nat_lt 0 number && nat_le number count
     && not (list_any (λ (earlier : Reply). is_some_and (λ n. n == number) (number_of earlier.state)) before))
 
--- and so for each reply
+-- this for each reply
 abbrev pub numbers_clause : Report → Facts
 numbers_clause report =
-    facts_in_turn (λ before (reply : Reply). IsTrue (is_number_in_place (commits report) before (number_of reply.state))) report.replies
+    facts_in_turn
+    (λ before (reply : Reply). IsTrue (is_number_in_place (commits report) before (number_of reply.state)))
+    report.replies
 
 -- The whole
 
@@ -181,7 +203,8 @@ abbrev pub EachHolds : Script → Report → List Clause → Type 0
 EachHolds script report [] = ⊤
 EachHolds script report (clause ∷ clauses) = AllHold (facts_of script report clause) × EachHolds script report clauses
 
--- The report is right for the script: every clause holds. That it is a report of the script at all, as one with a stamp at each committed request, is `IsReportOf`.
+-- The report is right for the script: every clause holds. That it is a report of the script at all, as one with a stamp
+-- at each committed request, is `IsReportOf`.
 abbrev pub IsRightReport : Script → Report → Type 0
 IsRightReport script report = EachHolds script report (I ∷ Ii ∷ Iii ∷ Iv ∷ V ∷ Vi ∷ Vii ∷ Viii ∷ [])
 

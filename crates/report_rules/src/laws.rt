@@ -2,7 +2,7 @@
 
 ghost use Rattle.std.specs.Prelude.{◌≡◌, ℕ, List};
 ghost use Rattle.program_defs.specs.declared.script.Script.{Script};
-ghost use Rattle.proof_base.specs.Facts.{BreaksFirstAt};
+ghost use Rattle.weave_data.specs.Facts.{BreaksFirstAt};
 ghost use Rattle.report_rules.specs.declared.report.Report.{Report};
 ghost use Rattle.report_rules.specs.declared.report.Clause.{Clause};
 ghost use Rattle.report_rules.specs.PrintedOrder.{IsPrintedOrder};

@@ -1,4 +1,4 @@
-//! What a run tells.
+//! What a run reports.
 
 use graph_ops::{Got, Reason};
 use program_defs::Answer;
@@ -6,7 +6,7 @@ use std::alloc::{AllocError, Global};
 use vector_stamp::Stamp;
 use weave_data::{Copied, Items, Name};
 
-/// How a request stands.
+/// The state of a request.
 #[derive(Drop)]
 pub enum ReplyState {
     /// It has no stamp yet.
@@ -23,11 +23,11 @@ pub enum ReplyState {
     Finished(Answer),
 }
 
-/// How one request stands. A request is named by its place in the script, from 0.
+/// The state of one request, and its stamp. A request is named by its place in the script, from 0.
 #[derive(Drop)]
 pub struct Reply {
     pub request: u32,
-    /// A request is begun where it has a stamp.
+    /// A request is begun if it has a stamp.
     pub stamp: Option<Stamp>,
     pub state: ReplyState,
 }
@@ -67,7 +67,7 @@ pub enum StepAnswer {
     Again { shard: u32, gate: u32 },
 }
 
-/// What a run tells.
+/// What a run reports.
 #[derive(Drop)]
 pub struct Report {
     pub replies: Items<Reply>,

@@ -1,4 +1,5 @@
 -- In an account no two visits asked for one pair, so an account is what a hand may have seen.
+-- Used by `accounts_refer_within`, Closing, MakesAccount and Reading.
 use Rattle.std.proofs.Common.{◌≡◌, ◌≢◌, ℕ, ◌<◌, List, [], ◌∷◌, ◌++◌, length, map, Contains, IsTrue, AllPairs, inl, inr, refl, sym, ap, subst, ◌∙◌}
 use Rattle.std.specs.List.{filter}
 use Rattle.std.proofs.lemmas.Bool.{cases_order}
@@ -6,8 +7,8 @@ use Rattle.std.proofs.lemmas.Bool.Decides.{eqb_tells}
 use Rattle.std.proofs.lemmas.List.{map-append}
 use Rattle.std.proofs.lemmas.List.Concat.{flat_map-append}
 use Rattle.std.proofs.lemmas.List.Elements.{Contains-append_right, filter-append}
-use Rattle.proof_base.proofs.Members.{flat_has, has_cut, has_filter, has_flat, has_head, has_map}
-use Rattle.proof_base.proofs.Ordered.{pairs_across}
+use Rattle.weave_data.proofs.Members.{flat_has, has_cut, has_filter, has_flat, has_head, has_map}
+use Rattle.weave_data.proofs.Ordered.{pairs_across}
 use Rattle.vector_stamp.specs.declared.clock.Stamp.{Stamp}
 use Rattle.vector_stamp.specs.Order.{id_of}
 use Rattle.program_defs.specs.declared.script.Script.{Script}
@@ -22,10 +23,10 @@ use Rattle.weave_account.specs.Account.{all_begun, gate_log, shard_log}
 use Rattle.weave_account.specs.IsAccount.{IsAccount}
 use Rattle.weave_account.specs.Oracle.{marked_in, seen_last}
 use Rattle.weave_account.specs.Shards.{IsRightVisit}
-use Rattle.seen_logs.specs.LowerLaws.{LowerLaws}
+use Rattle.weave_account.proofs.Beginning.{list-there}
+use Rattle.seen_logs.specs.LowerLaws.{LawsForSeenLogs}
 use Rattle.seen_logs.specs.Seen.{HasAsked, IsSeenByHand, visit_entry, without_sessions}
 use Rattle.seen_logs.proofs.Going.{asked-stays, gate-stays, oracle-stays, shard-stays, store-stays}
-use Rattle.seen_logs.proofs.Listed.{list-there}
 use Rattle.seen_logs.proofs.OfAccount.{gate-refers, last-before, oracle-refers, shard-refers, store-refers}
 use Rattle.seen_logs.proofs.Placed.{earlier, list-within, lists-across}
 use Rattle.seen_logs.proofs.Within.{itself}
@@ -52,7 +53,7 @@ marked-there log before visit after marked =
     (has_flat (λ (e : ShardEntry). visit_by e.author e.deed) (before ++ visit_entry visit ∷ after) (visit_entry visit) visit
     (has_cut before (visit_entry visit) after) (has_head visit [])) marked)
 
--- of two marked visits of one log, the one after the other, what they asked for differs
+-- two marked visits at different places of one log asked for different things
 in-turn : (log before rest after later : List ShardEntry) (a b : Visit) → AllPairs (λ (x y : ℕ × List Stamp). x ≢ y) (marked_in log)
     → log ≡ before ++ visit_entry a ∷ after → log ≡ rest ++ visit_entry b ∷ later → IsTrue a.settled → IsTrue b.settled
     → length before < length rest → what-asked log a ≢ what-asked log b
@@ -74,7 +75,7 @@ program-begun account home begun h =
     (has_flat (λ (e : GateEntry). begun_by e.author e.deed) (gate_log account home) from.0 begun from.1
     (Contains-append_right (tx_by (from.0).author (from.0).deed) (program_by (from.0).author (from.0).deed) begun from.2))
 
-module _ (laws : LowerLaws) (script : Script) (account : Account) (limits : IsWithinLimits script) (is : IsAccount script account)
+module _ (laws : LawsForSeenLogs) (script : Script) (account : Account) (limits : IsWithinLimits script) (is : IsAccount script account)
     (legal : (shard : ℕ) → IsShardLog script.gates (shard_log account shard)) where
   -- a visit at its place in a log
   record IsAt (shard : ℕ) (before : List ShardEntry) (visit : Visit) : Type 0 where

@@ -1,8 +1,10 @@
 -- At the end all entries refer to what is in the logs, and no two visits asked for one pair, since it is so of what each
 -- of the hands has seen.
+-- Used by `closed_logs_refer_within`, `programs_read_what_was_seen`, ExampleRun and Reading.
 use Rattle.std.proofs.Common.{◌≡◌, ◌≢◌, ℕ, ◌<◌, ◌≤◌, List, ◌∷◌, ◌++◌, length, Contains, IsTrue, inl, inr, refl, sym, ap, subst, arith}
-use Rattle.proof_base.proofs.Members.{flat_has, has_flat}
-use Rattle.proof_base.proofs.Ordered.{pairs_cases}
+use Rattle.std.proofs.lemmas.Bool.{cases_lt}
+use Rattle.weave_data.proofs.Members.{flat_has, has_flat, drop_has}
+use Rattle.weave_data.proofs.Ordered.{pairs_cases}
 use Rattle.vector_stamp.specs.Order.{id_of}
 use Rattle.weave_entries.specs.declared.gate_log.GateEntry.{GateEntry}
 use Rattle.weave_entries.specs.declared.oracle_log.OracleEntry.{OracleEntry}
@@ -14,14 +16,14 @@ use Rattle.weave_entries.specs.ShardRules.{IsShardLog}
 use Rattle.weave_account.specs.declared.account.Account.{Account}
 use Rattle.weave_account.specs.Account.{all_begun, gate_log, shard_log}
 use Rattle.weave_account.specs.Oracle.{seen_last}
-use Rattle.seen_logs.specs.LowerLaws.{LowerLaws}
+use Rattle.seen_logs.specs.LowerLaws.{LawsForSeenLogs}
 use Rattle.seen_logs.specs.References.{GateRefersAs, IsAskedAsSeen, OracleRefersAs, ShardRefersAs, StoreRefersAs}
 use Rattle.seen_logs.specs.Closed.{AreOfHands, IsOfHands}
 use Rattle.seen_logs.specs.Seen.{AnswersFor, AreLegal, HasAsked, IsOwn, IsSeenByHand, since, visit_entry}
 use Rattle.seen_logs.proofs.Asking.{program-begun}
 use Rattle.seen_logs.proofs.Going.{asked-stays, gate-stays, oracle-stays, shard-stays, store-stays}
-use Rattle.seen_logs.proofs.Listed.{drop-has, flat-on, has-on, longer}
-use Rattle.seen_logs.proofs.Onward.{earlier-place, less-or}
+use Rattle.seen_logs.proofs.Listed.{flat-on, has-on, longer}
+use Rattle.seen_logs.proofs.Onward.{earlier-place}
 use Rattle.seen_logs.proofs.Within.{itself}
 
 -- a hand that has seen an entry and answers for it
@@ -41,13 +43,13 @@ someone hands start seen_by before author some few (inr own) =
 
 -- what the lemmas on closed logs are given
 pub record IsEnd (gates shards hands : ℕ) (start : Account) (seen_by : ℕ → Account) (closed : Account) : Type 0 where
-  pub laws : LowerLaws
+  pub laws : LawsForSeenLogs
   pub few : length closed.gates ≤ 8
   pub legal : AreLegal gates shards closed
   pub of : AreOfHands shards hands start seen_by closed
 
 module _ {gates shards hands : ℕ} {start : Account} {seen_by : ℕ → Account} {closed : Account} (end : IsEnd gates shards hands start seen_by closed) where
-  laws : LowerLaws
+  laws : LawsForSeenLogs
   laws = end.laws
 
   legal : (shard : ℕ) → IsShardLog gates (shard_log closed shard)
@@ -159,7 +161,7 @@ module _ {gates shards hands : ℕ} {start : Account} {seen_by : ℕ → Account
       let log = gate_log (seen_by number) home in
       let entry = flat_has (λ (e : GateEntry). program_by e.author e.deed) (since (gate_log start home) log) begun h in
       let there = has_flat (λ (e : GateEntry). program_by e.author e.deed) log entry.0 begun
-      (drop-has (length (gate_log start home)) log entry.0 entry.1) entry.2 in
+      (drop_has (length (gate_log start home)) log entry.0 entry.1) entry.2 in
       program-begun closed home begun
       (has-on (programs_of log) (programs_of (gate_log closed home))
       (flat-on (λ (e : GateEntry). program_by e.author e.deed) log (gate_log closed home) (on.gates home)) begun there)
@@ -183,8 +185,8 @@ module _ {gates shards hands : ℕ} {start : Account} {seen_by : ℕ → Account
       → IsTrue a.settled → IsTrue b.settled → a.stamp ≡ b.stamp → seen_last before a ≡ seen_last rest b
       → (shard ≡ other) × (length before ≡ length rest)
   once shard other before rest a b after later at_a at_b marked_a marked_b stamps lasts =
-      elim (less-or (length before) (length (shard_log start shard))) [
-        | inl a_given ↦ elim (less-or (length rest) (length (shard_log start other))) [
+      elim (cases_lt (length before) (length (shard_log start shard))) [
+        | inl a_given ↦ elim (cases_lt (length rest) (length (shard_log start other))) [
           | inl b_given ↦
               let known : 0 < hands = let some = of.some in omega (arith, some) in
               first.asks_once shard other before rest a b (at-start 0 shard before a after known at_a marked_a a_given)
@@ -197,7 +199,7 @@ module _ {gates shards hands : ℕ} {start : Account} {seen_by : ℕ → Account
         | inr a_new ↦
             let of_a = since-start shard before (visit_entry a) after at_a a_new in
             let asked_a = by-author shard before a after at_a marked_a of_a in
-            elim (less-or (length rest) (length (shard_log start other))) [
+            elim (cases_lt (length rest) (length (shard_log start other))) [
               | inl b_given ↦
                   (of.seen a.author of_a.known).asks_once shard other before rest a b asked_a
                   (at-start a.author other rest b later of_a.known at_b marked_b b_given) stamps lasts

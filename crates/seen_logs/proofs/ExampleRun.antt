@@ -2,23 +2,19 @@
 -- creates v at gatekeeper 0 and is sent to shard 0. A program begins at gatekeeper 1, and empty messages of both
 -- gatekeepers make the shard ready for it. It reads v, for which the oracle puts the transaction before it, and is
 -- finished. The logs follow a script of these two requests, so they are an account.
-use Rattle.std.proofs.Common.{◌≡◌, ◌≢◌, ℕ, zero, suc, ◌<◌, ◌≤◌, true, List, [], ◌∷◌, ◌++◌, length, Contains, IsTrue, Some, None, inl, inr, refl, sym, ap, subst, ◌∙◌, arith}
+use Rattle.std.proofs.Common.{◌≡◌, ◌≢◌, ℕ, zero, suc, ◌<◌, true, List, [], ◌∷◌, ◌++◌, length, Contains, IsTrue, Some, None, inl, inr, refl, sym, ap, subst, ◌∙◌, arith}
 use Rattle.std.specs.Prelude.{codes, IsSomeAnd}
 use Rattle.std.proofs.lemmas.List.{length-append}
 use Rattle.std.proofs.lemmas.List.Elements.{All-cons, All-nil}
-use Rattle.proof_base.proofs.Entries.{each_none}
-use Rattle.proof_base.proofs.Members.{has_head, has_read, has_tail, only}
-use Rattle.proof_base.proofs.Ordered.{pairs_cons, pairs_none}
+use Rattle.weave_data.proofs.Entries.{each_none}
+use Rattle.weave_data.proofs.Members.{has_head, has_read, has_tail, only}
+use Rattle.weave_data.proofs.Ordered.{pairs_cons, pairs_none}
 use Rattle.weave_data.specs.declared.name.Name.{Name}
-use Rattle.graph_ops.specs.declared.op.Op.{Op}
-use Rattle.graph_ops.specs.declared.op.Op.TheVariants.{Create}
 use Rattle.graph_ops.specs.declared.part.Part.{Part}
 use Rattle.graph_ops.specs.Operations.{State}
 use Rattle.graph_ops.specs.VertexOps.{none_refused}
 use Rattle.vector_stamp.specs.declared.clock.Clock.{Clock}
-use Rattle.vector_stamp.specs.declared.clock.EventId.{EventId}
 use Rattle.vector_stamp.specs.declared.clock.Stamp.{Stamp}
-use Rattle.vector_stamp.specs.Order.{count_of, id_of}
 use Rattle.vector_stamp.specs.Precedence.{ByPair}
 use Rattle.program_defs.specs.declared.program.Program.{Program}
 use Rattle.program_defs.specs.declared.program.Program.TheVariants.{Show}
@@ -31,27 +27,21 @@ use Rattle.weave_entries.specs.declared.gate_log.GateEntry.{GateEntry}
 use Rattle.weave_entries.specs.declared.gate_log.GateDeed.TheVariants.{BeganTx, BeganProgram, Sent, Nop, Heard, Finished}
 use Rattle.weave_entries.specs.declared.message.Message.{Message}
 use Rattle.weave_entries.specs.declared.oracle_log.OracleEntry.{OracleEntry}
-use Rattle.weave_entries.specs.declared.oracle_log.OracleDeed.TheVariants.{Settled}
 use Rattle.weave_entries.specs.declared.session_log.SessionEntry.{SessionEntry}
 use Rattle.weave_entries.specs.declared.session_log.SessionDeed.TheVariants as session
 use Rattle.weave_entries.specs.declared.shard_log.ShardEntry.{ShardEntry}
 use Rattle.weave_entries.specs.declared.shard_log.ShardDeed.TheVariants.{Arrived, Applied, Visited}
 use Rattle.weave_entries.specs.declared.store_log.StoreEntry.{StoreEntry}
-use Rattle.weave_entries.specs.declared.store_log.StoreDeed.TheVariants.{Judged}
-use Rattle.weave_entries.specs.declared.verdict.Verdict.{Verdict}
-use Rattle.weave_entries.specs.declared.verdict.Verdict.TheVariants.{Committed}
 use Rattle.weave_entries.specs.Logs.{AtEachEntry}
-use Rattle.weave_entries.specs.GateReplay.{Begun, ticks_of}
+use Rattle.weave_entries.specs.GateReplay.{Begun}
 use Rattle.weave_entries.specs.GateRules.{FitsAs, HearsAs, HearsNoMore, IsGateLog}
 use Rattle.weave_entries.specs.OracleRules.{IsOracleLog}
 use Rattle.weave_entries.specs.SessionReplay.{FitsSession, has_reply_in, session_of, session_stamp_of}
 use Rattle.weave_entries.specs.ShardReplay.{Update, Visit, state_of_updates, updates_of}
 use Rattle.weave_entries.specs.ShardRules.{FitsShard, IsShardLog, IsTakable}
 use Rattle.weave_entries.specs.StoreReplay.{Judgement, judged_by}
-use Rattle.weave_entries.specs.StoreRule.{FitsStore, IsStoreLog}
 use Rattle.weave_account.specs.declared.account.Account.{Account}
 use Rattle.weave_account.specs.Account.{Precedence, begun_stamps, gate_log, is_ended, reads_of, session_log, shard_log, stamp_of}
-use Rattle.weave_account.specs.Clocks.{IsKnown}
 use Rattle.weave_account.specs.Gatekeepers.{BeginEachOnce, BeginsAs}
 use Rattle.weave_account.specs.IsAccount.{IsAccount}
 use Rattle.weave_account.specs.Programs.{ReadsInTurn}
@@ -59,36 +49,27 @@ use Rattle.weave_account.specs.Sessions.{RepliesAs, SessionsClause, requests_of_
 use Rattle.weave_account.specs.Store.{InTurn}
 use Rattle.seen_logs.specs.Closed.{AreOfHands, IsOfHands}
 use Rattle.seen_logs.specs.FollowsScript.{FollowsScript}
-use Rattle.seen_logs.specs.LowerLaws.{LowerLaws}
+use Rattle.seen_logs.specs.LowerLaws.{LawsForSeenLogs}
 use Rattle.seen_logs.specs.References.{GateRefersAs, IsAskedAsSeen, OracleRefersAs, ShardRefersAs, StoreRefersAs}
 use Rattle.seen_logs.specs.Seen.{AreLegal, GateRefersWithin, HasAsked, IsOwn, IsSeenByHand, IsWithin, OracleRefersWithin, ShardRefersWithin, StoreRefersWithin, VisitsItsOwn, VisitsOwnPrograms, visit_entry}
 use Rattle.seen_logs.proofs.Closing.{hand-after}
 use Rattle.seen_logs.proofs.MakesAccount.{made}
 use Rattle.seen_logs.proofs.Placed.{pairs-one}
-use Rattle.seen_logs.proofs.ShortLogs.{five, four, one, three, two}
 use Rattle.seen_logs.proofs.Within.{itself}
+use Rattle.seen_logs.proofs.ExampleParts.{creation-refers}
+use Rattle.report_rules.proofs.Examples.{script_of, transaction, v}
+use Rattle.weave_account.proofs.ExampleLists.{five, four, one, only-zero, three, two}
+use Rattle.weave_account.proofs.ExampleParts.{at-gate, at-shard, clock, created, creates, creating, creation, empty-message, first-to, in-session, judges-creation, one-settled, right-creation, settles, two-known, change}
 
 -- The script
-
-abbrev v : Name
-v = codes "v"
-
-abbrev ops : List Op
-ops = Create v ∷ []
-
-abbrev change : Request
-change = record { name = codes "t"; session = 0; gate = 0; work = Change ops }
 
 abbrev look : Request
 look = record { name = codes "p"; session = 1; gate = 1; work = Look (Show v) }
 
 abbrev script : Script
-script = record { gates = 2; shards = 1; requests = change ∷ look ∷ []; phases = []; steps = None }
+script = script_of 2 (change ∷ look ∷ [])
 
 -- The logs
-
-abbrev clock : ℕ → ℕ → Clock
-clock n m = record { epoch = 0; counts = n ∷ m ∷ 0 ∷ 0 ∷ 0 ∷ 0 ∷ 0 ∷ 0 ∷ [] }
 
 -- the stamps of the transaction and the program, and those of the empty messages of gatekeepers 0 and 1
 abbrev t : Stamp
@@ -103,59 +84,47 @@ e0 = record { home = 0; clock = clock 2 1 }
 abbrev e1 : Stamp
 e1 = record { home = 1; clock = clock 0 2 }
 
-abbrev part : Part
-part = record { vertex = v; before = 0; ops = ops }
-
 abbrev sent : Message
-sent = record { request = Some 0; stamp = t; low = clock 1 0; parts = part ∷ [] }
-
-abbrev empty : Stamp → Clock → Message
-empty stamp low = record { request = None; stamp = stamp; low = low; parts = [] }
-
-abbrev verdict : Verdict
-verdict = Committed 1 [] (record { vertex = v; before = 0 } ∷ [])
+sent = creating t
 
 abbrev g1 : GateEntry
-g1 = record { author = 0; deed = BeganTx 0 t }
+g1 = at-gate (BeganTx 0 t)
 
 abbrev g2 : GateEntry
-g2 = record { author = 0; deed = Sent 0 (record { shard = 0; number = 1; message = sent } ∷ []) }
+g2 = at-gate (Sent 0 (first-to sent))
 
 abbrev g3 : GateEntry
-g3 = record { author = 0; deed = Heard (clock 0 1) }
+g3 = at-gate (Heard (clock 0 1))
 
 abbrev g4 : GateEntry
-g4 = record { author = 0; deed = Nop 0 2 e0 (clock 2 1) }
+g4 = at-gate (Nop 0 2 e0 (clock 2 1))
 
 abbrev h1 : GateEntry
-h1 = record { author = 0; deed = BeganProgram 1 p }
+h1 = at-gate (BeganProgram 1 p)
 
 abbrev h2 : GateEntry
-h2 = record { author = 0; deed = Nop 0 1 e1 (clock 0 1) }
+h2 = at-gate (Nop 0 1 e1 (clock 0 1))
 
 abbrev h3 : GateEntry
-h3 = record { author = 0; deed = Finished 1 }
+h3 = at-gate (Finished 1)
 
 abbrev judged : StoreEntry
-judged = record { author = 0; deed = Judged 0 t ops [] verdict }
-
-abbrev settles : OracleEntry
-settles = record { author = 0; deed = Settled (t ∷ []) p (0 ∷ []) }
+judged = judges-creation t
 
 abbrev s1 : ShardEntry
-s1 = record { author = 0; deed = Arrived 0 1 sent }
+s1 = at-shard (Arrived 0 1 sent)
 
 abbrev s2 : ShardEntry
-s2 = record { author = 0; deed = Applied 0 1 }
+s2 = at-shard (Applied 0 1)
 
 abbrev s3 : ShardEntry
-s3 = record { author = 0; deed = Arrived 0 2 (empty e0 (clock 2 1)) }
+s3 = at-shard (Arrived 0 2 (empty-message e0 (clock 2 1)))
 
 abbrev s4 : ShardEntry
-s4 = record { author = 0; deed = Arrived 1 1 (empty e1 (clock 0 1)) }
+s4 = at-shard (Arrived 1 1 (empty-message e1 (clock 0 1)))
 
 abbrev s5 : ShardEntry
-s5 = record { author = 0; deed = Visited 1 p v 1 true }
+s5 = at-shard (Visited 1 p v 1 true)
 
 abbrev visit : Visit
 visit = record { author = 0; request = 1; stamp = p; vertex = v; updates = 1; settled = true }
@@ -164,7 +133,7 @@ abbrev seen : Account
 seen = record {
   gates = (g1 ∷ g2 ∷ g3 ∷ g4 ∷ []) ∷ (h1 ∷ h2 ∷ h3 ∷ []) ∷ [];
   store = judged ∷ [];
-  oracle = settles ∷ [];
+  oracle = settles t p ∷ [];
   shards = (s1 ∷ s2 ∷ s3 ∷ s4 ∷ s5 ∷ []) ∷ [];
   sessions = [];
 }
@@ -178,7 +147,7 @@ gate-logs : (home : ℕ) → IsGateLog home 1 (gate_log seen home)
 gate-logs zero =
     four (λ before (entry : GateEntry). FitsAs 0 1 before entry.author entry.deed) g1 g2 g3 g4
     (record { alone = refl; begun = record { last = None; eight = λ x at. cc; is = refl } })
-    (record { stamp = t; flight = refl; ops = ops; verdict = verdict; counts = refl; messages_are = refl })
+    (record { stamp = t; flight = refl; ops = creates; verdict = created; counts = refl; messages_are = refl })
     refl
     (record { alone = refl; shard_is = omega arith; stamp_is = refl; number_is = refl; low_is = refl })
 gate-logs (suc zero) =
@@ -193,27 +162,16 @@ hears zero = four (λ before (entry : GateEntry). HearsAs 0 before entry.deed) g
 hears (suc zero) = three (λ before (entry : GateEntry). HearsAs 1 before entry.deed) h1 h2 h3 tt tt tt
 hears (suc (suc home)) = each_none _
 
-store-log : IsStoreLog seen.store
-store-log =
-    one (λ before (entry : StoreEntry). FitsStore before entry.deed) judged
-    (record { new = All-nil _; asked_are = refl; pairs = []; verdict_is = refl })
-
 oracle-log : IsOracleLog seen.oracle
-oracle-log = (
-  record { others = All-cons (λ (event : Stamp). id_of event ≢ id_of p) t [] differ (All-nil _); permitted = refl; added = refl; some = λ none. cc },
-  tt,
-)
-  where
-    differ : id_of t ≢ id_of p
-    differ same = let homes : 0 ≡ 1 = ap (λ (id : EventId). id.home) same in absurd (omega (arith, homes))
+oracle-log = one-settled t p (λ same. omega (arith, same)) refl refl
 
 takable-sent : IsTakable sent
 takable-sent = record {
-  apart = pairs-one (λ (a b : Part). a.vertex ≢ b.vertex) part;
-  small = All-cons (λ (one : Part). one.before < 18446744073709551615) part [] (omega arith) (All-nil _);
+  apart = pairs-one (λ (a b : Part). a.vertex ≢ b.vertex) creation;
+  small = All-cons (λ (one : Part). one.before < 18446744073709551615) creation [] (omega arith) (All-nil _);
 }
 
-takable-empty : (stamp : Stamp) (low : Clock) → IsTakable (empty stamp low)
+takable-empty : (stamp : Stamp) (low : Clock) → IsTakable (empty-message stamp low)
 takable-empty stamp low = record { apart = pairs_none (λ (a b : Part). a.vertex ≢ b.vertex); small = All-nil _ }
 
 shard-logs : (shard : ℕ) → IsShardLog 2 (shard_log seen shard)
@@ -226,7 +184,7 @@ shard-logs zero =
       message = sent;
       head = refl;
       in_turn = refl;
-      passes = All-cons (λ (one : Part). IsTrue (none_refused one.ops (state_of_updates (updates_of one.vertex (s1 ∷ []))))) part [] refl (All-nil _);
+      passes = All-cons (λ (one : Part). IsTrue (none_refused one.ops (state_of_updates (updates_of one.vertex (s1 ∷ []))))) creation [] refl (All-nil _);
     })
     (record { gate_is = omega arith; from_one = omega arith; new = refl; takable = takable-empty e0 (clock 2 1) })
     (record { gate_is = omega arith; from_one = omega arith; new = refl; takable = takable-empty e1 (clock 0 1) })
@@ -241,59 +199,38 @@ shard-logs zero =
 shard-logs (suc shard) = each_none _
 
 legal : AreLegal 2 1 seen
-legal = record { gate_logs = gate-logs; hears = hears; store_log = store-log; oracle_log = oracle-log; shard_logs = shard-logs }
+legal = record { gate_logs = gate-logs; hears = hears; store_log = right-creation t; oracle_log = oracle-log; shard_logs = shard-logs }
 
 -- All that they refer to was seen
-
-known : (n m : ℕ) → n ≤ 2 → m ≤ 2 → IsKnown seen (clock n m)
-known n m few less = record { eight = refl; counts = at; raised = λ above. absurd (above refl) }
-  where
-    zeros : (home : ℕ) → count_of (suc (suc home)) (clock n m) ≡ 0
-    zeros zero = refl
-    zeros (suc zero) = refl
-    zeros (suc (suc zero)) = refl
-    zeros (suc (suc (suc zero))) = refl
-    zeros (suc (suc (suc (suc zero)))) = refl
-    zeros (suc (suc (suc (suc (suc zero))))) = refl
-    zeros (suc (suc (suc (suc (suc (suc home)))))) = refl
-
-    at : (home : ℕ) → count_of home (clock n m) ≤ ticks_of 0 (gate_log seen home)
-    at zero = few
-    at (suc zero) = less
-    at (suc (suc home)) = let none = zeros home in omega (arith, none)
 
 gates : (home : ℕ) → GateRefersWithin 1 seen home
 gates zero =
     four (λ before (entry : GateEntry). GateRefersAs seen 1 before entry.author entry.deed) g1 g2 g3 g4
-    (known 1 0 (omega arith) (omega arith))
+    (two-known seen 1 0 (omega arith) (omega arith))
     (record { judged = judged_by 0 judged.deed; is_judged = has_head _ []; request_is = refl; messages_are = refl })
-    (known 0 1 (omega arith) (omega arith))
-    (known 2 1 (omega arith) (omega arith))
+    (two-known seen 0 1 (omega arith) (omega arith))
+    (two-known seen 2 1 (omega arith) (omega arith))
 gates (suc zero) =
     three (λ before (entry : GateEntry). GateRefersAs seen 1 before entry.author entry.deed) h1 h2 h3
-    (known 0 1 (omega arith) (omega arith))
-    (known 0 2 (omega arith) (omega arith))
+    (two-known seen 0 1 (omega arith) (omega arith))
+    (two-known seen 0 2 (omega arith) (omega arith))
     (record { program = Show v; reads = (v, Some (record { props = []; edges = [] })) ∷ []; read = λ read h. h; whole = refl })
 gates (suc (suc home)) = each_none _
 
 store : StoreRefersWithin seen
 store =
     one (λ before (entry : StoreEntry). StoreRefersAs seen before entry.author entry.deed) judged
-    (record {
-      home = 0;
-      begun = has_head _ [];
-      right = record { number_is = refl; graph = _; passes = refl; counts_are = refl; after_last = λ w named x at. cc };
-    })
+    (creation-refers seen 0 t (has_head _ []))
 
 oracle : OracleRefersWithin seen
 oracle =
-    one (λ before (entry : OracleEntry). OracleRefersAs seen entry.deed) settles
+    one (λ before (entry : OracleEntry). OracleRefersAs seen entry.deed) (settles t p)
     (λ stamp h. elim (has_read p (t ∷ []) stamp h) [
       | inl later ↦ subst (Contains (begun_stamps seen)) later (has_tail t (p ∷ []) p (has_head p []))
       | inr earlier ↦ subst (Contains (begun_stamps seen)) (only t stamp earlier) (has_head t (p ∷ []))
     ])
 
-asked : IsAskedAsSeen seen settles
+asked : IsAskedAsSeen seen (settles t p)
 asked = inr (record { shard = 0; visit = visit; visited = has_head visit []; marked = refl; later_is = refl; earlier_is = refl })
 
 shards : (shard : ℕ) → ShardRefersWithin 1 seen shard
@@ -322,10 +259,10 @@ shards zero =
       begun = has_head _ [];
       kept_here = refl;
       commits_read = λ update h. h;
-      after_seen = λ some u at. (let same : record { stamp = t; ops = ops } ≡ u = cc in subst (λ (k : Update). Precedence seen k.stamp p) same
+      after_seen = λ some u at. (let same : record { stamp = t; ops = creates } ≡ u = cc in subst (λ (k : Update). Precedence seen k.stamp p) same
           (ByPair t p (has_head (t, p) [])));
       before_skipped = λ u at. cc;
-      asked = λ marked. record { entry = settles; is_there = has_head settles []; later_is = refl; earlier_is = refl };
+      asked = λ marked. record { entry = settles t p; is_there = has_head (settles t p) []; later_is = refl; earlier_is = refl };
     })
 shards (suc shard) = each_none _
 
@@ -364,7 +301,7 @@ hand =
       gate_entries = λ home before entry after at mine. gates home before entry after at;
       store_entries = λ before entry after at mine. store before entry after at;
       oracle_entries = λ before entry after at mine.
-          (oracle before entry after at, one (λ before (entry : OracleEntry). IsAskedAsSeen seen entry) settles asked before entry after at);
+          (oracle before entry after at, one (λ before (entry : OracleEntry). IsAskedAsSeen seen entry) (settles t p) asked before entry after at);
       shard_entries = λ shard before entry after at mine. shards shard before entry after at;
       asks_once = λ shard other before rest a b asked_a asked_b stamps lasts.
           let here = where-asked shard before a asked_a in
@@ -380,10 +317,6 @@ own zero =
 own (suc shard) = each_none _
 
 -- The logs are those of one hand
-
-first : (number : ℕ) → number < 1 → 0 ≡ number
-first zero less = refl
-first (suc number) less = absurd (omega (arith, less))
 
 mine : {E : Type 0} (author : E → ℕ) (log : List E) → AtEachEntry (λ before entry. author entry ≡ 0) log
     → AtEachEntry (λ before entry. IsOfHands 1 [] (λ number. log) before (author entry)) log
@@ -413,28 +346,28 @@ shards-of-hand (suc shard) = each_none _
 of-hands : AreOfHands 1 1 start (λ number. seen) seen
 of-hands = record {
   some = omega arith;
-  seen = λ number less. subst (λ n. IsSeenByHand 1 n start seen) (first number less) hand;
-  own_visits = λ number less. subst (λ n. VisitsOwnPrograms n start seen) (first number less) own;
+  seen = λ number less. subst (λ n. IsSeenByHand 1 n start seen) (only-zero number less) hand;
+  own_visits = λ number less. subst (λ n. VisitsOwnPrograms n start seen) (only-zero number less) own;
   within = λ number less. itself seen;
   gate_entries = gates-of-hand;
   store_entries = mine (λ (entry : StoreEntry). entry.author) seen.store (one (λ before (entry : StoreEntry). entry.author ≡ 0) judged refl);
-  oracle_entries = mine (λ (entry : OracleEntry). entry.author) seen.oracle (one (λ before (entry : OracleEntry). entry.author ≡ 0) settles refl);
+  oracle_entries = mine (λ (entry : OracleEntry). entry.author) seen.oracle (one (λ before (entry : OracleEntry). entry.author ≡ 0) (settles t p) refl);
   shard_entries = shards-of-hand;
 }
 
 -- The logs follow the script
 
 abbrev b1 : SessionEntry
-b1 = record { author = 0; deed = session.Begun 0 t }
+b1 = in-session 0 (session.Begun 0 t)
 
 abbrev b2 : SessionEntry
-b2 = record { author = 0; deed = session.Replied 0 }
+b2 = in-session 0 (session.Replied 0)
 
 abbrev b3 : SessionEntry
-b3 = record { author = 1; deed = session.Begun 1 p }
+b3 = in-session 1 (session.Begun 1 p)
 
 abbrev b4 : SessionEntry
-b4 = record { author = 1; deed = session.Replied 1 }
+b4 = in-session 1 (session.Replied 1)
 
 abbrev account : Account
 account = record seen { sessions = (b1 ∷ b2 ∷ []) ∷ (b3 ∷ b4 ∷ []) ∷ [] }
@@ -491,7 +424,7 @@ reads-in-turn : (r : ℕ) (request : Request) (program : Program) → request_at
     → ReadsInTurn (reads_of account r) program (IsTrue (is_ended account r))
 reads-in-turn zero request program at work =
     let same : change ≡ request = cc in
-    let clash : Change ops ≡ Look program = ap (λ (q : Request). q.work) same ∙ work in
+    let clash : Change creates ≡ Look program = ap (λ (q : Request). q.work) same ∙ work in
     cc
 reads-in-turn (suc zero) request program at work =
     let same : look ≡ request = cc in
@@ -533,9 +466,9 @@ follows =
 -- So they are an account
 
 legal-account : AreLegal 2 1 account
-legal-account = record { gate_logs = gate-logs; hears = hears; store_log = store-log; oracle_log = oracle-log; shard_logs = shard-logs }
+legal-account = record { gate_logs = gate-logs; hears = hears; store_log = right-creation t; oracle_log = oracle-log; shard_logs = shard-logs }
 
-pub worked-run : LowerLaws → IsAccount script account
+pub worked-run : LawsForSeenLogs → IsAccount script account
 worked-run laws =
     made laws script account 0 legal-account
     (hand-after {gates = 2} {shards = 1} (record { laws = laws; few = omega arith; legal = legal; of = of-hands }) 0) follows

@@ -2,22 +2,21 @@
 -- program begins at gatekeeper 1, reads v, for which the oracle puts the transaction before it, and is finished. All that
 -- the entries refer to was seen. The shard isn't ready for the visit: a run of machines is in `ExampleRun`. Then each
 -- kind of entry once with a reference that was not seen.
-use Rattle.std.proofs.Common.{◌≡◌, ℕ, zero, suc, ◌≤◌, Bool, true, false, Option, List, [], ◌∷◌, ◌++◌, length, Contains, IsTrue, Some, None, inl, inr, refl, sym, ap, subst, ◌∙◌, arith}
+use Rattle.std.proofs.Common.{◌≡◌, ℕ, zero, suc, Bool, true, false, Option, List, [], ◌∷◌, ◌++◌, length, Contains, IsTrue, Some, None, inl, inr, refl, sym, ap, subst, ◌∙◌, arith}
 use Rattle.std.specs.Prelude.{codes, cond, not}
 use Rattle.std.specs.Map.{keys_of}
 use Rattle.std.specs.List.{find}
 use Rattle.std.proofs.lemmas.List.{length-append}
-use Rattle.proof_base.proofs.Entries.{each_none}
-use Rattle.proof_base.proofs.Members.{has_head, has_none, has_read, has_tail, only}
+use Rattle.weave_data.proofs.Entries.{each_none}
+use Rattle.weave_data.proofs.Members.{has_head, has_none, has_read, has_tail, only}
 use Rattle.weave_data.specs.declared.name.Name.{Name}
 use Rattle.weave_data.specs.Names.{same_name}
 use Rattle.graph_ops.specs.declared.op.Op.TheVariants.{Create}
 use Rattle.graph_ops.specs.Mentions.{is_among}
 use Rattle.graph_ops.specs.Operations.{State}
 use Rattle.graph_ops.specs.PlainGraph.{PlainGraph}
-use Rattle.vector_stamp.specs.declared.clock.Clock.{Clock}
 use Rattle.vector_stamp.specs.declared.clock.Stamp.{Stamp}
-use Rattle.vector_stamp.specs.Order.{count_of, stamp_before}
+use Rattle.vector_stamp.specs.Order.{stamp_before}
 use Rattle.vector_stamp.specs.Precedence.{ByPair, ByStamps, Precedes, Through}
 use Rattle.program_defs.specs.declared.program.Filter.{Filter}
 use Rattle.program_defs.specs.declared.program.Program.{Program}
@@ -33,23 +32,21 @@ use Rattle.weave_entries.specs.declared.shard_log.ShardDeed.TheVariants.{Arrived
 use Rattle.weave_entries.specs.declared.store_log.StoreEntry.{StoreEntry}
 use Rattle.weave_entries.specs.declared.store_log.StoreDeed.TheVariants.{Judged}
 use Rattle.weave_entries.specs.declared.verdict.Verdict.TheVariants.{Committed, Conflict}
-use Rattle.weave_entries.specs.GateReplay.{Begun, programs_of, ticks_of, txs_of}
+use Rattle.weave_entries.specs.GateReplay.{Begun, programs_of, txs_of}
 use Rattle.weave_entries.specs.ShardReplay.{Update, Visit, visits_of}
 use Rattle.weave_entries.specs.StoreReplay.{Commit, judged_by}
 use Rattle.weave_account.specs.declared.account.Account.{Account}
 use Rattle.weave_account.specs.Account.{Precedence, begun_stamps, gate_log, shard_log}
-use Rattle.weave_account.specs.Clocks.{IsKnown}
 use Rattle.seen_logs.specs.References.{GateRefersAs, IsAskedAsSeen, OracleRefersAs, ShardRefersAs, StoreRefersAs}
 use Rattle.seen_logs.specs.Seen.{GateRefersWithin, HasAsked, IsOwn, IsSeenByHand, OracleRefersWithin, ShardRefersWithin, StoreRefersWithin, VisitsItsOwn, VisitsOwnPrograms, since, visit_entry}
-use Rattle.seen_logs.proofs.ShortLogs.{four, one, three, two}
+use Rattle.weave_account.proofs.ExampleLists.{four, one, three, two}
+use Rattle.weave_account.proofs.ExampleParts.{clock, two-known}
+use Rattle.seen_logs.proofs.ExampleParts.{creation-refers}
 
 -- The run
 
 abbrev v : Name
 v = codes "v"
-
-abbrev clock : ℕ → ℕ → Clock
-clock n m = record { epoch = 0; counts = n ∷ m ∷ 0 ∷ 0 ∷ 0 ∷ 0 ∷ 0 ∷ 0 ∷ [] }
 
 -- the transaction's stamp, the program's, and that of an empty message
 abbrev t : Stamp
@@ -115,44 +112,23 @@ unseen = record { gates = [] ∷ [] ∷ []; store = []; oracle = []; shards = []
 
 -- What was seen
 
-known : (n m : ℕ) → n ≤ 1 → m ≤ 2 → IsKnown seen (clock n m)
-known n m few less = record { eight = refl; counts = at; raised = λ above. absurd (above refl) }
-  where
-    zeros : (home : ℕ) → count_of (suc (suc home)) (clock n m) ≡ 0
-    zeros zero = refl
-    zeros (suc zero) = refl
-    zeros (suc (suc zero)) = refl
-    zeros (suc (suc (suc zero))) = refl
-    zeros (suc (suc (suc (suc zero)))) = refl
-    zeros (suc (suc (suc (suc (suc zero))))) = refl
-    zeros (suc (suc (suc (suc (suc (suc home)))))) = refl
-
-    at : (home : ℕ) → count_of home (clock n m) ≤ ticks_of 0 (gate_log seen home)
-    at zero = few
-    at (suc zero) = less
-    at (suc (suc home)) = let none = zeros home in omega (arith, none)
-
 gates : (home : ℕ) → GateRefersWithin 1 seen home
 gates zero =
     two (λ before (entry : GateEntry). GateRefersAs seen 1 before entry.author entry.deed) g1 g2
-    (known 1 0 (omega arith) (omega arith))
+    (two-known seen 1 0 (omega arith) (omega arith))
     (record { judged = judged_by 7 judged.deed; is_judged = has_head _ []; request_is = refl; messages_are = refl })
 gates (suc zero) =
     four (λ before (entry : GateEntry). GateRefersAs seen 1 before entry.author entry.deed) h1 h2 h3 h4
-    (known 0 1 (omega arith) (omega arith))
-    (known 1 0 (omega arith) (omega arith))
-    (known 1 2 (omega arith) (omega arith))
+    (two-known seen 0 1 (omega arith) (omega arith))
+    (two-known seen 1 0 (omega arith) (omega arith))
+    (two-known seen 1 2 (omega arith) (omega arith))
     (record { program = Show v; reads = (v, Some (record { props = []; edges = [] })) ∷ []; read = λ read h. h; whole = refl })
 gates (suc (suc home)) = each_none _
 
 store : StoreRefersWithin seen
 store =
     one (λ before (entry : StoreEntry). StoreRefersAs seen before entry.author entry.deed) judged
-    (record {
-      home = 0;
-      begun = has_head _ [];
-      right = record { number_is = refl; graph = _; passes = refl; counts_are = refl; after_last = λ w named x at. cc };
-    })
+    (creation-refers seen 7 t (has_head _ []))
 
 oracle : OracleRefersWithin seen
 oracle =

@@ -1,10 +1,11 @@
--- What an entry refers to stays seen while more is seen.
+-- What an entry needs of other logs stays true when those logs only grow at the end.
+-- Used by `references_go_on`, Asking, Closing, MakesAccount, Noting and Onward.
 use Rattle.std.proofs.Common.{ℕ, ◌==◌, inl, inr, List, [], ◌∷◌, ◌++◌, Contains, None, refl, sym, ap, subst, ◌∙◌, append_assoc}
 use Rattle.std.specs.Prelude.{map}
 use Rattle.std.specs.List.{filter, flat_map}
 use Rattle.std.proofs.lemmas.List.{map-append}
 use Rattle.std.proofs.lemmas.List.Elements.{Contains-append_left}
-use Rattle.proof_base.proofs.Members.{filter_has, flat_has, has_flat, has_map, map_has}
+use Rattle.weave_data.proofs.Members.{filter_has, flat_has, has_flat, has_map, map_has}
 use Rattle.graph_ops.specs.Operations.{State}
 use Rattle.graph_ops.specs.declared.op.Op.{Op}
 use Rattle.vector_stamp.specs.declared.clock.Clock.{Clock}
@@ -40,13 +41,16 @@ use Rattle.weave_account.specs.Oracle.{HasItsEntry, IsAskedByCommit, IsAskedByVi
 use Rattle.weave_account.specs.Seen.{IsMade}
 use Rattle.weave_account.specs.Shards.{update_of}
 use Rattle.weave_account.specs.Store.{IsRightVerdict}
-use Rattle.seen_logs.specs.LowerLaws.{LowerLaws}
+use Rattle.seen_logs.specs.LowerLaws.{LawsForSeenLogs}
 use Rattle.seen_logs.specs.References.{GateRefersAs, IsAskedAsSeen, OracleRefersAs, ShardRefersAs, StoreRefersAs, VisitsAsSeen}
 use Rattle.seen_logs.specs.Seen.{GatesGoOn, ShardsGoOn}
-use Rattle.seen_logs.proofs.Listed.{flat-on, has-on, list-there, place-of}
-use Rattle.seen_logs.proofs.Updates.{last-stays, read-in, reads-stay, shard-before, within}
+use Rattle.seen_logs.proofs.Listed.{flat-on, has-on}
+use Rattle.seen_logs.proofs.Updates.{last-stays, reads-stay, shard-before, within}
+use Rattle.weave_account.proofs.Beginning.{list-there}
+use Rattle.weave_account.proofs.Replying.{place-of}
+use Rattle.weave_account.proofs.VisitsStay.{read-in}
 
--- a script of nothing, for laws that speak of one
+-- an empty script, for laws that ask for one although what they say doesn't depend on it
 nothing : Script
 nothing = record { gates = 0; shards = 0; requests = []; phases = []; steps = None }
 
@@ -72,7 +76,7 @@ shard-there account shard r read h =
 
 -- What is in the gatekeepers' logs
 
-module _ (laws : LowerLaws) (seen next : Account) (on : GatesGoOn seen next) where
+module _ (laws : LawsForSeenLogs) (seen next : Account) (on : GatesGoOn seen next) where
   -- what is known stays known
   pub known-stays : (clock : Clock) → IsKnown seen clock → IsKnown next clock
   known-stays clock known =
@@ -156,7 +160,7 @@ module _ (seen next : Account) (on : IsBeginningOf seen.store next.store) where
 
 -- What is in the oracle's
 
-module _ (laws : LowerLaws) (seen next : Account) (on : IsBeginningOf seen.oracle next.oracle) where
+module _ (laws : LawsForSeenLogs) (seen next : Account) (on : IsBeginningOf seen.oracle next.oracle) where
   -- what precedes goes on to precede
   pub precedence-stays : (a b : Stamp) → Precedence seen a b → Precedence next a b
   precedence-stays a b h =
@@ -201,7 +205,7 @@ module _ (laws : LowerLaws) (seen next : Account) (on : IsBeginningOf seen.oracl
 
 -- What is in the shards'
 
-module _ (laws : LowerLaws) (seen next : Account) (on : ShardsGoOn seen next) (gates : ℕ)
+module _ (laws : LawsForSeenLogs) (seen next : Account) (on : ShardsGoOn seen next) (gates : ℕ)
     (legal : (shard : ℕ) → IsShardLog gates (shard_log next shard)) where
   -- what was seen of a shard's log, with what was seen since
   together : (shard : ℕ) → IsShardLog gates (shard_log seen shard ++ (on shard).0)
@@ -233,9 +237,9 @@ module _ (laws : LowerLaws) (seen next : Account) (on : ShardsGoOn seen next) (g
         earlier_is = asked.earlier_is ∙ sym (ap (λ l. seen_last l asked.visit) more.1 ∙ last-stays laws gates log more.0 (together shard) asked.visit few);
       }
 
--- The table
+-- By kind of entry
 
-module _ (laws : LowerLaws) (seen next : Account) where
+module _ (laws : LawsForSeenLogs) (seen next : Account) where
   -- what the store's entry refers to stays seen
   pub store-stays : GatesGoOn seen next → IsBeginningOf seen.oracle next.oracle
       → (before : List StoreEntry) (author : ℕ) (deed : StoreDeed) → StoreRefersAs seen before author deed

@@ -1,10 +1,11 @@
 -- What a shard has seen is what the laws of accounts on heads, updates and collections need.
+-- Used by `shards_have_seen`.
 use Rattle.std.proofs.Common.{ℕ, ◌≤◌, List}
 use Rattle.weave_entries.specs.declared.shard_log.ShardEntry.{ShardEntry}
 use Rattle.weave_entries.specs.declared.shard_log.ShardDeed.{ShardDeed}
 use Rattle.weave_entries.specs.declared.shard_log.ShardDeed.TheVariants.{Arrived, Applied, Visited, Collected}
 use Rattle.weave_entries.specs.GateRules.{IsGateLog}
-use Rattle.weave_entries.specs.ShardRules.{FitsShard, IsInTurn, IsShardLog}
+use Rattle.weave_entries.specs.ShardRules.{FitsShard, IsHeadInTurn, IsShardLog}
 use Rattle.weave_account.specs.declared.account.Account.{Account}
 use Rattle.weave_account.specs.Account.{gate_log, shard_log}
 use Rattle.weave_account.specs.Seen.{ComesAs, HasSeen, HasSeenSent, HavePassed, TakesAs}
@@ -12,7 +13,7 @@ use Rattle.weave_account.specs.Shards.{Applies}
 use Rattle.seen_logs.specs.References.{ShardRefersAs}
 use Rattle.seen_logs.specs.Seen.{ShardRefersWithin}
 
-applies : (gates : ℕ) (before : List ShardEntry) (home number : ℕ) → IsInTurn gates before home number → Applies before home number
+applies : (gates : ℕ) (before : List ShardEntry) (home number : ℕ) → IsHeadInTurn gates before home number → Applies before home number
 applies gates before home number fits =
     record { number_is = fits.number_is; message = fits.message; head = fits.head; in_turn = fits.in_turn }
 

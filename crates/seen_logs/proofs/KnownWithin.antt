@@ -1,10 +1,11 @@
 -- If a gatekeeper's entries refer to what was seen, each clock of its log is known by what was seen.
+-- Used by `clocks_count_within` and MakesAccount.
 use Rattle.std.proofs.Common.{◌≡◌, ◌≢◌, ℕ, ◌<◌, List, [], ◌∷◌, ◌++◌, Contains, IsTrue, arith, inl, inr, refl, sym, ap, subst, ◌∙◌, append_assoc}
 use Rattle.std.specs.List.{list_any}
 use Rattle.std.proofs.lemmas.Bool.{eq-eqb}
 use Rattle.std.proofs.lemmas.List.{append-nil}
-use Rattle.proof_base.proofs.Ends.{by_last}
-use Rattle.proof_base.proofs.Members.{any_from, cut_at, flat_has, has_cut, has_none, has_read, map_has, only}
+use Rattle.weave_data.proofs.Ends.{by_last}
+use Rattle.weave_data.proofs.Members.{any_from, cut_at, flat_has, has_cut, has_none, has_read, map_has, only}
 use Rattle.graph_ops.specs.declared.op.Op.{Op}
 use Rattle.vector_stamp.specs.declared.clock.Clock.{Clock}
 use Rattle.vector_stamp.specs.declared.clock.Stamp.{Stamp}
@@ -21,10 +22,10 @@ use Rattle.weave_entries.specs.Sending.{message_to, messages_of, shards_named}
 use Rattle.weave_account.specs.declared.account.Account.{Account}
 use Rattle.weave_account.specs.Account.{gate_log}
 use Rattle.weave_account.specs.Clocks.{IsKnown, is_raised, raises_to}
-use Rattle.seen_logs.specs.LowerLaws.{LowerLaws}
+use Rattle.weave_account.proofs.Beginning.{list-there}
+use Rattle.seen_logs.specs.LowerLaws.{LawsForSeenLogs}
 use Rattle.seen_logs.specs.References.{GateRefersAs}
 use Rattle.seen_logs.specs.Seen.{GateRefersWithin}
-use Rattle.seen_logs.proofs.Listed.{list-there}
 
 -- the stamp and the low mark of a message are those of its transaction's begin and of the programs that run then
 message-clocks : (shards : ℕ) (before : List GateEntry) (begun : Begun) (ops : List Op) (verdict : Verdict) (addressed : Addressed)
@@ -36,7 +37,7 @@ message-clocks shards before begun ops (Committed number answers counts) address
 message-clocks shards before begun ops (Conflict vertex newer) addressed h = absurd (has_none addressed h)
 message-clocks shards before begun ops (Refused op reason at) addressed h = absurd (has_none addressed h)
 
-module _ (laws : LowerLaws) (shards : ℕ) (seen : Account) (home : ℕ) (refers : GateRefersWithin shards seen home) where
+module _ (laws : LawsForSeenLogs) (shards : ℕ) (seen : Account) (home : ℕ) (refers : GateRefersWithin shards seen home) where
   -- a stamp of a deed that refers to what was seen
   deed-stamp : (before : List GateEntry) (author : ℕ) (deed : GateDeed) (stamp : Stamp) → Contains (stamps_by deed) stamp
       → GateRefersAs seen shards before author deed → IsKnown seen stamp.clock

@@ -14,6 +14,6 @@ pub mod Noting
 pub mod Having
 pub mod Reading
 pub mod NotBegun
-pub mod ShortLogs
+pub mod ExampleParts
 pub mod Examples
 pub mod ExampleRun

@@ -1,13 +1,14 @@
 -- Logs that keep their rules, refer to nothing but themselves and follow the script are an account.
+-- Used by `begun_programs_are_enough`, `logs_make_an_account`, 3 more and crates hands_account and weaver_locks.
 use Rattle.std.proofs.Common.{◌≡◌, ◌≢◌, ℕ, ◌<◌, Bool, true, false, cond, List, [], ◌∷◌, ◌++◌, length, map, Contains, IsTrue, AllPairs, inl, inr, sym, ap, subst, ◌∙◌, append_assoc, arith}
 use Rattle.std.specs.Prelude.{All}
 use Rattle.std.specs.List.{filter, flat_map}
 use Rattle.std.proofs.lemmas.List.{append-nil, length-append, map-append}
 use Rattle.std.proofs.lemmas.List.Elements.{All-contains, Contains-append_left}
-use Rattle.proof_base.proofs.Ends.{by_last}
-use Rattle.proof_base.proofs.Entries as entries
-use Rattle.proof_base.proofs.Members.{cut_at, filter_has, flat_has, has_cut, has_flat, has_map, has_none, map_has, only}
-use Rattle.proof_base.proofs.Ordered.{pairs_cases, pairs_none, pairs_push}
+use Rattle.weave_data.proofs.Ends.{by_last}
+use Rattle.weave_data.proofs.Entries as entries
+use Rattle.weave_data.proofs.Members.{cut_at, filter_has, flat_has, has_cut, has_flat, has_map, has_none, map_has, only}
+use Rattle.weave_data.proofs.Ordered.{pairs_cases, pairs_none, pairs_push}
 use Rattle.vector_stamp.specs.declared.clock.Stamp.{Stamp}
 use Rattle.vector_stamp.specs.Order.{id_of}
 use Rattle.program_defs.specs.declared.script.Script.{Script}
@@ -34,14 +35,14 @@ use Rattle.weave_account.specs.IsAccount.{IsAccount}
 use Rattle.weave_account.specs.Oracle.{HasItsEntry, marked_in, seen_last}
 use Rattle.weave_account.specs.Shards.{ShardFitsAs}
 use Rattle.weave_account.specs.Store.{Judges}
+use Rattle.weave_account.proofs.Beginning.{list-there}
 use Rattle.seen_logs.specs.FollowsScript.{FollowsScript}
-use Rattle.seen_logs.specs.LowerLaws.{LowerLaws}
+use Rattle.seen_logs.specs.LowerLaws.{LawsForSeenLogs}
 use Rattle.seen_logs.specs.References.{GateRefersAs, IsAskedAsSeen, JudgesAsSeen, ShardRefersAs, StoreRefersAs}
 use Rattle.seen_logs.specs.Seen.{AreLegal, GateRefersWithin, IsSeenByHand, ShardRefersWithin, StoreRefersWithin, visit_entry, without_sessions}
 use Rattle.seen_logs.proofs.Asking.{marked-append, marked-of, program-begun, what-asked}
 use Rattle.seen_logs.proofs.Going.{asked-stays, gate-stays, shard-stays, store-stays}
 use Rattle.seen_logs.proofs.KnownWithin.{clocks-known}
-use Rattle.seen_logs.proofs.Listed.{list-there}
 use Rattle.seen_logs.proofs.Placed.{lists-together, pairs-append, pairs-one}
 use Rattle.seen_logs.proofs.Updates.{last-stays}
 use Rattle.seen_logs.proofs.Within.{same-logs}
@@ -54,7 +55,7 @@ tx-begun account home begun h =
     (has_flat (λ (e : GateEntry). begun_by e.author e.deed) (gate_log account home) from.0 begun from.1
     (Contains-append_left (tx_by (from.0).author (from.0).deed) (program_by (from.0).author (from.0).deed) begun from.2))
 
--- two begins of one request are one
+-- two begins of one request are the same
 pub one-begin : (account : Account) → BeginEachOnce account → (a b : Begun) → Contains (all_begun account) a → Contains (all_begun account) b
     → a.request ≡ b.request → a ≡ b
 one-begin account once a b ha hb same =
@@ -71,7 +72,8 @@ fits-asked : (before : List StoreEntry) (author : ℕ) (deed : StoreDeed) → Fi
     → (judged_by author deed).asked ≡ asked_vertices (judged_by author deed).stamp (lasts_of (judged_by author deed).ops (commits_of before))
 fits-asked before author (Judged request stamp ops asked verdict) fits = fits.asked_are
 
-fits-new : (before : List StoreEntry) (author : ℕ) (deed : StoreDeed) → FitsStore before deed
+-- a judgement by the rule has a stamp of none before
+pub fits-new : (before : List StoreEntry) (author : ℕ) (deed : StoreDeed) → FitsStore before deed
     → All (λ (judged : Stamp). id_of judged ≢ id_of (judged_by author deed).stamp) (stamps_judged before)
 fits-new before author (Judged request stamp ops asked verdict) fits = fits.new
 
@@ -117,7 +119,7 @@ visit-is author (Arrived home number message) visit h = absurd (has_none visit h
 visit-is author (Applied home number) visit h = absurd (has_none visit h)
 visit-is author (Collected bound) visit h = absurd (has_none visit h)
 
--- where what was asked for was asked for
+-- the visit for which this was asked
 record IsAskedIn (log entries : List ShardEntry) (asked : ℕ × List Stamp) : Type 0 where
   visit : Visit
   before : List ShardEntry
@@ -153,14 +155,14 @@ there : {E : Type 0} (log before : List E) (entry : E) (after : List E) → log 
 there log before entry after at = let many = ap length at ∙ length-append before (entry ∷ after) in omega (arith, many)
 
 -- what the shards' entries refer to was seen if a hand answers for all of them
-pub shards-within : LowerLaws → (shards : ℕ) (account : Account) (number : ℕ)
+pub shards-within : LawsForSeenLogs → (shards : ℕ) (account : Account) (number : ℕ)
     → IsSeenByHand shards number (without_sessions account) (without_sessions account) → (shard : ℕ) → ShardRefersWithin shards account shard
 shards-within laws shards account number hand shard before entry after at =
     let on = (same-logs account).1 in
     shard-stays laws (without_sessions account) account on.gates on.store on.oracle shards shard before entry.author entry.deed
     (hand.shard_entries shard before entry after at (inr (there (shard_log account shard) before entry after at)))
 
-module _ (laws : LowerLaws) (script : Script) (account : Account) (number : ℕ) (legal : AreLegal script.gates script.shards account)
+module _ (laws : LawsForSeenLogs) (script : Script) (account : Account) (number : ℕ) (legal : AreLegal script.gates script.shards account)
     (hand : IsSeenByHand script.shards number (without_sessions account) (without_sessions account)) (follows : FollowsScript script account) where
   logs : Account
   logs = without_sessions account
@@ -254,7 +256,7 @@ module _ (laws : LowerLaws) (script : Script) (account : Account) (number : ℕ)
             ∙ sym (last-there shard cut.before visit cut.after at);
       }
 
-  -- two marked visits that asked for one pair are one
+  -- two marked visits that asked for the same pair are the same
   same-place : (shard other : ℕ) (before rest : List ShardEntry) (a b : Visit) (after later : List ShardEntry)
       → shard_log account shard ≡ before ++ visit_entry a ∷ after → shard_log account other ≡ rest ++ visit_entry b ∷ later
       → IsTrue a.settled → IsTrue b.settled

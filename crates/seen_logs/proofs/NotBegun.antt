@@ -1,14 +1,15 @@
 -- A request that no gatekeeper began as a program has read nothing, and if it is a program it has not ended.
+-- Used by `begun_programs_are_enough` and `only_begun_programs_read`.
 use Rattle.std.proofs.Common.{◌≡◌, ◌≢◌, ℕ, ◌==◌, false, List, [], ◌∷◌, ◌++◌, map, Contains, IsTrue, Some, inl, inr, refl, sym, ap, subst, ◌∙◌}
 use Rattle.std.specs.Prelude.{◌&&◌}
 use Rattle.std.specs.List.{filter, flat_map, list_any}
 use Rattle.std.proofs.lemmas.Bool.{and_parts, both_ways, cases_Bool, eq-eqb, eqb-true, ne_eqb}
-use Rattle.proof_base.proofs.Entries.{each_before}
-use Rattle.proof_base.proofs.Lists.{filter-none}
-use Rattle.proof_base.proofs.Members.{any_from, any_has, cut_at, flat_has, has_flat, has_none, only}
-use Rattle.proof_base.proofs.Numbers.{has-in}
-use Rattle.proof_base.proofs.Ordered.{pairs_none}
-use Rattle.proof_base.proofs.Places.{all-from}
+use Rattle.weave_data.proofs.Entries.{each_before}
+use Rattle.weave_data.proofs.Lists.{filter-none}
+use Rattle.weave_data.proofs.Members.{any_from, any_has, cut_at, flat_has, has_flat, has_none, only}
+use Rattle.weave_data.proofs.Numbers.{has-in}
+use Rattle.weave_data.proofs.Ordered.{pairs_none}
+use Rattle.weave_data.proofs.ListPlaces.{all-from}
 use Rattle.weave_data.specs.declared.name.Name.{Name}
 use Rattle.graph_ops.specs.Operations.{State}
 use Rattle.program_defs.specs.declared.program.Program.{Program}
@@ -31,12 +32,14 @@ use Rattle.weave_account.specs.Account.{gate_log, is_ended, reads_of, shard_log}
 use Rattle.weave_account.specs.Gatekeepers.{BeginsAs}
 use Rattle.weave_account.specs.Programs.{ProgramsClause, ReadsInTurn}
 use Rattle.seen_logs.specs.FollowsScript.{BegunProgramsReadInTurn}
-use Rattle.seen_logs.specs.LowerLaws.{LowerLaws}
+use Rattle.seen_logs.specs.LowerLaws.{LawsForSeenLogs}
 use Rattle.seen_logs.specs.Seen.{ShardRefersWithin, visit_entry}
-use Rattle.seen_logs.proofs.Listed.{flat-alike, flat-on, has-on, list-there, place-of}
+use Rattle.seen_logs.proofs.Listed.{flat-on, has-on}
 use Rattle.seen_logs.proofs.MakesAccount.{visit-is}
 use Rattle.seen_logs.proofs.OfAccount.{there-and}
-use Rattle.seen_logs.proofs.Updates.{read-in}
+use Rattle.weave_account.proofs.VisitsStay.{flat-alike, read-in}
+use Rattle.weave_account.proofs.Beginning.{list-there}
+use Rattle.weave_account.proofs.Replying.{place-of}
 
 -- no gatekeeper began the request as a program
 abbrev NotBegun : Account → ℕ → Type 0
@@ -60,7 +63,7 @@ module _ (shards : ℕ) (seen : Account) (refers : (shard : ℕ) → ShardRefers
   pub nothing-read : reads_of seen r ≡ []
   nothing-read = flat-alike (reads_in r) refl seen.shards [] (λ shard. ap (map (read-in (shard_log seen shard))) (no-visit shard))
 
-module _ (laws : LowerLaws) (script : Script) (account : Account)
+module _ (laws : LawsForSeenLogs) (script : Script) (account : Account)
     (legal : (home : ℕ) → IsGateLog home script.shards (gate_log account home))
     (begins : (home : ℕ) → AtEachEntry (λ before (entry : GateEntry). BeginsAs script account home before entry.deed) (gate_log account home)) where
   -- a transaction that was begun is one of the script

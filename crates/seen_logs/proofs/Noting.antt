@@ -1,7 +1,8 @@
 -- What machines have seen goes on, and what it says of the messages that were sent.
+-- Used by `machines_note_more` and `messages_are_made`.
 use Rattle.std.proofs.Common.{ℕ, ◌≤◌, ◌==◌, List, [], ◌∷◌, length, Contains, inl, inr, refl, sym, ap, subst}
-use Rattle.std.proofs.lemmas.Bool.{eqb-true}
-use Rattle.proof_base.proofs.Members.{cut_at, filter_has, flat_has, has_none, only}
+use Rattle.std.proofs.lemmas.Bool.{eqb-true, cases_lt}
+use Rattle.weave_data.proofs.Members.{cut_at, filter_has, flat_has, has_none, only}
 use Rattle.weave_entries.specs.declared.gate_log.GateEntry.{GateEntry}
 use Rattle.weave_entries.specs.declared.gate_log.GateDeed.{GateDeed}
 use Rattle.weave_entries.specs.declared.gate_log.GateDeed.TheVariants.{BeganTx, BeganProgram, Sent, Nop, Heard, Raised, Finished}
@@ -16,23 +17,23 @@ use Rattle.weave_account.specs.declared.account.Account.{Account}
 use Rattle.weave_account.specs.Account.{gate_log, shard_log}
 use Rattle.weave_account.specs.GoesOn.{IsBeginningOf}
 use Rattle.weave_account.specs.Seen.{IsMade}
-use Rattle.seen_logs.specs.LowerLaws.{LowerLaws}
+use Rattle.seen_logs.specs.LowerLaws.{LawsForSeenLogs}
 use Rattle.seen_logs.specs.References.{GateRefersAs, OracleRefersAs, ShardRefersAs, StoreRefersAs}
 use Rattle.seen_logs.specs.Seen.{GateRefersWithin, GatesGoOn, OracleRefersWithin, ShardRefersWithin, ShardsGoOn, StoreRefersWithin}
 use Rattle.seen_logs.proofs.Going.{gate-stays, oracle-stays, shard-stays, store-stays}
-use Rattle.seen_logs.proofs.Onward.{earlier-place, less-or}
+use Rattle.seen_logs.proofs.Onward.{earlier-place}
 
 -- what is so of each entry that a log had, and of each later one, is so of each
 each-on : {E : Type 0} (P Q : List E → E → Type 0) (xs ys : List E) → IsBeginningOf xs ys → AtEachEntry P xs
     → ((before : List E) (entry : E) → P before entry → Q before entry)
     → AtEachEntry (λ before entry. length xs ≤ length before → Q before entry) ys → AtEachEntry Q ys
 each-on P Q xs ys on old step new before entry after at =
-    elim (less-or (length before) (length xs)) [
+    elim (cases_lt (length before) (length xs)) [
       | inl less ↦ (let place = earlier-place xs ys on before entry after at less in step before entry (old before entry place.0 place.1))
       | inr more ↦ new before entry after at more
     ]
 
-module _ (laws : LowerLaws) where
+module _ (laws : LawsForSeenLogs) where
   -- what a gatekeeper has seen goes on
   pub gate-notes : (gates shards : ℕ) (seen next : Account) → GatesGoOn seen next → IsBeginningOf seen.store next.store → ShardsGoOn seen next
       → ((shard : ℕ) → IsShardLog gates (shard_log next shard)) → (home : ℕ) → GateRefersWithin shards seen home

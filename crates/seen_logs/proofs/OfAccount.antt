@@ -1,11 +1,12 @@
 -- All that an account's entries refer to is in the account.
+-- Used by `accounts_refer_within`, Asking and NotBegun.
 use Rattle.std.proofs.Common.{◌≡◌, ℕ, ◌≤◌, ◌==◌, Bool, List, [], ◌∷◌, ◌++◌, length, map, take, Contains, IsTrue, Option, Some, None, refl, sym, ap, subst, ◌∙◌}
 use Rattle.std.specs.Prelude.{◌&&◌}
 use Rattle.std.specs.List.{flat_map}
 use Rattle.std.proofs.lemmas.Bool.{and_parts}
-use Rattle.proof_base.proofs.Entries.{each_before}
-use Rattle.proof_base.proofs.Members.{cut_at, filter_has, flat_has, has_cut, has_flat, has_head, has_map, has_none, map_has, only}
-use Rattle.proof_base.proofs.Numbers.{in-has}
+use Rattle.weave_data.proofs.Entries.{each_before}
+use Rattle.weave_data.proofs.Members.{cut_at, filter_has, flat_has, has_cut, has_flat, has_head, has_map, has_none, map_has, only, take_has}
+use Rattle.weave_data.proofs.Numbers.{in-has}
 use Rattle.weave_data.specs.declared.name.Name.{Name}
 use Rattle.weave_data.specs.Names.{shard_of}
 use Rattle.program_defs.specs.declared.program.Program.{Program}
@@ -35,10 +36,10 @@ use Rattle.weave_account.specs.IsAccount.{IsAccount}
 use Rattle.weave_account.specs.Oracle.{HasItsEntry, seen_last}
 use Rattle.weave_account.specs.Seen.{HasSeen, TakesAs}
 use Rattle.weave_account.specs.Shards.{ShardFitsAs, update_of}
-use Rattle.seen_logs.specs.LowerLaws.{LowerLaws}
+use Rattle.weave_account.proofs.Beginning.{list-there}
+use Rattle.seen_logs.specs.LowerLaws.{LawsForSeenLogs}
 use Rattle.seen_logs.specs.References.{EndsAsSeen, GateRefersAs, OracleRefersAs, ShardRefersAs}
 use Rattle.seen_logs.specs.Seen.{GateRefersWithin, OracleRefersWithin, ShardRefersWithin, StoreRefersWithin, visit_entry}
-use Rattle.seen_logs.proofs.Listed.{list-there, take-has}
 use Rattle.seen_logs.proofs.Updates.{last-stays}
 
 -- work that is a program is one
@@ -51,7 +52,7 @@ pub there-and : {A : Type 0} (test : A → Bool) (o : Option A) → IsTrue (is_s
 there-and test None h = absurd cc
 there-and test (Some x) h = (x, refl, h)
 
-module _ (laws : LowerLaws) (script : Script) (account : Account) (limits : IsWithinLimits script) (is : IsAccount script account) where
+module _ (laws : LawsForSeenLogs) (script : Script) (account : Account) (limits : IsWithinLimits script) (is : IsAccount script account) where
   -- Gatekeepers
 
   -- a program that was begun is one of the script
@@ -158,9 +159,9 @@ module _ (laws : LowerLaws) (script : Script) (account : Account) (limits : IsWi
   commit-read shard before after at v here n update h =
       let are = laws.updates_seen script.shards account.store shard before (seen-before shard before after at) v here in
       let there : Contains (map (update_of v) (take (length (updates_of v before)) (commits_naming v (commits_of account.store)))) update =
-      subst (λ us. Contains us update) are (take-has n (updates_of v before) update h) in
+      subst (λ us. Contains us update) are (take_has n (updates_of v before) update h) in
       let of = map_has (update_of v) (take (length (updates_of v before)) (commits_naming v (commits_of account.store))) update there in
-      let naming = take-has (length (updates_of v before)) (commits_naming v (commits_of account.store)) of.0 of.1 in
+      let naming = take_has (length (updates_of v before)) (commits_naming v (commits_of account.store)) of.0 of.1 in
       subst (λ u. Contains (map (update_of v) (commits_of account.store)) u) of.2
       (has_map (update_of v) (commits_of account.store) of.0 (filter_has (names_vertex v) (commits_of account.store) of.0 naming).0)
 

@@ -1,8 +1,9 @@
 -- What a hand has seen goes on: what it made earlier refers to what was seen then, and so to what is seen now.
+-- Used by `asked_pairs_precede`, `hands_see_more`, `own_visits_stay`, 3 more and crates weaver_hands and weaver_locks.
 use Rattle.std.proofs.Common.{◌≡◌, ℕ, ◌<◌, ◌≤◌, List, [], ◌∷◌, ◌++◌, length, drop, Contains, ◌⊎◌, inl, inr, refl, sym, ap, subst, ◌∙◌, arith}
-use Rattle.std.proofs.lemmas.Bool.{cases_Bool, cases_order}
+use Rattle.std.proofs.lemmas.Bool.{cases_Bool, cases_lt}
 use Rattle.std.proofs.lemmas.List.{drop-append-le, length-append}
-use Rattle.proof_base.proofs.Members.{has_head, has_flat, has_none, has_read}
+use Rattle.weave_data.proofs.Members.{has_head, has_flat, has_none, has_read}
 use Rattle.vector_stamp.specs.declared.clock.Stamp.{Stamp}
 use Rattle.vector_stamp.specs.Precedence.{ByPair, Given, precedes}
 use Rattle.vector_stamp.specs.Settling.{additions_from, places_of}
@@ -22,7 +23,7 @@ use Rattle.weave_account.specs.declared.account.Account.{Account}
 use Rattle.weave_account.specs.Account.{Precedence, gate_log, shard_log}
 use Rattle.weave_account.specs.GoesOn.{IsBeginningOf}
 use Rattle.weave_account.specs.Oracle.{seen_last}
-use Rattle.seen_logs.specs.LowerLaws.{LowerLaws}
+use Rattle.seen_logs.specs.LowerLaws.{LawsForSeenLogs}
 use Rattle.seen_logs.specs.References.{GateRefersAs, IsAskedAsSeen, OracleRefersAs, ShardRefersAs, StoreRefersAs}
 use Rattle.seen_logs.specs.Seen.{AddsAsSeen, AnswersFor, HasAsked, IsOwn, IsSeenByHand, IsWithin, VisitsItsOwn, VisitsOwnPrograms, since, visit_entry}
 use Rattle.seen_logs.proofs.Going.{asked-stays, gate-stays, oracle-stays, shard-stays, store-stays}
@@ -31,15 +32,6 @@ use Rattle.seen_logs.proofs.Placed.{in-front}
 use Rattle.seen_logs.proofs.Within.{all-later}
 
 -- Lists
-
--- of two numbers the first is less, or the second is at most the first
-pub less-or : (a b : ℕ) → (a < b) ⊎ (b ≤ a)
-less-or a b =
-    elim (cases_order a b) [
-      | inl same ↦ inr (omega (arith, same))
-      | inr (inl less) ↦ inl less
-      | inr (inr more) ↦ inr (omega (arith, more))
-    ]
 
 -- what is left of a list goes on if the list does
 pub since-on : {A : Type 0} (start xs ys : List A) → length start ≤ length xs → IsBeginningOf xs ys → IsBeginningOf (since start xs) (since start ys)
@@ -55,7 +47,7 @@ old-or-new : {E : Type 0} (number : ℕ) (start seen before : List E) (author : 
     → (length before < length seen) ⊎ IsOwn number seen before author
 old-or-new number start seen before author few (inr given) = inl (omega (arith, few, given))
 old-or-new number start seen before author few (inl own) =
-    elim (less-or (length before) (length seen)) [ inl old ↦ inl old | inr new ↦ inr (own, new) ]
+    elim (cases_lt (length before) (length seen)) [ inl old ↦ inl old | inr new ↦ inr (own, new) ]
 
 -- Going on
 
@@ -85,7 +77,7 @@ pub own-on : (number : ℕ) (start seen next : Account) → IsWithin start seen 
     → ((shard : ℕ) → AtEachEntry (λ before (entry : ShardEntry). IsOwn number (shard_log seen shard) before entry.author
     → VisitsItsOwn number start next entry.deed) (shard_log next shard)) → VisitsOwnPrograms number start next
 own-on number start seen next starts on old new shard before entry after at own =
-    elim (less-or (length before) (length (shard_log seen shard))) [
+    elim (cases_lt (length before) (length (shard_log seen shard))) [
       | inl earlier ↦
           let place = earlier-place (shard_log seen shard) (shard_log next shard) (on.shards shard) before entry after at earlier in
           own-stays number start seen next starts on entry.deed (old shard before entry place.0 place.1 own)
@@ -99,7 +91,7 @@ asked-before number start seen next on shard before visit asked less =
     let place = earlier-place (shard_log seen shard) (shard_log next shard) (on.shards shard) before (visit_entry visit) asked.after asked.at less in
     record { after = place.0; at = place.1; answers = asked.answers; marked = asked.marked }
 
-module _ (laws : LowerLaws) (gates shards number : ℕ) (start seen next : Account) (hand : IsSeenByHand shards number start seen) (on : IsWithin seen next)
+module _ (laws : LawsForSeenLogs) (gates shards number : ℕ) (start seen next : Account) (hand : IsSeenByHand shards number start seen) (on : IsWithin seen next)
     (legal : (shard : ℕ) → IsShardLog gates (shard_log next shard)) (adds : AddsAsSeen shards number start seen next) where
   gate-entry : (home : ℕ) (before : List GateEntry) (entry : GateEntry) (after : List GateEntry) → gate_log next home ≡ before ++ entry ∷ after
       → AnswersFor number (gate_log start home) before entry.author → GateRefersAs next shards before entry.author entry.deed
@@ -148,9 +140,9 @@ module _ (laws : LowerLaws) (gates shards number : ℕ) (start seen next : Accou
       → HasAsked number start next other rest b → a.stamp ≡ b.stamp → seen_last before a ≡ seen_last rest b
       → (shard ≡ other) × (length before ≡ length rest)
   once shard other before rest a b asked_a asked_b stamps lasts =
-      elim (less-or (length before) (length (shard_log seen shard))) [
+      elim (cases_lt (length before) (length (shard_log seen shard))) [
         | inr new ↦ adds.asks_once shard other before rest a b asked_a asked_b new stamps lasts
-        | inl old ↦ elim (less-or (length rest) (length (shard_log seen other))) [
+        | inl old ↦ elim (cases_lt (length rest) (length (shard_log seen other))) [
           | inr new ↦ (let same = adds.asks_once other shard rest before b a asked_b asked_a new (sym stamps) (sym lasts) in (sym same.0, sym same.1))
           | inl also ↦ hand.asks_once shard other before rest a b
               (asked-before number start seen next on shard before a asked_a old)

@@ -1,4 +1,5 @@
 -- Logs as pairs and as records, and accounts of what was seen of the logs of locks.
+-- Used by `accounts_have_logs_of_locks` and `entries_come_back`.
 use Rattle.std.proofs.Common.{◌≡◌, ℕ, zero, suc, List, [], ◌∷◌, map, get_or, refl, sym, ap, ◌∙◌}
 use Rattle.std.proofs.lemmas.List.{map-append}
 use Rattle.weave_account.specs.GoesOn.{IsBeginningOf}

@@ -1,10 +1,11 @@
 -- Elements of lists of lists by their places: which of two comes first.
+-- Used by Asking, ExampleRun, MakesAccount, Onward, Reading and crates sessions_account and workers_account.
 use Rattle.std.proofs.Common.{◌≡◌, ℕ, zero, suc, ◌<◌, List, [], ◌∷◌, ◌++◌, length, get_or, Contains, AllPairs, inl, inr, sym, ap, subst, ◌∙◌, arith}
 use Rattle.std.specs.List.{flat_map}
 use Rattle.std.proofs.lemmas.List.Elements.{Contains-append_cases, Contains-append_left, Contains-append_right}
-use Rattle.proof_base.proofs.Members.{flat_has, has_head, has_none, has_tail}
-use Rattle.proof_base.proofs.Ordered.{pairs_across, pairs_cons, pairs_front, pairs_head, pairs_none, pairs_tail}
-use Rattle.seen_logs.proofs.Listed.{place-of}
+use Rattle.weave_data.proofs.Members.{flat_has, has_head, has_none, has_tail}
+use Rattle.weave_data.proofs.Ordered.{pairs_across, pairs_cons, pairs_front, pairs_head, pairs_none, pairs_tail}
+use Rattle.weave_account.proofs.Replying.{place-of}
 
 -- of two places of one list the first is in front of the second
 pub earlier : {A : Type 0} (before rest after later : List A) (e d : A) → before ++ e ∷ after ≡ rest ++ d ∷ later

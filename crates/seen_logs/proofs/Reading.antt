@@ -1,4 +1,5 @@
 -- At the end a program has read what the hand has seen that began it, or what was there at the start.
+-- Used by `programs_read_what_was_seen`.
 use Rattle.std.proofs.Common.{◌≡◌, ◌≢◌, ℕ, ◌<◌, ◌≤◌, ◌==◌, Bool, true, false, List, [], ◌∷◌, ◌++◌, length, map, Contains, IsTrue, AllPairs, inl, inr, refl, sym, ap, subst, ◌∙◌, append_assoc, arith}
 use Rattle.std.specs.List.{filter, flat_map}
 use Rattle.std.proofs.lemmas.Bool.{cases_order, ne_eqb}
@@ -6,11 +7,11 @@ use Rattle.std.proofs.lemmas.List.{append-nil, length-append}
 use Rattle.std.proofs.lemmas.List.Concat.{flat_map-append}
 use Rattle.std.proofs.lemmas.List.Elements.{Contains-append_right, filter-append}
 use Rattle.std.proofs.Math.Seq.{drop-append_seam}
-use Rattle.proof_base.proofs.Lists.{filter-none}
-use Rattle.proof_base.proofs.Members.{cut_at, filter_has, flat_has, has_cut, has_flat, has_head, has_none, has_tail, only}
-use Rattle.proof_base.proofs.Numbers.{has-in, in-has}
-use Rattle.proof_base.proofs.Ordered.{pairs_across}
-use Rattle.proof_base.proofs.Places.{all-from}
+use Rattle.weave_data.proofs.Lists.{filter-none}
+use Rattle.weave_data.proofs.Members.{cut_at, filter_has, flat_has, has_cut, has_flat, has_none, only, drop_has}
+use Rattle.weave_data.proofs.Numbers.{has-in, in-has}
+use Rattle.weave_data.proofs.Ordered.{pairs_across}
+use Rattle.weave_data.proofs.ListPlaces.{all-from}
 use Rattle.weave_entries.specs.declared.gate_log.GateEntry.{GateEntry}
 use Rattle.weave_entries.specs.declared.gate_log.GateDeed.{GateDeed}
 use Rattle.weave_entries.specs.declared.gate_log.GateDeed.TheVariants.{BeganTx, BeganProgram, Sent, Nop, Heard, Raised, Finished}
@@ -22,27 +23,23 @@ use Rattle.weave_entries.specs.ShardRules.{IsShardLog}
 use Rattle.weave_account.specs.declared.account.Account.{Account}
 use Rattle.weave_account.specs.Account.{all_begun, gate_log, is_ended, reads_of, shard_log}
 use Rattle.weave_account.specs.Gatekeepers.{BeginEachOnce}
-use Rattle.seen_logs.specs.LowerLaws.{LowerLaws}
-use Rattle.seen_logs.specs.Closed.{AreOfHands}
+use Rattle.seen_logs.specs.LowerLaws.{LawsForSeenLogs}
 use Rattle.seen_logs.specs.Seen.{GatesGoOn, ShardsGoOn, since, visit_entry}
 use Rattle.seen_logs.proofs.Asking.{program-begun}
 use Rattle.seen_logs.proofs.Closing.{IsEnd, begun-since, since-begun, since-start}
-use Rattle.seen_logs.proofs.Listed.{drop-has, flat-alike, flat-on, has-on, list-there, longer, place-of}
+use Rattle.seen_logs.proofs.Listed.{flat-on, has-on, longer}
 use Rattle.seen_logs.proofs.MakesAccount.{one-begin, tx-begun, visit-is}
 use Rattle.seen_logs.proofs.Onward.{earlier-place, since-on}
 use Rattle.seen_logs.proofs.Placed.{list-within, lists-across}
-use Rattle.seen_logs.proofs.Updates.{read-in, read-stays, shard-before, within}
+use Rattle.seen_logs.proofs.Updates.{read-stays, shard-before, within}
 use Rattle.seen_logs.proofs.Within.{all-later}
+use Rattle.weave_account.proofs.VisitsStay.{flat-alike, read-in, map-alike}
+use Rattle.weave_account.proofs.Beginning.{list-there}
+use Rattle.weave_account.proofs.Replying.{place-of}
 
 -- Lists
 
--- two images of a list, alike at each member
-map-alike : {A B : Type 0} (f g : A → B) (xs : List A) → ((x : A) → Contains xs x → f x ≡ g x) → map f xs ≡ map g xs
-map-alike f g [] same = refl
-map-alike f g (x ∷ xs) same =
-    ap (λ y. y ∷ map f xs) (same x (has_head x xs)) ∙ ap (λ ys. g x ∷ ys) (map-alike f g xs (λ y h. same y (has_tail x xs y h)))
-
--- two tests are one value if the first holds exactly if the second does
+-- two tests are equal if the first holds exactly if the second does
 same-test : (a b : Bool) → (IsTrue a → IsTrue b) → (IsTrue b → IsTrue a) → a ≡ b
 same-test true true f g = refl
 same-test true false f g = sym (f refl)
@@ -56,7 +53,7 @@ abbrev NoneLater : Account → Account → ℕ → Type 0
 NoneLater old closed r = (shard : ℕ) (before : List ShardEntry) (visit : Visit) (after : List ShardEntry)
     → shard_log closed shard ≡ before ++ visit_entry visit ∷ after → length (shard_log old shard) ≤ length before → visit.request ≢ r
 
-module _ (laws : LowerLaws) (gates : ℕ) (old closed : Account) (on : ShardsGoOn old closed)
+module _ (laws : LawsForSeenLogs) (gates : ℕ) (old closed : Account) (on : ShardsGoOn old closed)
     (legal : (shard : ℕ) → IsShardLog gates (shard_log closed shard)) (r : ℕ) (none : NoneLater old closed r) where
   none-since : (shard : ℕ) → filter (λ (visit : Visit). visit.request == r) (visits_of (on shard).0) ≡ []
   none-since shard =
@@ -101,9 +98,6 @@ module _ (laws : LowerLaws) (gates : ℕ) (old closed : Account) (on : ShardsGoO
 
 module _ {gates shards hands : ℕ} {start : Account} {seen_by : ℕ → Account} {closed : Account} (end : IsEnd gates shards hands start seen_by closed)
     (once : BeginEachOnce closed) where
-  of : AreOfHands shards hands start seen_by closed
-  of = end.of
-
   -- Programs of hands
 
   module _ (number : ℕ) (known : number < hands) (home : ℕ) (begun : Begun) (author_is : begun.author ≡ number)
@@ -113,7 +107,7 @@ module _ {gates shards hands : ℕ} {start : Account} {seen_by : ℕ → Account
 
     none-of-others : NoneLater (seen_by number) closed begun.request
     none-of-others shard before visit after at late same =
-        let starts = longer _ _ ((of.seen number known).starts.shards shard) in
+        let starts = longer _ _ ((end.of.seen number known).starts.shards shard) in
         let is-of = since-start end shard before (visit_entry visit) after at (omega (arith, starts, late)) in
         let other = begun-since end shard before visit after at is-of in
         let one = one-begin closed once _ _ (since-begun end visit.author is-of.known other.0 _ other.1) began same in
@@ -124,7 +118,7 @@ module _ {gates shards hands : ℕ} {start : Account} {seen_by : ℕ → Account
 
     -- at the end it has read what its hand has seen
     pub own-reads : reads_of closed begun.request ≡ reads_of (seen_by number) begun.request
-    own-reads = all-same end.laws gates (seen_by number) closed (of.within number known).shards end.legal.shard_logs begun.request none-of-others
+    own-reads = all-same end.laws gates (seen_by number) closed (end.of.within number known).shards end.legal.shard_logs begun.request none-of-others
 
     ends-own : (home : ℕ) (before : List GateEntry) (author : ℕ) (deed : GateDeed) (after : List GateEntry) (r : ℕ)
         → gate_log closed home ≡ before ++ record { author = author; deed = deed } ∷ after
@@ -153,11 +147,11 @@ module _ {gates shards hands : ℕ} {start : Account} {seen_by : ℕ → Account
         let cut = cut_at log entry.0 entry.1 in
         let by = ends-own home cut.before (entry.0).author (entry.0).deed cut.after begun.request cut.is
         (end.laws.ends home shards log (end.legal.gate_logs home) cut.before entry.0 cut.after cut.is) entry.2 refl in
-        let less : length cut.before < length (gate_log (seen_by number) home) = (elim (of.gate_entries home cut.before entry.0 cut.after cut.is) [
-          | inl given ↦ (let starts = longer _ _ ((of.seen number known).starts.gates home) in omega (arith, starts, given))
+        let less : length cut.before < length (gate_log (seen_by number) home) = (elim (end.of.gate_entries home cut.before entry.0 cut.after cut.is) [
+          | inl given ↦ (let starts = longer _ _ ((end.of.seen number known).starts.gates home) in omega (arith, starts, given))
           | inr own ↦ subst (λ n. length cut.before < length (gate_log (seen_by n) home)) by own.1
         ]) in
-        let place = earlier-place (gate_log (seen_by number) home) log ((of.within number known).gates home) cut.before entry.0 cut.after cut.is less in
+        let place = earlier-place (gate_log (seen_by number) home) log ((end.of.within number known).gates home) cut.before entry.0 cut.after cut.is less in
         has_flat (λ (e : GateEntry). ended_by e.deed) (gate_log (seen_by number) home) entry.0 begun.request
         (subst (λ l. Contains l entry.0) (sym place.1) (has_cut cut.before entry.0 place.0)) entry.2
 
@@ -179,19 +173,19 @@ module _ {gates shards hands : ℕ} {start : Account} {seen_by : ℕ → Account
         (end-there closed (seen_by number) seen-end)
         (end-there (seen_by number) closed (λ home h. has-on (ended_in (gate_log (seen_by number) home)) (ended_in (gate_log closed home))
         (flat-on (λ (e : GateEntry). ended_by e.deed) (gate_log (seen_by number) home) (gate_log closed home)
-        ((of.within number known).gates home)) begun.request h))
+        ((end.of.within number known).gates home)) begun.request h))
 
   -- Programs of the start
 
   start-within : GatesGoOn start closed
   start-within home =
-      let some = of.some in
-      (all-later start (seen_by 0) closed (of.seen 0 (omega (arith, some))).starts (of.within 0 (omega (arith, some)))).gates home
+      let some = end.of.some in
+      (all-later start (seen_by 0) closed (end.of.seen 0 (omega (arith, some))).starts (end.of.within 0 (omega (arith, some)))).gates home
 
   start-shards : ShardsGoOn start closed
   start-shards shard =
-      let some = of.some in
-      (all-later start (seen_by 0) closed (of.seen 0 (omega (arith, some))).starts (of.within 0 (omega (arith, some)))).shards shard
+      let some = end.of.some in
+      (all-later start (seen_by 0) closed (end.of.seen 0 (omega (arith, some))).starts (end.of.within 0 (omega (arith, some)))).shards shard
 
   -- what was begun at the start was not begun again since
   not-twice : (h home : ℕ) (x y : Begun) → Contains (begun_in (gate_log start h)) x → Contains (begun_in (since (gate_log start home) (gate_log closed home))) y
@@ -223,15 +217,15 @@ module _ {gates shards hands : ℕ} {start : Account} {seen_by : ℕ → Account
       in-since k b g =
           let entry = flat_has (λ (e : GateEntry). begun_by e.author e.deed) (since (gate_log start k) (gate_log closed k)) b g in
           has_flat (λ (e : GateEntry). begun_by e.author e.deed) (gate_log closed k) entry.0 b
-          (drop-has (length (gate_log start k)) (gate_log closed k) entry.0 entry.1) entry.2
+          (drop_has (length (gate_log start k)) (gate_log closed k) entry.0 entry.1) entry.2
 
   module _ (home : ℕ) (begun : Begun) (there : Contains (begun_in (gate_log start home)) begun) where
     none-since-start : NoneLater start closed begun.request
     none-since-start shard before visit after at late same =
         let is-of = since-start end shard before (visit_entry visit) after at late in
         let other = begun-since end shard before visit after at is-of in
-        let on = (of.within visit.author is-of.known).gates other.0 in
-        let starts = longer _ _ ((of.seen visit.author is-of.known).starts.gates other.0) in
+        let on = (end.of.within visit.author is-of.known).gates other.0 in
+        let starts = longer _ _ ((end.of.seen visit.author is-of.known).starts.gates other.0) in
         let more = since-on (gate_log start other.0) (gate_log (seen_by visit.author) other.0) (gate_log closed other.0) starts on in
         let entry = flat_has (λ (e : GateEntry). program_by e.author e.deed)
         (since (gate_log start other.0) (gate_log (seen_by visit.author) other.0)) _ other.1 in

@@ -1,23 +1,25 @@
 -- What was applied to a vertex goes on with a shard's log, so what a visit saw and read stays. It rests on the rules of
 -- a shard's log.
+-- Used by Going, MakesAccount, OfAccount, Reading and crate weaver_hands.
 use Rattle.std.proofs.Common.{◌≡◌, ℕ, ◌≤◌, ◌==◌, List, [], ◌∷◌, ◌++◌, length, map, take, Contains, Some, refl, sym, ap, subst, ◌∙◌, arith}
 use Rattle.std.specs.List.{filter}
 use Rattle.std.proofs.lemmas.List.{append-nil, append_assoc, length-map, map-append, take-append-le}
-use Rattle.proof_base.proofs.Ends.{by_last}
-use Rattle.proof_base.proofs.Entries.{each_before, each_last}
-use Rattle.proof_base.proofs.Members.{cut_at, filter_has, flat_has, has_filter, has_map, has_none, map_has, only}
+use Rattle.weave_data.proofs.Ends.{by_last}
+use Rattle.weave_data.proofs.Entries.{each_before, each_last}
+use Rattle.weave_data.proofs.Members.{cut_at, filter_has, flat_has, has_filter, has_map, has_none, map_has, only}
 use Rattle.weave_data.specs.declared.name.Name.{Name}
 use Rattle.graph_ops.specs.Operations.{State}
 use Rattle.vector_stamp.specs.Seeing.{last_seen}
 use Rattle.weave_entries.specs.declared.shard_log.ShardEntry.{ShardEntry}
 use Rattle.weave_entries.specs.declared.shard_log.ShardDeed.{ShardDeed}
 use Rattle.weave_entries.specs.declared.shard_log.ShardDeed.TheVariants.{Arrived, Applied, Visited, Collected}
-use Rattle.weave_entries.specs.ShardReplay.{Update, Visit, arrived_at, reads_in, state_of_updates, updates_in, updates_of, visit_by, visits_of}
+use Rattle.weave_entries.specs.ShardReplay.{Update, Visit, arrived_at, reads_in, updates_in, updates_of, visit_by, visits_of}
 use Rattle.weave_entries.specs.ShardRules.{FitsShard, IsShardLog}
 use Rattle.weave_account.specs.GoesOn.{IsBeginningOf}
 use Rattle.weave_account.specs.Oracle.{seen_last}
-use Rattle.seen_logs.specs.LowerLaws.{LowerLaws}
-use Rattle.seen_logs.proofs.Listed.{flat-on, has-on, longer, seen-front}
+use Rattle.seen_logs.specs.LowerLaws.{LawsForSeenLogs}
+use Rattle.seen_logs.proofs.Listed.{flat-on, has-on, longer}
+use Rattle.weave_account.proofs.VisitsStay.{seen-front, with-state, read-in}
 
 -- what holds at each entry of a shard's log
 abbrev Rule : ℕ → List ShardEntry → ShardEntry → Type 0
@@ -27,15 +29,7 @@ Rule gates before entry = FitsShard gates before entry.deed
 pub shard-before : (gates : ℕ) (log rest : List ShardEntry) → IsShardLog gates (log ++ rest) → IsShardLog gates log
 shard-before gates log rest legal = each_before (Rule gates) log rest legal
 
--- a vertex with its state after updates
-abbrev with-state : Name → List Update → Name × State
-with-state v us = (v, state_of_updates us)
-
--- what a visit reads at the end of a log
-abbrev pub read-in : List ShardEntry → Visit → Name × State
-read-in log visit = (visit.vertex, state_of_updates (take visit.updates (updates_of visit.vertex log)))
-
-module _ (laws : LowerLaws) (gates : ℕ) where
+module _ (laws : LawsForSeenLogs) (gates : ℕ) where
   -- the updates of a vertex go on with one more entry
   deed-on : (v : Name) (log : List ShardEntry) (author : ℕ) (deed : ShardDeed) → IsShardLog gates log → FitsShard gates log deed
       → IsBeginningOf (updates_of v log) (updates_of v (log ++ record { author = author; deed = deed } ∷ []))

@@ -1,7 +1,8 @@
 -- When more was seen, and what beginnings of logs keep.
+-- Used by `beginnings_are_legal`, 7 more and crates sessions_account, weaver_workers and workers_account.
 use Rattle.std.proofs.Common.{ℕ, List, [], ◌++◌, sym, ap, subst, ◌∙◌, append_assoc}
 use Rattle.std.proofs.lemmas.List.{append-nil}
-use Rattle.proof_base.proofs.Entries.{each_before}
+use Rattle.weave_data.proofs.Entries.{each_before}
 use Rattle.weave_entries.specs.declared.gate_log.GateEntry.{GateEntry}
 use Rattle.weave_entries.specs.GateRules.{HearsAs, HearsNoMore}
 use Rattle.weave_account.specs.declared.account.Account.{Account}

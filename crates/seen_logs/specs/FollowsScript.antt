@@ -1,4 +1,4 @@
--- What logs have to keep of a script beside their rules and their references.
+-- What logs have to keep of a script besides their rules and their references.
 use Rattle.std.specs.Prelude.{◌≡◌, ℕ, length, AllPairs, Contains, IsSomeAnd, IsTrue, Some}
 use Rattle.program_defs.specs.declared.program.Program.{Program}
 use Rattle.program_defs.specs.declared.script.Request.{Request}

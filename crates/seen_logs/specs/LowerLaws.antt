@@ -1,4 +1,4 @@
--- The laws of the crates below that the laws of this crate stand on, in one. No public contract cites this.
+-- The laws of the crates below that the laws of this crate rely on, in one record. No public contract cites this.
 use Rattle.std.specs.Prelude.{◌≡◌, ◌≢◌, ℕ, ◌<◌, ◌≤◌, List, [], ◌∷◌, ◌++◌, map, take, length, AllPairs, Contains, Some}
 use Rattle.weave_data.specs.declared.name.Name.{Name}
 use Rattle.weave_data.specs.Names.{shard_of}
@@ -30,7 +30,7 @@ use Rattle.weave_account.specs.Seen.{HasSeen, IsMade}
 use Rattle.weave_account.specs.Shards.{update_of}
 
 -- what is known stays known, updates go on with the logs, and accounts, clocks and begins keep their laws
-pub record LowerLaws : Type 0 where
+pub record LawsForSeenLogs : Type 0 where
   -- What is known stays known
   pub precedence_stays : (script : Script) (account next : Account) → GoesOn account next → (a b : Stamp)
       → Precedence account a b → Precedence next a b

@@ -37,8 +37,8 @@ use Rattle.weave_account.specs.Store.{IsRightVerdict}
 
 -- Gatekeepers
 
--- A program is finished after visits of its own: they were seen, and some program reads no more over the states that they
--- read. Which program, and that these are all its visits, is not said here.
+-- A program is finished after visits of its own: they were seen, and some program reads no more over the states that
+-- they read. Which program, and that these are all its visits, is not said here.
 pub record EndsAsSeen (seen : Account) (r : ℕ) : Type 0 where
   pub program : Program
   pub reads : List (Name × State)

@@ -1,5 +1,5 @@
 //! The laws of the crates below, in one.
-ghost use Rattle.seen_logs.specs.LowerLaws.{LowerLaws};
+ghost use Rattle.seen_logs.specs.LowerLaws.{LawsForSeenLogs};
 
 use vector_stamp::laws::counts_one_by_one;
 use weave_account::laws::{
@@ -8,9 +8,9 @@ use weave_account::laws::{
 };
 use weave_entries::laws::{requests_end, stamps_are_its_own, the_replay_goes_on, updates_go_on};
 
-/// The laws of the crates below that the laws of this crate stand on.
+/// The laws of the crates below that the laws of this crate rely on.
 pub(crate) fn the_crates_below_keep_their_laws()
-    ensures { LowerLaws }
+    ensures { LawsForSeenLogs }
 {
     accounts_were_seen();
     begun_stamps_are_coherent();

@@ -3,7 +3,7 @@ ghost use Rattle.std.specs.Prelude.{◌≡◌, ℕ, List, [], ◌∷◌, ◌++�
 ghost use Rattle.weave_entries.specs.declared.session_log.SessionEntry.{SessionEntry};
 ghost use Rattle.weave_entries.specs.SessionReplay.{session_start, session_of, session_after, FitsSession, IsSessionLog};
 
-/// A log with one more entry leaves the session as that entry does, and keeps the rules where the entry is right.
+/// A log with one more entry leaves the session as that entry does, and keeps the rules if the entry is right.
 pub fn a_log_goes_on()
     ensures at_first { (requests : List ℕ) → session_of requests [] ≡ session_start requests }
     ensures replay { (requests : List ℕ) (log : List SessionEntry) (entry : SessionEntry)

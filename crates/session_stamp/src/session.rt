@@ -9,7 +9,8 @@ use vector_stamp::Stamp;
 #[derive(Clone, Copy, PartialEq, Eq, Debug)]
 pub struct Early;
 
-/// The requests of a session. Contracts see them with how many were begun, whether the last one waits for its reply, and that one's stamp.
+/// The requests of a session. Contracts see them with how many were begun, whether the last one waits for its reply,
+/// and that one's stamp.
 #[derive(Drop)]
 pub struct Session {
     requests: Vec<u32>,

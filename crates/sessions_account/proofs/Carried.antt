@@ -1,9 +1,10 @@
 -- What a call for no session gains, and what no call does.
+-- Used by Leading.
 use Rattle.std.proofs.Common.{◌≡◌, ◌≢◌, inl, ℕ, ◌==◌, Bool, List, [], ◌∷◌, ◌++◌, length, AllPairs, Contains, refl, sym, ap, ◌∙◌, subst, arith}
 use Rattle.std.specs.List.{filter}
 use Rattle.std.proofs.lemmas.List.{append-nil, length-append}
-use Rattle.proof_base.proofs.Members.{has_flat, has_head, has_none}
-use Rattle.proof_base.proofs.Ordered.{pairs_none}
+use Rattle.weave_data.proofs.Members.{has_flat, has_head, has_none}
+use Rattle.weave_data.proofs.Ordered.{pairs_none}
 use Rattle.seen_logs.proofs.Within.{itself}
 use Rattle.weave_data.specs.declared.name.Name.{Name}
 use Rattle.graph_ops.specs.Operations.{State}

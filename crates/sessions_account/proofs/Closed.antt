@@ -1,4 +1,5 @@
 -- The closed logs of hands that served their sessions are an account of the script.
+-- Used by `closed_logs_of_sessions_are_an_account`.
 use Rattle.std.proofs.Common.{◌≡◌, ℕ, Contains, sym, subst}
 use Rattle.std.specs.Option.{ForSome}
 use Rattle.program_defs.specs.declared.script.Request.{Request}

@@ -1,9 +1,10 @@
 -- What ended at the closed gatekeepers has its reply, if it is a program, and the other way round: so the sessions' logs are
 -- those of the closed gatekeepers.
+-- Used by `closed_logs_of_sessions_are_an_account`, Closed, Follows and Programs.
 use Rattle.std.proofs.Common.{◌≡◌, ℕ, List, [], Contains, IsTrue, Some, inl, inr, refl, sym, ap, subst, ◌∙◌}
 use Rattle.std.proofs.lemmas.List.Elements.{Contains-append_cases}
 use Rattle.std.proofs.lemmas.Option.{same_Some}
-use Rattle.proof_base.proofs.Members.{cut_at, flat_has, has_cut, has_flat, has_head}
+use Rattle.weave_data.proofs.Members.{cut_at, flat_has, has_cut, has_flat, has_head}
 use Rattle.program_defs.specs.declared.script.Request.{Request}
 use Rattle.program_defs.specs.Works.{is_look}
 use Rattle.report_rules.specs.Lookups.{request_at}

@@ -1,4 +1,5 @@
 -- A hand that served its sessions began and judged what the script asks of them, once and in turn.
+-- Used by Closed and Visits.
 use Rattle.std.proofs.Common.{◌≡◌, ◌≢◌, ℕ, ◌<◌, ◌≤◌, ◌==◌, Bool, List, [], ◌++◌, length, Contains, AllPairs, IsTrue, Option, inl, inr, refl, sym, ap, subst, ◌∙◌, arith}
 use Rattle.std.specs.Prelude.{◌&&◌, IsSomeAnd}
 use Rattle.std.specs.Option.{ForSome}
@@ -37,12 +38,12 @@ use Rattle.workers_account.specs.Begins.{BeginsInTurn, IsBegunInTurn}
 use Rattle.workers_account.specs.Phase.{IsClosedBy}
 use Rattle.workers_account.specs.PhaseLaws.{PhaseLaws}
 use Rattle.workers_account.proofs.Begun.{all-has}
-use Rattle.workers_account.proofs.Follows.{last-free}
 use Rattle.workers_account.proofs.SessionLogs.{begins-later, begins-rise, later-differs}
 use Rattle.sessions_account.proofs.Gains.{BeginsForSome, IsRequestOf}
 use Rattle.sessions_account.proofs.Runs.{Run, given-now, history, own-begun-is, own-judgements-are, part, seen-start}
 use Rattle.sessions_account.proofs.SessionLogs.{begun-for, gained-log, log-left, logs-right, of-logged, start-logged}
 use Rattle.sessions_account.proofs.Ends.{sessions-kept}
+use Rattle.weave_account.proofs.InSession.{last-any}
 
 -- Begins
 
@@ -58,7 +59,7 @@ module _ (laws : PhaseLaws) (script : Script) (closed : Account) (kept : Session
       let next = ap (λ (s : ℕ). next_request (session_of (requests_of_session script s) begun.then)) begun.session_is ∙ begun.next in
       let last : last_stamp script closed r ≡ begun.last =
       laws.last_is script closed kept r asked begun.request_is begun.then on next
-      ∙ sym (last-free (requests_of_session script t) begun.then) ∙ sym begun.last_is in
+      ∙ sym (last-any (requests_of_session script t) [] begun.then) ∙ sym begun.last_is in
       record {
         own = subst (λ (o : Option Request). IsTrue (is_some_and (λ (request : Request). (request.gate == home) && is_kind request.work) o)) (sym begun.request_is)
             (and_from (asked.gate == home) (is_kind asked.work) (eq-eqb asked.gate home begun.gate_is) begun.kind);

@@ -1,4 +1,5 @@
 -- What a hand and its sessions have gained in some calls.
+-- Used by Carried, Ends, Follows, Joined, Leading, Others, Runs, Served and SessionLogs.
 use Rattle.std.proofs.Common.{◌≡◌, ◌≢◌, ◌⊎◌, ℕ, List, [], ◌++◌, AllPairs, Contains, Some}
 use Rattle.vector_stamp.specs.declared.clock.Stamp.{Stamp}
 use Rattle.program_defs.specs.declared.script.Request.{Request}

@@ -1,11 +1,10 @@
 -- What was gained in some calls and then in others was gained in all.
-use Rattle.std.proofs.Common.{◌≡◌, ◌≢◌, ◌⊎◌, inl, inr, ℕ, ◌<◌, ◌==◌, Bool, List, ◌++◌, length, AllPairs, Contains, IsTrue, Option, None, Some, sym, ap, ◌∙◌, subst, append_assoc, arith}
-use Rattle.std.specs.Prelude.{IsSomeAnd}
-use Rattle.std.specs.List.{flat_map}
+-- Used by Leading, Served and Visits.
+use Rattle.std.proofs.Common.{◌≡◌, ◌≢◌, ◌⊎◌, inl, inr, ℕ, ◌<◌, ◌==◌, Bool, List, ◌++◌, length, AllPairs, Contains, IsTrue, Option, Some, sym, ap, ◌∙◌, subst, append_assoc, arith}
 use Rattle.std.proofs.lemmas.Bool.{cases_eq, eqb-true}
 use Rattle.std.proofs.lemmas.List.{map-append}
 use Rattle.std.proofs.lemmas.List.Concat.{flat_map-append}
-use Rattle.std.proofs.lemmas.List.Elements.{Contains-append_cases, Contains-append_left, Contains-append_right}
+use Rattle.std.proofs.lemmas.List.Elements.{Contains-append_cases}
 use Rattle.std.proofs.lemmas.Option.{same_Some}
 use Rattle.seen_logs.proofs.Within.{all-later}
 use Rattle.hands_account.proofs.Places.{earlier-place, less-or, pairs-append}
@@ -16,9 +15,9 @@ use Rattle.report_rules.specs.Lookups.{are_both, request_at}
 use Rattle.weave_entries.specs.declared.gate_log.GateEntry.{GateEntry}
 use Rattle.weave_entries.specs.declared.session_log.SessionEntry.{SessionEntry}
 use Rattle.weave_entries.specs.declared.store_log.StoreEntry.{StoreEntry}
-use Rattle.weave_entries.specs.GateReplay.{Begun, begun_by, begun_in, ended_by}
+use Rattle.weave_entries.specs.GateReplay.{begun_in}
 use Rattle.weave_entries.specs.SessionReplay.{IsSessionLog, begins_in, replied_in}
-use Rattle.weave_entries.specs.StoreReplay.{Judgement, judged_by, judgements_of}
+use Rattle.weave_entries.specs.StoreReplay.{Judgement, judgements_of}
 use Rattle.weave_account.specs.Account.{gate_log}
 use Rattle.weave_account.specs.Sessions.{requests_of_session}
 use Rattle.weave_account.specs.Store.{InTurn}
@@ -33,37 +32,8 @@ use Rattle.workers_account.proofs.Ended.{replied-later, replied-on}
 use Rattle.workers_account.proofs.SessionLogs.{begins-later, begins-on, begins-rise, begun-here, later-differs}
 use Rattle.sessions_account.specs.Histories.{Stands, HasSession}
 use Rattle.sessions_account.proofs.Gains.{AreLogged, BeginsForSome, HasGained, IsRequestOf, OfSome}
-
--- what is made of the elements of two lists is made of those of the first, or of those of the second
-pub either-made : {A B : Type 0} (f : A → List B) (xs ys : List A) (y : B) → Contains (flat_map f (xs ++ ys)) y
-    → Contains (flat_map f xs) y ⊎ Contains (flat_map f ys) y
-either-made {A} {B} f xs ys y h =
-    Contains-append_cases (flat_map f xs) (flat_map f ys) y (subst (λ (l : List B). Contains l y) (flat_map-append f xs ys) h)
-
-first-made : {A B : Type 0} (f : A → List B) (xs ys : List A) (y : B) → Contains (flat_map f xs) y → Contains (flat_map f (xs ++ ys)) y
-first-made {A} {B} f xs ys y h =
-    subst (λ (l : List B). Contains l y) (sym (flat_map-append f xs ys)) (Contains-append_left (flat_map f xs) (flat_map f ys) y h)
-
-second-made : {A B : Type 0} (f : A → List B) (xs ys : List A) (y : B) → Contains (flat_map f ys) y → Contains (flat_map f (xs ++ ys)) y
-second-made {A} {B} f xs ys y h =
-    subst (λ (l : List B). Contains l y) (sym (flat_map-append f xs ys)) (Contains-append_right (flat_map f xs) (flat_map f ys) y h)
-
--- what follows for a value follows where it is there
-where-there : {A : Type 0} {P Q : A → Type 0} → (o : Option A) → ((x : A) → P x → Q x) → IsSomeAnd o P → IsSomeAnd o Q
-where-there None leads p = p
-where-there (Some x) leads p = leads x p
-
-abbrev begun_of : GateEntry → List Begun
-begun_of entry = begun_by entry.author entry.deed
-
-abbrev ended_of : GateEntry → List ℕ
-ended_of entry = ended_by entry.deed
-
-abbrev judgement_of : StoreEntry → Judgement
-judgement_of entry = judged_by entry.author entry.deed
-
-abbrev Differ : Begun → Begun → Type 0
-Differ a b = a.request ≢ b.request
+use Rattle.workers_account.proofs.JoinGains.{begun_of, either-made, ended_of, first-made, judgement_of, second-made, where-there}
+use Rattle.hands_account.proofs.Once.{Differ}
 
 -- two requests of one session
 pub same-sessions : (script : Script) (s t a b : ℕ) → IsRequestOf script s a → IsRequestOf script t b → a ≡ b → s ≡ t

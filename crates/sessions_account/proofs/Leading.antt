@@ -1,4 +1,5 @@
 -- What a hand and its sessions gain in one call after another.
+-- Used by `hands_go_on_with_each_session`, Programs and Runs.
 use Rattle.std.proofs.Common.{ℕ, List, [], ◌∷◌, ◌⊎◌, inl, inr, subst}
 use Rattle.program_defs.specs.declared.script.Script.{Script}
 use Rattle.program_defs.specs.Limits.{IsWithinLimits}

@@ -1,10 +1,11 @@
 -- A hand goes on with a session for which a call did nothing.
+-- Used by Carried and Served.
 use Rattle.std.proofs.Common.{◌≡◌, inl, inr, ℕ, List, [], ◌++◌, Contains, Some, sym, ◌∙◌, subst}
 use Rattle.std.specs.Prelude.{slice_get}
 use Rattle.std.proofs.lemmas.List.Elements.{Contains-append_cases, Contains-append_left}
 use Rattle.std.proofs.lemmas.List.Concat.{flat_map-append}
-use Rattle.proof_base.proofs.Images.{get-has}
-use Rattle.proof_base.proofs.Members.{has_flat, has_head}
+use Rattle.weave_data.proofs.Images.{get-has}
+use Rattle.weave_data.proofs.Members.{has_flat, has_head}
 use Rattle.vector_stamp.specs.declared.clock.Stamp.{Stamp}
 use Rattle.program_defs.specs.declared.script.Script.{Script}
 use Rattle.weave_entries.specs.declared.gate_log.GateEntry.{GateEntry}
@@ -22,7 +23,7 @@ use Rattle.weaver_workers.specs.Keeping.{HasLanded, IsFresh, IsRunningFor, Keeps
 use Rattle.workers_account.proofs.SessionLogs.{in-session}
 use Rattle.sessions_account.specs.SessionsLaws.{SessionsLaws}
 use Rattle.sessions_account.proofs.Gains.{IsRequestOf}
-use Rattle.sessions_account.proofs.Joined.{either-made}
+use Rattle.workers_account.proofs.JoinGains.{either-made}
 
 -- a request that a client has at some place is the session's
 pub of-place : (shared : Shared) (script : Script) (t : ℕ) (hand : Hand) (client : Client) → KeepsClient shared script t hand client

@@ -1,9 +1,10 @@
 -- A run by hands that served their sessions, and what each hand gained in it; the closed logs have nothing else.
+-- Used by `hands_visit_for_their_sessions`, Closed, Ends, Follows, Programs, SessionLogs and Visits.
 use Rattle.std.proofs.Common.{◌≡◌, ℕ, ◌<◌, ◌==◌, eq-eqb, Bool, List, ◌∷◌, ◌++◌, length, drop, Contains, ◌⊎◌, inl, inr, refl, sym, ap, subst, ◌∙◌, arith}
 use Rattle.std.specs.List.{filter}
 use Rattle.std.proofs.lemmas.List.Elements.{Contains-append_cases, Contains-append_right}
 use Rattle.std.proofs.Math.Seq.{drop-append_seam}
-use Rattle.proof_base.proofs.Members.{cut_at, filter_has, has_filter, has_cut}
+use Rattle.weave_data.proofs.Members.{cut_at, filter_has, has_filter, has_cut}
 use Rattle.program_defs.specs.declared.script.Script.{Script}
 use Rattle.weave_entries.specs.declared.gate_log.GateEntry.{GateEntry}
 use Rattle.weave_entries.specs.declared.store_log.StoreEntry.{StoreEntry}

@@ -1,8 +1,9 @@
 -- What a call for one of the hand's sessions gains.
+-- Used by Leading.
 use Rattle.std.proofs.Common.{◌≡◌, ◌≢◌, inl, inr, ℕ, ◌<◌, List, [], ◌∷◌, ◌++◌, Contains, refl, sym, ap, ◌∙◌, subst, arith}
 use Rattle.std.proofs.lemmas.Bool.{cases_eq}
 use Rattle.std.proofs.lemmas.List.{append-nil}
-use Rattle.proof_base.proofs.Members.{has_none}
+use Rattle.weave_data.proofs.Members.{has_none}
 use Rattle.weave_data.specs.declared.name.Name.{Name}
 use Rattle.graph_ops.specs.Operations.{State}
 use Rattle.vector_stamp.specs.declared.clock.Stamp.{Stamp}

@@ -1,4 +1,5 @@
 -- What began at the closed gatekeepers is what the sessions' logs say began, with the same stamps.
+-- Used by Ends, Follows, Programs and Visits.
 use Rattle.std.proofs.Common.{◌≡◌, ℕ, List, [], ◌++◌, length, map, get_or, Contains, Option, None, Some, ◌⊎◌, inl, inr, refl, sym, ap, subst, ◌∙◌, arith}
 use Rattle.std.specs.Prelude.{slice_get, IsSomeAnd}
 use Rattle.std.specs.List.{range_with_len}
@@ -7,7 +8,7 @@ use Rattle.std.proofs.lemmas.Bool.{cases_lt}
 use Rattle.std.proofs.lemmas.List.{append-nil, length-map}
 use Rattle.std.proofs.lemmas.List.FromFn.{length-range_with_len}
 use Rattle.std.proofs.lemmas.Option.{same_Some, slice_get-map, slice_get_past, unwrap_or-slice_get}
-use Rattle.proof_base.proofs.Members.{flat_has, has_flat}
+use Rattle.weave_data.proofs.Members.{flat_has, has_flat}
 use Rattle.vector_stamp.specs.declared.clock.Stamp.{Stamp}
 use Rattle.program_defs.specs.declared.script.Request.{Request}
 use Rattle.report_rules.specs.Lookups.{request_at}
@@ -25,7 +26,8 @@ use Rattle.weaver_core.specs.Clients.{log_of, requests_in}
 use Rattle.weaver_locks.specs.declared.hand.Hand.{Hand}
 use Rattle.weaver_locks.specs.Hands.{hand_number}
 use Rattle.workers_account.specs.Phase.{IsClosedBy}
-use Rattle.workers_account.proofs.Begun.{all-has, has-all, no-stamp, stamp-began, stamp-is}
+use Rattle.weave_account.proofs.Replying.{has-all}
+use Rattle.workers_account.proofs.Begun.{all-has, no-stamp, stamp-began, stamp-is}
 use Rattle.workers_account.proofs.SessionLogs.{begins-cases, begins-later, begins-on, begun-here, log-at, stamp-from, stamp-there}
 use Rattle.sessions_account.specs.Histories.{HasSession}
 use Rattle.sessions_account.proofs.Gains.{IsRequestOf}

@@ -1,8 +1,9 @@
 -- Who read what: each visit is of a program that had begun at the start, or of one that its hand began since.
+-- Used by Programs.
 use Rattle.std.proofs.Common.{◌≡◌, ℕ, ◌<◌, ◌==◌, List, Contains, ◌⊎◌, inl, inr, sym, ap, subst, ◌∙◌, eq-eqb}
 use Rattle.std.specs.List.{filter}
 use Rattle.std.proofs.lemmas.Bool.{eqb-true}
-use Rattle.proof_base.proofs.Members.{cut_at, filter_has, flat_has, has_filter, has_flat, has_none, only}
+use Rattle.weave_data.proofs.Members.{cut_at, filter_has, flat_has, has_filter, has_flat, has_none, only}
 use Rattle.vector_stamp.specs.declared.clock.Stamp.{Stamp}
 use Rattle.weave_entries.specs.declared.gate_log.GateEntry.{GateEntry}
 use Rattle.weave_entries.specs.declared.shard_log.ShardEntry.{ShardEntry}

@@ -13,7 +13,7 @@ use Rattle.weaver_locks.specs.Hands.{hand_number, seen_by, IsHand}
 use Rattle.weaver_locks.specs.Locks.{hands_of, start_of}
 use Rattle.weaver_hands.specs.Programs.{IsRunning}
 use Rattle.weaver_workers.specs.Carrying.{Carries}
-use Rattle.weaver_workers.specs.ClientWork.{Does, Stand}
+use Rattle.weaver_workers.specs.ClientWork.{DoesOneCall, Stand}
 use Rattle.workers_account.specs.Phase.{IsPhaseStart}
 
 -- a hand at some time, with the client of each of its sessions; the other clients mean nothing
@@ -29,36 +29,37 @@ of_session at session = record { hand = at.hand; client = at.clients session }
 abbrev pub HasSession : (ℕ → ℕ) → ℕ → ℕ → Type 0
 HasSession hand_of number session = (session < 64) × (hand_of session ≡ number)
 
--- A call for a session of the hand. Its next request was begun, when none of the session waited for its reply, at its own
--- gatekeeper, after the session's last stamp, and judged with its own operations and sent if it is a transaction; or its
--- running program, whose walk is the request's, read a vertex or was finished; or nothing of this was done, and at most
--- clocks and messages were carried. The session's client has noted it: it is at the end of its log, and its program runs.
--- The clients of all other sessions are as they were.
-pub record ServesSession (shared : Shared) (script : Script) (upto : ℕ) (hand_of : ℕ → ℕ) (old new : Stands) : Type 0 where
+-- A call for a session of the hand. Its next request was begun, when none of the session waited for its reply, at its
+-- own gatekeeper, after the session's last stamp, and judged with its own operations and sent if it is a transaction;
+-- or its running program, whose walk is the request's, read a vertex or was finished; or nothing of this was done, and
+-- at most clocks and messages were carried. The session's client has noted it: it is at the end of its log, and its
+-- program runs. The clients of all other sessions are as they were.
+pub record ServesSession (shared : Shared) (script : Script) (upto : ℕ) (hand_of : ℕ
+    → ℕ) (old new : Stands) : Type 0 where
   pub session : ℕ
   pub given : HasSession hand_of (hand_number old.hand) session
   pub is_hand : IsHand shared new.hand
-  pub does : Does shared script session upto (of_session old session) (of_session new session)
+  pub does : DoesOneCall shared script session upto (of_session old session) (of_session new session)
   pub runs : ForSome (new.clients session).running (IsRunning shared new.hand)
   pub at_end : IsClientOf session (new.clients session).session (log_of (new.clients session))
   pub others : (other : ℕ) → other ≢ session → new.clients other ≡ old.clients other
 
--- Calls for no session: clocks were told, empty messages sent, messages brought or processed, or nothing was done. A
--- transaction that was begun and then found no memory is neither this nor a call for its session.
+-- Calls for no session: clocks were passed on, empty messages sent, messages brought or processed, or nothing done. A
+-- transaction that was begun and then ran out of memory is neither this nor a call for its session.
 pub record ServesNone (shared : Shared) (old new : Stands) : Type 0 where
   pub carries : Carries shared old.hand new.hand
   pub same : (session : ℕ) → new.clients session ≡ old.clients session
 
--- From the first to the last, by these in between: each comes from the one before by one of the two. With none between
--- them they are the same. Requests are those before `upto`, which may be the number of all.
+-- From the first to the last, by these in between: each comes from the one before by a call for a session, or for none.
+-- With none in between the first is the last. Requests are those before `upto`, which may be the number of all.
 abbrev pub GoesThrough : Shared → Script → ℕ → (ℕ → ℕ) → Stands → List Stands → Stands → Type 0
 GoesThrough shared script upto hand_of old [] new = old ≡ new
 GoesThrough shared script upto hand_of old (next ∷ path) new =
     (ServesSession shared script upto hand_of old next ⊎ ServesNone shared old next)
     × GoesThrough shared script upto hand_of next path new
 
--- A hand may begin: it has seen the logs as they were at the start. It has the clients of its sessions, and all requests
--- that these had begun have their replies. A session that waits for a reply at the start is no hand's.
+-- A hand may begin: it has seen the logs as they were at the start. It has the clients of its sessions, and all
+-- requests that these had begun have their replies. A session that waits for a reply at the start is no hand's.
 pub record MayBegin (shared : Shared) (hand_of : ℕ → ℕ) (was : List Client) (from : Stands) : Type 0 where
   pub is_hand : IsHand shared from.hand
   pub seen : seen_by from.hand ≡ start_of shared
@@ -80,9 +81,9 @@ pub record IsHistoryOf (shared : Shared) (script : Script) (upto : ℕ) (hand_of
   pub client_is : (session : ℕ) → HasSession hand_of (hand_number hand) session
       → slice_get is session ≡ Some (left session)
 
--- A script was run by these hands, which are all of the locks' hands. At the start the logs were an account of it, with no
--- transaction in flight. Each session was given to one of the hands, or was left as it was; and each hand served its own
--- sessions alone.
+-- A script was run by these hands, which are all of the locks' hands. At the start the logs were an account of it, with
+-- no transaction in flight. Each session was given to one of the hands, or was left as it was; and each hand served its
+-- own sessions alone.
 pub record IsServedBy (shared : Shared) (script : Script) (upto : ℕ) (start : Account) (was is : List Client)
     (hands : List Hand) : Type 0 where
   pub at_start : IsPhaseStart script start shared was

@@ -1,4 +1,4 @@
--- The laws of the crates below that this crate stands on, in one. No public contract cites this.
+-- The laws of the crates below that this crate relies on, in one record. No public contract cites this.
 use Rattle.std.specs.Prelude.{◌≡◌, ℕ, List, Contains, IsTrue, slice_get, Some}
 use Rattle.std.specs.Option.{ForSome}
 use Rattle.vector_stamp.specs.declared.clock.Stamp.{Stamp}
@@ -16,7 +16,7 @@ use Rattle.weaver_locks.specs.Locks.{start_of}
 use Rattle.weaver_hands.specs.Leaving.{LeavesAlone}
 use Rattle.weaver_hands.specs.Programs.{IsRunning}
 use Rattle.weaver_workers.specs.Carrying.{OnlyCarries}
-use Rattle.weaver_workers.specs.ClientWork.{Does, Stand}
+use Rattle.weaver_workers.specs.ClientWork.{DoesOneCall, Stand}
 use Rattle.weaver_workers.specs.Keeping.{AreLocksOf, HasLanded, KeepsClient}
 use Rattle.workers_account.specs.Phase.{IsPhaseStart}
 use Rattle.workers_account.specs.PhaseLaws.{PhaseLaws}
@@ -32,7 +32,7 @@ pub record SessionsLaws : Type 0 where
   pub goes_on : (shared : Shared) (script : Script) (number upto : ℕ) (old new : Stand) → IsWithinLimits script
       → AreLocksOf script shared → KeepsClient shared script number old.hand old.client → IsHand shared new.hand
       → ForSome new.client.running (IsRunning shared new.hand)
-      → IsClientOf number new.client.session (log_of new.client) → Does shared script number upto old new
+      → IsClientOf number new.client.session (log_of new.client) → DoesOneCall shared script number upto old new
       → KeepsClient shared script number new.hand new.client
   pub landed : (old new : Hand) → OnlyCarries old new → HasLanded old → HasLanded new
   -- at the start no transaction of a hand is in flight
@@ -42,5 +42,6 @@ pub record SessionsLaws : Type 0 where
   pub ready : (script : Script) (start : Account) (shared : Shared) (clients : List Client) (hand : Hand) (session : ℕ)
       (client : Client) → IsPhaseStart script start shared clients → IsHand shared hand → seen_by hand ≡ start_of shared
       → slice_get clients session ≡ Some client
-      → ((r : ℕ) (stamp : Stamp) → Contains (begins_in (log_of client)) (r, stamp) → IsTrue (has_reply_in r (log_of client)))
+      → ((r : ℕ) (stamp : Stamp) → Contains (begins_in (log_of client)) (r, stamp)
+      → IsTrue (has_reply_in r (log_of client)))
       → KeepsClient shared script session hand client

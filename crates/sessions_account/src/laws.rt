@@ -46,8 +46,8 @@ pub fn hands_visit_for_their_sessions()
 }
 
 /// Hands that serve their own sessions alone follow the script: each call is for a session's next request, at its
-/// gatekeeper, with its operations or its walk, after the session's last stamp, or it carries clocks and messages. So the
-/// closed logs with the sessions' logs are an account of the script, and go on from those at the start.
+/// gatekeeper, with its operations or its walk, after the session's last stamp, or it carries clocks and messages. So
+/// the closed logs with the sessions' logs are an account of the script, and go on from those at the start.
 pub fn closed_logs_of_sessions_are_an_account()
     ensures follows { (shared : Shared) (script : Script) (upto : ℕ) (start : Account) (was is : List Client)
         (hands : List Hand) (closed : Account) → IsServedBy shared script upto start was is hands

@@ -1,4 +1,4 @@
-//! The laws of the crates below that this crate stands on, in one.
+//! The laws of the crates below that this crate relies on, in one.
 ghost use Rattle.sessions_account.specs.SessionsLaws.{SessionsLaws};
 
 use graph_ops::laws::each_vertex_is_named_once;
@@ -22,7 +22,7 @@ use weaver_locks::laws::{
 use weaver_workers::laws::hands_go_on;
 use workers_account::laws::{split_clients_are_ready, workers_follow_their_sessions};
 
-/// The laws of the crates below that this crate stands on.
+/// The laws of the crates below that this crate relies on.
 pub(crate) fn sessions_keep_their_laws()
     ensures { SessionsLaws }
 {

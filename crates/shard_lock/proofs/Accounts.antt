@@ -1,6 +1,7 @@
 -- What was seen, as an account: the shard's own log in its place, and more of the others.
-use Rattle.std.proofs.Common.{◌≡◌, ◌≢◌, ℕ, zero, suc, List, [], map, get_or, refl, sym, ap, ◌∙◌, subst}
-use Rattle.std.proofs.lemmas.List.{append-nil, map-append}
+-- Used by Adding, Meeting, Starting and Visits.
+use Rattle.std.proofs.Common.{◌≡◌, ◌≢◌, ℕ, zero, suc, List, [], get_or, refl, sym, ap, subst}
+use Rattle.std.proofs.lemmas.List.{append-nil}
 use mathlib.Core.List.{IsPrefix}
 use mathlib.Core.Logic.{dite}
 use native.Mathlib.Decide.{ℕ_discrete}
@@ -11,6 +12,7 @@ use Rattle.weave_entries.specs.declared.store_log.StoreDeed.{StoreDeed}
 use Rattle.weave_account.specs.GoesOn.{IsBeginningOf}
 use Rattle.seen_logs.specs.Seen.{GatesGoOn, IsWithin}
 use Rattle.chronicle.specs.Logs.{Log}
+use Rattle.lock_row.proofs.Lists.{mapped_on}
 use Rattle.oracle_lock.specs.Entries.{paired_entry}
 use Rattle.oracle_lock.specs.Seen.{of_gates}
 use Rattle.shard_lock.specs.Entries.{store_entry}
@@ -33,10 +35,6 @@ elsewhere (suc number) (suc k) own other = elsewhere number k own (λ e. other (
 -- nothing more
 pub same_on : {A : Type 0} (l : List A) → IsBeginningOf l l
 same_on l = ([], sym (append-nil l))
-
--- the image of a beginning begins the image
-pub mapped_on : {A B : Type 0} (f : A → B) (xs ys : List A) → IsPrefix xs ys → IsBeginningOf (map f xs) (map f ys)
-mapped_on {A} {B} f xs ys on = (map f on.0, ap (λ (l : List A). map f l) (sym on.1) ∙ map-append f xs on.0)
 
 -- a property of the own log at each place holds of what was seen, if it holds elsewhere of nothing
 pub at_shards : (P : ℕ → List ShardEntry → Type 0) (number : ℕ) (own : List ShardEntry) → P number own → ((k : ℕ) → k ≢ number → P k [])

@@ -1,9 +1,10 @@
 -- A shard with one more entry keeps what its type keeps, if what the entry refers to was seen.
+-- Used by `apply`, `arrive`, `collect` and Visits.
 use Rattle.std.proofs.Common.{◌≡◌, inl, inr, ℕ, ◌≤◌, List, [], ◌∷◌, ◌++◌, length, refl, sym, ap, ◌∙◌, subst, arith, Option, None}
 use Rattle.std.specs.Prelude.{Result, Ok, Err, IfOk, OnOk, OnErr}
 use Rattle.std.specs.Option.{ForSome}
 use Rattle.std.proofs.lemmas.List.{append-nil, length-append}
-use Rattle.proof_base.proofs.Ends.{split_last}
+use Rattle.weave_data.proofs.Ends.{split_last}
 use Rattle.shard_queue.specs.declared.inbox.Arrival.{Arrival}
 use Rattle.shard_queue.specs.declared.inbox.Arrival.TheVariants.{Kept, Repeat}
 use Rattle.weave_entries.specs.declared.message.Message.{Message}
@@ -22,8 +23,8 @@ use Rattle.seen_logs.specs.Seen.{AreLegal, IsWithin}
 use Rattle.chronicle.specs.Passes.{noted}
 use Rattle.oracle_lock.specs.Seen.{gates_noted}
 use Rattle.shard_lock.specs.declared.notes.ShardNotes.{ShardNotes}
-use Rattle.shard_lock.specs.LowerLaws.{LowerLaws}
-use Rattle.shard_lock.specs.Notes.{IsKept, seen_of}
+use Rattle.shard_lock.specs.LowerLaws.{LawsForShardNotes}
+use Rattle.shard_lock.specs.Notes.{ShardIsKept, seen_of}
 use Rattle.shard_lock.proofs.Accounts.{at_number, at_shards, elsewhere, grows, same_on}
 
 abbrev entry_by : ℕ → ShardDeed → ShardEntry
@@ -36,7 +37,7 @@ added shard author deed = record { number = shard.number; gates = shard.gates; l
 is_added : (old new : ShardView) (author : ℕ) (deed : ShardDeed) → AddsEntry old new author deed → new ≡ added old author deed
 is_added old new author deed adds = λ i. record { number = adds.number i; gates = adds.gates i; log = adds.log i }
 
-module _ (laws : LowerLaws) (shard : ShardView) (shards : ℕ) (notes : ShardNotes) (kept : IsKept shard shards notes) (author : ℕ) (deed : ShardDeed)
+module _ (laws : LawsForShardNotes) (shard : ShardView) (shards : ℕ) (notes : ShardNotes) (kept : ShardIsKept shard shards notes) (author : ℕ) (deed : ShardDeed)
     (rules : IsShardLog shard.gates (shard.log ++ entry_by author deed ∷ [])) where
   abbrev more : ShardView
   more = added shard author deed
@@ -76,7 +77,7 @@ module _ (laws : LowerLaws) (shard : ShardView) (shards : ℕ) (notes : ShardNot
             absurd (omega (arith, long, ap L (at_number shard.number shard.log), ap L early.1, length-append front (entry ∷ early.0)))
       ]
 
-  kept_more : ShardRefersAs before shards shard.number shard.log author deed → IsKept more shards notes
+  kept_more : ShardRefersAs before shards shard.number shard.log author deed → ShardIsKept more shards notes
   kept_more refers =
       let still = laws.stays shards shard.number before after goes.gates goes.store goes.oracle shard.log author deed refers in
       record {
@@ -86,45 +87,45 @@ module _ (laws : LowerLaws) (shard : ShardView) (shards : ℕ) (notes : ShardNot
         refers = laws.notes shards before after goes.gates goes.store goes.oracle shard.number (goes.shards shard.number) kept.refers (new_one still);
       }
 
-module _ (laws : LowerLaws) (old new : ShardView) (shards : ℕ) (notes : ShardNotes) (kept : IsKept old shards notes)
+module _ (laws : LawsForShardNotes) (old new : ShardView) (shards : ℕ) (notes : ShardNotes) (kept : ShardIsKept old shards notes)
     (rules : IsShardLog new.gates new.log) (author : ℕ) where
   -- with an entry that refers to what was seen
   pub kept_then : (deed : ShardDeed) → AddsEntry old new author deed → ShardRefersAs (seen_of old notes) shards old.number old.log author deed
-      → IsKept new shards notes
+      → ShardIsKept new shards notes
   kept_then deed adds refers =
       let is = is_added old new author deed adds in
-      subst (λ (v : ShardView). IsKept v shards notes) (sym is)
+      subst (λ (v : ShardView). ShardIsKept v shards notes) (sym is)
       (kept_more laws old shards notes kept author deed (subst (λ (v : ShardView). IsShardLog v.gates v.log) is rules) refers)
 
   -- as before
-  pub kept_still : new ≡ old → IsKept new shards notes
-  kept_still same = subst (λ (v : ShardView). IsKept v shards notes) (sym same) kept
+  pub kept_still : new ≡ old → ShardIsKept new shards notes
+  kept_still same = subst (λ (v : ShardView). ShardIsKept v shards notes) (sym same) kept
 
   arrived_as : (home number : ℕ) (message : Message) → ArrivesAsSeen (seen_of old notes) shards old.number home number message
       → (arrival : Arrival) → (arrival ≡ Kept → AddsEntry old new author (Arrived home number message)) → (arrival ≡ Repeat → new ≡ old)
-      → IsKept new shards notes
+      → ShardIsKept new shards notes
   arrived_as home number message arrives Kept adds same = kept_then (Arrived home number message) (adds refl) arrives
   arrived_as home number message arrives Repeat adds same = kept_still (same refl)
 
   pub kept_arrived : {F : Type 0} (r : Result Arrival F) (home number : ℕ) (message : Message)
       → ArrivesAsSeen (seen_of old notes) shards old.number home number message
       → IfOk r (λ (arrival : Arrival). arrival ≡ Kept → AddsEntry old new author (Arrived home number message))
-      → IfOk r (λ (arrival : Arrival). arrival ≡ Repeat → new ≡ old) → OnErr r (new ≡ old) → IsKept new shards notes
+      → IfOk r (λ (arrival : Arrival). arrival ≡ Repeat → new ≡ old) → OnErr r (new ≡ old) → ShardIsKept new shards notes
   kept_arrived (Ok arrival) home number message arrives adds same refused = arrived_as home number message arrives arrival adds same
   kept_arrived (Err fault) home number message arrives adds same refused = kept_still refused
 
   pub kept_applied : {A F : Type 0} (r : Result A F) (home number : ℕ) → OnOk r (AddsEntry old new author (Applied home number)) → OnErr r (new ≡ old)
-      → IsKept new shards notes
+      → ShardIsKept new shards notes
   kept_applied (Ok done) home number adds refused = kept_then (Applied home number) adds tt
   kept_applied (Err fault) home number adds refused = kept_still refused
 
   pub kept_collected : {A F : Type 0} (r : Result A F) (bound : Option Clock) → OnOk r (AddsEntry old new author (Collected bound)) → OnErr r (new ≡ old)
-      → IsKept new shards notes
+      → ShardIsKept new shards notes
   kept_collected (Ok done) bound adds refused = kept_then (Collected bound) adds tt
   kept_collected (Err fault) bound adds refused = kept_still refused
 
 -- heads whose counts agree pass
-pub heads_pass : (laws : LowerLaws) (shard : ShardView) (shards : ℕ) (notes : ShardNotes) → IsKept shard shards notes → (home : ℕ)
+pub heads_pass : (laws : LawsForShardNotes) (shard : ShardView) (shards : ℕ) (notes : ShardNotes) → ShardIsKept shard shards notes → (home : ℕ)
     → ForSome (head_of home shard.log) (λ (head : Message). waits_at head shard.log ≡ None → PassesAt shard.log head)
 heads_pass laws shard shards notes kept home head is waits =
     let own = at_number shard.number shard.log in

@@ -1,13 +1,14 @@
 -- What a gatekeeper's log says of begins: what is running was begun, what was sent is of a transaction that was begun, and
 -- a transaction and a program that were begun have different ids.
+-- Used by `own_programs_are_running`, Updates and Visits.
 use Rattle.std.proofs.Common.{◌≡◌, ◌≢◌, ◌⊎◌, inl, inr, ℕ, zero, suc, ◌==◌, not, List, [], ◌∷◌, ◌++◌, fold, get_or, AllPairs, Contains, Option, None, Some, refl, sym, ap, ◌∙◌, subst}
 use Rattle.std.specs.List.{flat_map}
 use Rattle.std.proofs.lemmas.Bool.{and_parts, eqb-true}
 use Rattle.std.proofs.lemmas.List.Concat.{flat_map-append}
 use Rattle.std.proofs.lemmas.List.Elements.{Contains-append_cases, Contains-append_left, Contains-append_right}
-use Rattle.proof_base.proofs.Members.{cut_at, filter_has, flat_has, has_filter, has_flat, has_head, has_none, has_tail, map_has, only}
-use Rattle.proof_base.proofs.Ordered.{pairs_across, pairs_cases, pairs_cons, pairs_none, pairs_tail}
-use Rattle.proof_base.proofs.Places.{not-true}
+use Rattle.weave_data.proofs.Members.{cut_at, filter_has, flat_has, has_filter, has_flat, has_head, has_none, has_tail, map_has, only}
+use Rattle.weave_data.proofs.Ordered.{pairs_across, pairs_cases, pairs_cons, pairs_none, pairs_tail}
+use Rattle.weave_data.proofs.ListPlaces.{not-true}
 use Rattle.graph_ops.specs.declared.op.Op.{Op}
 use Rattle.vector_stamp.specs.declared.clock.Stamp.{Stamp}
 use Rattle.vector_stamp.specs.Order.{id_of}
@@ -20,6 +21,10 @@ use Rattle.weave_entries.specs.declared.verdict.Verdict.TheVariants.{Committed, 
 use Rattle.weave_entries.specs.GateReplay.{Begun, addressed_to, begun_by, begun_in, flight_after, flight_of, is_begun, messages_by, nop_message, program_by, programs_of, running_after, running_of, to_shard, tx_by, txs_of}
 use Rattle.weave_entries.specs.GateRules.{FitsAs, IsGateLog}
 use Rattle.weave_entries.specs.Sending.{message_to, messages_of, shards_named}
+use Rattle.weave_entries.proofs.OwnStamps.{program-begun, tx-begun}
+use Rattle.weave_account.proofs.SeenIds.{IdsDiffer}
+use Rattle.weave_account.proofs.Beginning.{all-in}
+use Rattle.oracle_lock.specs.Seen.{of_gates}
 
 abbrev begun_with : ℕ → ℕ → Stamp → Begun
 begun_with author request stamp = record { author = author; request = request; stamp = stamp }
@@ -224,10 +229,7 @@ not-both author (Heard clock) tx program h g = has_none tx h
 not-both author (Raised epoch) tx program h g = has_none tx h
 not-both author (Finished request) tx program h g = has_none tx h
 
-abbrev pub IdsDiffer : Begun → Begun → Type 0
-IdsDiffer a b = id_of a.stamp ≢ id_of b.stamp
-
--- a transaction and a program have different ids, if no two begins have one
+-- a transaction and a program have different ids, if no two begins have the same id
 pub tx-and-program : (logs : List (List GateEntry)) → AllPairs IdsDiffer (flat_map begun_in logs) → (home other : ℕ) (tx program : Begun)
     → Contains (txs_of (get_or logs home [])) tx → Contains (programs_of (get_or logs other [])) program → id_of tx.stamp ≢ id_of program.stamp
 tx-and-program logs differ home other tx program h g =
@@ -246,26 +248,12 @@ tx-and-program logs differ home other tx program h g =
 
 -- What was begun at one gatekeeper
 
-program-in : (log : List GateEntry) (program : Begun) → Contains (programs_of log) program → Contains (begun_in log) program
-program-in log program h =
-    let from = flat_has (λ (e : GateEntry). program_by e.author e.deed) log program h in
-    has_flat begun-at log from.0 program from.1 (Contains-append_right (tx_by from.0.author from.0.deed) (program_by from.0.author from.0.deed) program from.2)
-
-tx-in : (log : List GateEntry) (tx : Begun) → Contains (txs_of log) tx → Contains (begun_in log) tx
-tx-in log tx h =
-    let from = flat_has (λ (e : GateEntry). tx_by e.author e.deed) log tx h in
-    has_flat begun-at log from.0 tx from.1 (Contains-append_left (tx_by from.0.author from.0.deed) (program_by from.0.author from.0.deed) tx from.2)
-
--- was begun at some gatekeeper
-in-all : (logs : List (List GateEntry)) (home : ℕ) (begun : Begun) → Contains (begun_in (get_or logs home [])) begun → Contains (flat_map begun_in logs) begun
-in-all [] home begun h = absurd (has_none begun h)
-in-all (log ∷ logs) zero begun h = Contains-append_left (begun_in log) (flat_map begun_in logs) begun h
-in-all (log ∷ logs) (suc home) begun h = Contains-append_right (begun_in log) (flat_map begun_in logs) begun (in-all logs home begun h)
-
+-- a program that was begun is among all that was begun
 pub all-programs : (logs : List (List GateEntry)) (home : ℕ) (program : Begun) → Contains (programs_of (get_or logs home [])) program
     → Contains (flat_map begun_in logs) program
-all-programs logs home program h = in-all logs home program (program-in (get_or logs home []) program h)
+all-programs logs home program h = all-in (of_gates logs) home program (program-begun (get_or logs home []) program h)
 
+-- and so is a transaction
 pub all-txs : (logs : List (List GateEntry)) (home : ℕ) (tx : Begun) → Contains (txs_of (get_or logs home [])) tx
     → Contains (flat_map begun_in logs) tx
-all-txs logs home tx h = in-all logs home tx (tx-in (get_or logs home []) tx h)
+all-txs logs home tx h = all-in (of_gates logs) home tx (tx-begun (get_or logs home []) tx h)

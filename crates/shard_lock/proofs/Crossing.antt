@@ -1,5 +1,6 @@
 -- A shard with notes may be sent to another thread, so its lock may be shared.
-use denote.Param.Send.{IsSend, IsSync}
+-- Used by crate weaver_locks.
+use denote.Param.Send.{IsSync}
 use Rattle.chronicle.proofs.Shares.{chronicle_sync}
 use Rattle.chronicle.specs.contracts.chronicle.Chronicle as chronicle
 use Rattle.weave_entries.specs.contracts.shard_log.ShardDeed as shard_deed
@@ -7,8 +8,6 @@ use Rattle.shard_lock.specs.contracts.noted.NotedShard as noted
 use Rattle.shard_lock.specs.contracts.noted.NotedShardMachine.TheImpl as machine
 use Rattle.shard_lock.proofs.noted.NotedShard.TheSendSync as noted_sends
 
-pub noted_send : IsSend noted.the_row
-noted_send = noted_sends.the_send
-
+-- threads may share its lock
 pub lock_sync : IsSync (chronicle.the_row noted.the_row shard_deed.the_row machine.ghosts)
-lock_sync = chronicle_sync noted.the_row shard_deed.the_row machine.ghosts noted_send
+lock_sync = chronicle_sync noted.the_row shard_deed.the_row machine.ghosts noted_sends.the_send

@@ -1,4 +1,5 @@
 -- Logs as pairs and back.
+-- Used by `entries_come_back`.
 use Rattle.std.proofs.Common.{◌≡◌, List, [], ◌∷◌, map, refl, ap}
 use Rattle.weave_entries.specs.declared.shard_log.ShardDeed.{ShardDeed}
 use Rattle.weave_entries.specs.declared.shard_log.ShardEntry.{ShardEntry}

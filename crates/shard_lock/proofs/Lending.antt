@@ -1,14 +1,14 @@
 -- The oracle is lent to a shard and comes back, in a hold of its lock.
+-- Used by `visit_over` and `visit_with`.
 use Rattle.std.proofs.Common.{◌≡◌, inl, inr, ℕ, zero, suc, List, [], ◌∷◌, ◌++◌, map, Contains, true, IsTrue, refl, sym, ap, ◌∙◌, subst, append-nil, take, false, None}
-use Rattle.std.specs.Prelude.{Result, Ok, Err, OnErr, OnOk, All, IfErr, IfOk, IsSome}
+use Rattle.std.specs.Prelude.{Result, Ok, Err, OnErr, OnOk, IfErr, IfOk, IsSome}
 use Rattle.std.proofs.lemmas.List.{map-append}
-use Rattle.std.proofs.lemmas.List.Elements.{All-nil, All-cons}
-use Rattle.proof_base.proofs.Members.{has_head, has_none, has_read, has_tail, only}
+use Rattle.weave_data.proofs.Members.{has_head, has_none, has_read, has_tail, only}
 use Rattle.weave_data.specs.declared.name.Name.{Name}
 use Rattle.vector_stamp.specs.declared.clock.Stamp.{Stamp}
 use Rattle.vector_stamp.specs.Precedence.{Given}
 use Rattle.vector_stamp.specs.Seeing.{last_seen, seen_of}
-use Rattle.vector_stamp.specs.Settling.{SettledEntry, additions_from, entries_of_call, places_of}
+use Rattle.vector_stamp.specs.Settling.{SettledEntry, additions_from, places_of}
 use Rattle.weave_entries.specs.declared.gate_log.GateEntry.{GateEntry}
 use Rattle.weave_entries.specs.declared.oracle_log.OracleDeed.{OracleDeed}
 use Rattle.weave_entries.specs.declared.oracle_log.OracleEntry.{OracleEntry}
@@ -20,6 +20,8 @@ use Rattle.weave_account.specs.Account.{IsBegunStamp}
 use Rattle.chronicle.specs.Logs.{Follows, Log, entries_of}
 use Rattle.oracle_lock.specs.Entries.{oracle_pair, oracle_pairs, oracle_entries}
 use Rattle.oracle_lock.specs.Seen.{OracleIsKept, of_gates}
+use Rattle.oracle_lock.proofs.CallEntries.{call-by, call-events, none-by, KeepsGained}
+use Rattle.oracle_lock.proofs.Settling.{pairs_back}
 use mathlib.Core.List.{IsPrefix}
 use Rattle.graph_ops.specs.Operations.{State}
 use Rattle.weave_entries.specs.declared.shard_log.ShardDeed.TheVariants.{Visited}
@@ -36,14 +38,6 @@ last-in (suc n) [] event h = absurd (has_none event h)
 last-in (suc zero) (update ∷ updates) event h =
     subst (λ (s : Stamp). Contains (update ∷ updates) s) (only update event h) (has_head update updates)
 last-in (suc (suc n)) (update ∷ updates) event h = has_tail update updates event (last-in (suc n) updates event h)
-
--- an entry of a call is of the events of the call
-call-events : (author : ℕ) (events : List Stamp) (stamp : Stamp) (places : List ℕ) (entry : SettledEntry) (event : Stamp)
-    → Contains (entries_of_call author events stamp places) entry → Contains (entry.later ∷ entry.earlier) event → Contains (stamp ∷ events) event
-call-events author events stamp [] entry event h has = absurd (has_none entry h)
-call-events author events stamp (place ∷ places) entry event h has =
-    let one : SettledEntry = record { author = author; earlier = events; later = stamp; places = place ∷ places } in
-    subst (λ (e : SettledEntry). Contains (e.later ∷ e.earlier) event) (sym (only one entry h)) has
 
 module _ (pairs : List Given) (author : ℕ) (stamp : Stamp) (v : Name) (log : List ShardEntry) where
   abbrev asked : List Stamp
@@ -75,11 +69,7 @@ module _ (pairs : List Given) (author : ℕ) (stamp : Stamp) (v : Name) (log : L
 
     -- after a visit all that the oracle's entries refer to is still seen
     pub visited-keeps : {A F : Type 0} (shards : ℕ) (gates : List (List GateEntry))
-        → ((entries : List SettledEntry) → map settled_entry after ≡ map settled_entry before ++ entries → IsOracleLog after
-        → ((entry : SettledEntry) (event : Stamp) → Contains entries entry → Contains (entry.later ∷ entry.earlier) event
-        → IsBegunStamp (of_gates gates) event)
-        → OracleIsKept shards gates after)
-        → (r : Result A F) → OracleIsKept shards gates before
+        → KeepsGained shards gates before after → (r : Result A F) → OracleIsKept shards gates before
         → OnOk r (IsTrue true → map settled_entry after ≡ map settled_entry before ++ entries)
         → OnErr r (IsTrue true → map settled_entry after ≡ map settled_entry before) → IsOracleLog after
         → ((event : Stamp) → Contains (stamp ∷ kept_stamps v log) event → IsBegunStamp (of_gates gates) event)
@@ -90,20 +80,6 @@ module _ (pairs : List Given) (author : ℕ) (stamp : Stamp) (v : Name) (log : L
         subst (λ (l : List OracleEntry). OracleIsKept shards gates l) (sym (not-logged {A = A} (Err fault) same)) kept
 
 -- The oracle's log in its hold
-
--- these are all of one author
-abbrev AllBy : ℕ → Log OracleDeed → Type 0
-AllBy number log = All (λ e. e.0 ≡ number) log
-
-none-by : (number : ℕ) → AllBy number []
-none-by number = All-nil (λ (e : ℕ × OracleDeed). e.0 ≡ number)
-
-call-by : (number author : ℕ) (events : List Stamp) (stamp : Stamp) (places : List ℕ) → author ≡ number
-    → AllBy number (oracle_pairs (map oracle_entry (entries_of_call author events stamp places)))
-call-by number author events stamp [] same = none-by number
-call-by number author events stamp (place ∷ places) same =
-    All-cons (λ (e : ℕ × OracleDeed). e.0 ≡ number)
-    (oracle_pair (oracle_entry (record { author = author; earlier = events; later = stamp; places = place ∷ places }))) [] same (none-by number)
 
 -- what a visit adds to the oracle's log is of its author
 pub follows : {A F : Type 0} (number author : ℕ) (entered : Log OracleDeed) (before after : List OracleEntry) (pairs : List Given)
@@ -134,10 +110,23 @@ on-err : {A F : Type 0} {P Q : Type 0} (r : Result A F) → (P → Q) → OnErr 
 on-err (Ok a) go h = tt
 on-err (Err e) go h = go h
 
--- a log that went behind its lock and came back
-pub pairs-back : (log : List OracleEntry) → oracle_entries (oracle_pairs log) ≡ log
-pairs-back [] = refl
-pairs-back (entry ∷ log) = ap (λ (l : List OracleEntry). entry ∷ l) (pairs-back log)
+-- what a visit does to which the oracle was lent, over the oracle's log before it and after it
+pub record VisitsLent (author request : ℕ) (stamp : Stamp) (v : Name) (old new : ShardView)
+    (before after : List OracleEntry)
+    (result : Result State VisitFault) : Type 0 where
+  pub ready : OnOk result (first_unready old.gates stamp old.log ≡ None)
+  pub state : IfOk result (λ state. state
+      ≡ state_of_updates (take (updates_read (pairs_of_log before) stamp v old.log) (updates_of v old.log)))
+  pub entry : OnOk result (AddsEntry old new author (Visited request stamp v
+      (updates_read (pairs_of_log before) stamp v old.log) (is_settled_by (pairs_of_log before) stamp v old.log)))
+  pub logged : OnOk result (after ≡ before ++ map oracle_entry
+      (entries_of_visit (pairs_of_log before) author stamp v old.log))
+  pub pairs : OnOk result (pairs_of_log after ≡ pairs_after_visit (pairs_of_log before) stamp v old.log)
+  pub not_ready : IsSome (first_unready old.gates stamp old.log) → after ≡ before
+  pub not_asked : is_judge_asked stamp v old.log ≡ false → after ≡ before
+  pub refused : IfErr result (λ fault. IsRightlyUnread old.gates stamp old.log fault)
+  pub unchanged : OnErr result (new ≡ old)
+  pub oracle : OnErr result (after ≡ before)
 
 module _ (number author request : ℕ) (stamp : Stamp) (v : Name) (old new : ShardView) (had own entered has : Log OracleDeed)
     (before after : List OracleEntry) (result : Result State VisitFault) (same : author ≡ number) (is : entered ≡ oracle_pairs before)
@@ -150,30 +139,23 @@ module _ (number author request : ℕ) (stamp : Stamp) (v : Name) (old new : Sha
 
   -- a visit in this hold of the oracle's lock
   pub visited-over : IsPrefix had entered → entries_of number entered ≡ own
-      → OnOk result (first_unready old.gates stamp old.log ≡ None)
-      → IfOk result (λ state. state ≡ state_of_updates (take (updates_read pairs-before stamp v old.log) (updates_of v old.log)))
-      → OnOk result (AddsEntry old new author (Visited request stamp v (updates_read pairs-before stamp v old.log)
-      (is_settled_by pairs-before stamp v old.log)))
-      → OnOk result (after ≡ before ++ map oracle_entry (entries_of_visit pairs-before author stamp v old.log))
-      → OnOk result (pairs_of_log after ≡ pairs_after_visit pairs-before stamp v old.log)
-      → (IsSome (first_unready old.gates stamp old.log) → after ≡ before)
-      → (is_judge_asked stamp v old.log ≡ false → after ≡ before)
-      → IfErr result (λ fault. IsRightlyUnread old.gates stamp old.log fault) → OnErr result (new ≡ old) → OnErr result (after ≡ before)
+      → VisitsLent author request stamp v old new before after result
       → VisitsOver number request stamp v old new had own has before result
-  visited-over begins own_then ready state entry logged pairs not_ready not_asked refused unchanged oracle = record {
+  visited-over begins own_then lent = record {
     begins = subst (λ (l : Log OracleDeed). IsPrefix had l) is begins;
     own_then = ap (λ (l : Log OracleDeed). entries_of number l) (sym is) ∙ own_then;
-    ready = ready;
-    state = state;
+    ready = lent.ready;
+    state = lent.state;
     entry = subst (λ (n : ℕ). OnOk result (AddsEntry old new n (Visited request stamp v (updates_read pairs-before stamp v old.log)
-        (is_settled_by pairs-before stamp v old.log)))) same entry;
+        (is_settled_by pairs-before stamp v old.log)))) same lent.entry;
     logged = on-ok result (λ e. left ∙ (ap (λ (l : List OracleEntry). oracle_pairs l) e
-        ∙ ap (λ (n : ℕ). oracle_pairs (before ++ map oracle_entry (entries_of_visit pairs-before n stamp v old.log))) same)) logged;
+        ∙ ap (λ (n : ℕ). oracle_pairs (before ++ map oracle_entry
+        (entries_of_visit pairs-before n stamp v old.log))) same)) lent.logged;
     pairs = on-ok result (λ e. ap (λ (l : Log OracleDeed). pairs_of_log (oracle_entries l)) left ∙ (ap (λ (l : List OracleEntry). pairs_of_log l)
-        (pairs-back after) ∙ e)) pairs;
-    not_ready = λ some. still (not_ready some);
-    not_asked = λ none. still (not_asked none);
-    refused = refused;
-    unchanged = unchanged;
-    oracle = on-err result still oracle;
+        (pairs_back after) ∙ e)) lent.pairs;
+    not_ready = λ some. still (lent.not_ready some);
+    not_asked = λ none. still (lent.not_asked none);
+    refused = lent.refused;
+    unchanged = lent.unchanged;
+    oracle = on-err result still lent.oracle;
   }

@@ -1,7 +1,7 @@
 -- What the notes have seen after they met the passes.
-use Rattle.std.proofs.Common.{◌≡◌, ◌⊎◌, inl, inr, ℕ, ◌≤◌, List, [], ◌∷◌, ◌++◌, length, map, sym, ap, ◌∙◌, subst, arith}
+-- Used by `meet`.
+use Rattle.std.proofs.Common.{◌≡◌, inl, inr, ℕ, ◌≤◌, List, [], ◌∷◌, ◌++◌, length, map, sym, ap, ◌∙◌, subst, arith}
 use Rattle.std.proofs.lemmas.List.{length-append, length-map}
-use mathlib.Core.List.{IsPrefix}
 use Rattle.weave_entries.specs.declared.gate_log.GateDeed.{GateDeed}
 use Rattle.weave_entries.specs.declared.gate_log.GateEntry.{GateEntry}
 use Rattle.weave_entries.specs.declared.oracle_log.OracleDeed.{OracleDeed}
@@ -15,61 +15,39 @@ use Rattle.weave_account.specs.GoesOn.{IsBeginningOf}
 use Rattle.seen_logs.specs.References.{ShardRefersAs}
 use Rattle.seen_logs.specs.Seen.{AreLegal, GatesGoOn, IsWithin}
 use Rattle.chronicle.specs.declared.pass.Pass.{Pass}
-use Rattle.chronicle.specs.declared.note.Note.{Note}
 use Rattle.chronicle.specs.Frames.{Frame}
-use Rattle.chronicle.specs.Locks.{Lock}
 use Rattle.chronicle.specs.Logs.{Log}
 use Rattle.chronicle.specs.Passes.{seen, noted, lock_noted}
-use Rattle.lock_row.specs.Meetings.{HaveMet}
+use Rattle.chronicle.proofs.Logs.{head_or, tail_of}
+use Rattle.lock_row.proofs.Meetings.{Met}
 use Rattle.oracle_lock.specs.Entries.{oracle_entries}
 use Rattle.oracle_lock.specs.Seen.{AreGateLogs, gates_noted, gates_seen, of_gates}
 use Rattle.shard_lock.specs.declared.notes.ShardNotes.{ShardNotes}
 use Rattle.shard_lock.specs.Entries.{store_entries}
 use Rattle.shard_lock.specs.Frames.{shard_frame}
-use Rattle.shard_lock.specs.LowerLaws.{LowerLaws}
-use Rattle.shard_lock.specs.Notes.{IsKept, account_of, frame_of, seen_by_passes, seen_of}
+use Rattle.shard_lock.specs.LowerLaws.{LawsForShardNotes}
+use Rattle.shard_lock.specs.Notes.{ShardIsKept, account_of, frame_of, seen_by_passes, seen_of}
 use Rattle.shard_lock.proofs.Accounts.{at_number, grows, same_on}
 
--- what was seen of a log: by the pass, by the note, and by both after they met
-record Met {E : Type 0} (before after note later : Log E) : Type 0 where
-  pub note_on : IsPrefix note later
-  pub pass_on : IsPrefix before later
-  pub one : later ≡ after
-  pub either : (later ≡ before) ⊎ (later ≡ note)
-
-met_of : {E : Type 0} (lock : Lock E) (p q : Pass E) (n m : Note E) → HaveMet lock p q n m → Met (seen p) (seen q) (noted n) (noted m)
-met_of {E} lock p q n m h = record {
-  note_on = subst (λ (l : Log E). IsPrefix (noted n) l) (sym h.one) h.note_before;
-  pass_on = subst (λ (l : Log E). IsPrefix (seen p) l) (sym h.one) h.pass_before;
-  one = h.one;
-  either = elim h.either [ inl is ↦ inl (h.one ∙ is) | inr is ↦ inr (h.one ∙ is) ];
-}
-
 -- the notes have met the passes
-pub record AreMet (old new : ShardNotes) (gates gates_now : List (Pass GateDeed)) (store_lock : Lock StoreDeed) (store store_now : Pass StoreDeed)
-    (oracle_lock : Lock OracleDeed) (oracle oracle_now : Pass OracleDeed) : Type 0 where
+pub record AreMet (old new : ShardNotes) (gates gates_now : List (Pass GateDeed)) (store store_now : Pass StoreDeed)
+    (oracle oracle_now : Pass OracleDeed) : Type 0 where
   pub names : map lock_noted new.gates.items ≡ map lock_noted old.gates.items
   pub one : gates_noted new.gates.items ≡ gates_seen gates_now
   pub notes_on : GatesGoOn (of_gates (gates_noted old.gates.items)) (of_gates (gates_noted new.gates.items))
   pub passes_on : GatesGoOn (of_gates (gates_seen gates)) (of_gates (gates_seen gates_now))
   pub legal : (shards : ℕ) → AreGateLogs shards (gates_noted old.gates.items) → AreGateLogs shards (gates_seen gates)
       → AreGateLogs shards (gates_seen gates_now)
-  pub store_met : HaveMet store_lock store store_now old.store new.store
-  pub oracle_met : HaveMet oracle_lock oracle oracle_now old.oracle new.oracle
+  pub at_store : Met (seen store) (seen store_now) (noted old.store) (noted new.store)
+  pub at_oracle : Met (seen oracle) (seen oracle_now) (noted old.oracle) (noted new.oracle)
 
-module _ (shard : ShardView) (old new : ShardNotes) (gates gates_now : List (Pass GateDeed)) (store_lock : Lock StoreDeed)
-    (store store_now : Pass StoreDeed) (oracle_lock : Lock OracleDeed) (oracle oracle_now : Pass OracleDeed)
-    (met : AreMet old new gates gates_now store_lock store store_now oracle_lock oracle oracle_now) where
-  at_store : Met (seen store) (seen store_now) (noted old.store) (noted new.store)
-  at_store = met_of _ _ _ _ _ met.store_met
-
-  at_oracle : Met (seen oracle) (seen oracle_now) (noted old.oracle) (noted new.oracle)
-  at_oracle = met_of _ _ _ _ _ met.oracle_met
-
+module _ (shard : ShardView) (old new : ShardNotes) (gates gates_now : List (Pass GateDeed))
+    (store store_now : Pass StoreDeed)
+    (oracle oracle_now : Pass OracleDeed) (met : AreMet old new gates gates_now store store_now oracle oracle_now) where
   -- the notes have seen no less than they had
   pub notes_on : IsWithin (seen_of shard old) (seen_of shard new)
   notes_on = grows shard.number shard.log shard.log (gates_noted old.gates.items) (gates_noted new.gates.items) (noted old.store) (noted new.store)
-      (noted old.oracle) (noted new.oracle) (same_on shard.log) met.notes_on at_store.note_on at_oracle.note_on
+      (noted old.oracle) (noted new.oracle) (same_on shard.log) met.notes_on met.at_store.note_on met.at_oracle.note_on
 
   -- and no less than the passes had
   pub passes_on : (own : List ShardEntry) → IsBeginningOf own shard.log
@@ -77,13 +55,13 @@ module _ (shard : ShardView) (old new : ShardNotes) (gates gates_now : List (Pas
   passes_on own on = grows shard.number own shard.log (gates_seen gates) (gates_noted new.gates.items) (seen store) (noted new.store)
       (seen oracle) (noted new.oracle) on
       (subst (λ (l : List (List GateEntry)). GatesGoOn (of_gates (gates_seen gates)) (of_gates l)) (sym met.one) met.passes_on)
-      at_store.pass_on at_oracle.pass_on
+      met.at_store.pass_on met.at_oracle.pass_on
 
   -- they have seen what the passes have
   pub one_account : seen_of shard new ≡ seen_by_passes shard.number shard.log gates_now store_now oracle_now
-  one_account = λ i. account_of shard.number shard.log (met.one i) (at_store.one i) (at_oracle.one i)
+  one_account = λ i. account_of shard.number shard.log (met.one i) (met.at_store.one i) (met.at_oracle.one i)
 
-  module _ (laws : LowerLaws) (shards : ℕ) (kept : IsKept shard shards old)
+  module _ (laws : LawsForShardNotes) (shards : ℕ) (kept : ShardIsKept shard shards old)
       (legal : AreLegal shard.gates shards (seen_by_passes shard.number [] gates store oracle)) where
     gates_legal : AreGateLogs shards (gates_noted new.gates.items)
     gates_legal = subst (λ (l : List (List GateEntry)). AreGateLogs shards l) (sym met.one) (met.legal shards
@@ -93,11 +71,11 @@ module _ (shard : ShardView) (old new : ShardNotes) (gates gates_now : List (Pas
     legal_on = record {
       gate_logs = gates_legal.rules;
       hears = gates_legal.hears;
-      store_log = elim at_store.either [
+      store_log = elim met.at_store.either [
         | inl is ↦ subst (λ (l : Log StoreDeed). IsStoreLog (store_entries l)) (sym is) legal.store_log
         | inr is ↦ subst (λ (l : Log StoreDeed). IsStoreLog (store_entries l)) (sym is) kept.legal.store_log
       ];
-      oracle_log = elim at_oracle.either [
+      oracle_log = elim met.at_oracle.either [
         | inl is ↦ subst (λ (l : Log OracleDeed). IsOracleLog (oracle_entries l)) (sym is) legal.oracle_log
         | inr is ↦ subst (λ (l : Log OracleDeed). IsOracleLog (oracle_entries l)) (sym is) kept.legal.oracle_log
       ];
@@ -113,7 +91,7 @@ module _ (shard : ShardView) (old new : ShardNotes) (gates gates_now : List (Pas
         let L : List ShardEntry → ℕ = λ l. length l in
         absurd (omega (arith, more, ap L (at_number shard.number shard.log), ap L at, length-append before (entry ∷ rest)))
 
-    pub kept_met : IsKept shard shards new
+    pub kept_met : ShardIsKept shard shards new
     kept_met = record {
       number = kept.number;
       gates = as_many ∙ kept.gates;
@@ -135,20 +113,12 @@ pub record IsFramed (notes : ShardNotes) (store_name oracle_name : List ℕ) (ga
   pub oracle_note : lock_noted notes.oracle ≡ oracle_name
   pub gate_notes : map lock_noted notes.gates.items ≡ gate_names
 
-abbrev head_of : List (List ℕ) → List ℕ
-head_of [] = []
-head_of (x ∷ xs) = x
-
-abbrev tail_of : List (List ℕ) → List (List ℕ)
-tail_of [] = []
-tail_of (x ∷ xs) = xs
-
 pub framed : (shard : ShardView) (shards : ℕ) (notes : ShardNotes) (number gates many : ℕ) (store_name oracle_name : List ℕ)
     (gate_names : List (List ℕ)) → frame_of shard shards notes ≡ shard_frame number gates many store_name oracle_name gate_names
     → IsFramed notes store_name oracle_name gate_names
 framed shard shards notes number gates many store_name oracle_name gate_names is = record {
-  store_note = ap (λ (f : Frame). head_of (tail_of f)) is;
-  oracle_note = ap (λ (f : Frame). head_of (tail_of (tail_of f))) is;
+  store_note = ap (λ (f : Frame). head_or [] (tail_of f)) is;
+  oracle_note = ap (λ (f : Frame). head_or [] (tail_of (tail_of f))) is;
   gate_notes = ap (λ (f : Frame). tail_of (tail_of (tail_of f))) is;
 }
 

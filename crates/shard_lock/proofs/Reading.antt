@@ -1,10 +1,12 @@
 -- A visit refers to what was seen: its program's begin, the commits that it read, and the oracle's pairs and entry.
-use Rattle.std.proofs.Common.{◌≡◌, ◌⊎◌, inl, inr, ℕ, zero, suc, ◌+◌, ◌-◌, ◌<◌, Bool, true, false, not, List, [], ◌∷◌, ◌++◌, length, map, take, Contains, IsTrue, Some, refl, sym, ap, ◌∙◌, subst, arith}
+-- Used by Visits.
+use Rattle.std.proofs.Common.{◌≡◌, inl, inr, ℕ, zero, suc, ◌+◌, ◌-◌, ◌<◌, Bool, true, false, not, List, [], ◌∷◌, ◌++◌, length, map, take, Contains, IsTrue, Some, refl, sym, ap, ◌∙◌, subst, arith}
 use Rattle.std.specs.Prelude.{◌||◌, slice_get, if◌then◌else◌}
 use Rattle.std.specs.List.{list_any}
-use Rattle.std.specs.Option.{ForSome}
+use Rattle.std.specs.Option.{ForSome, option_map}
 use Rattle.std.proofs.lemmas.List.Elements.{Contains-append_left, Contains-append_right}
-use Rattle.proof_base.proofs.Members.{filter_has, has_head, has_map, has_none, has_read, has_tail, map_has}
+use Rattle.std.proofs.lemmas.Option.{slice_get-map}
+use Rattle.weave_data.proofs.Members.{filter_has, has_head, has_map, map_has, take_has}
 use Rattle.weave_data.specs.Names.{shard_of}
 use Rattle.weave_data.specs.declared.name.Name.{Name}
 use Rattle.vector_stamp.specs.declared.clock.Stamp.{Stamp}
@@ -25,26 +27,7 @@ use Rattle.weave_account.specs.Seen.{HasSeen}
 use Rattle.weave_account.specs.Shards.{update_at, update_of}
 use Rattle.seen_logs.specs.References.{VisitsAsSeen}
 use Rattle.shard_lock.specs.VisitLaws.{VisitLaws}
-
-in-take : {A : Type 0} (n : ℕ) (xs : List A) (x : A) → Contains (take n xs) x → Contains xs x
-in-take zero xs x h = absurd (has_none x h)
-in-take (suc n) [] x h = absurd (has_none x h)
-in-take (suc n) (y ∷ xs) x h = elim (has_read y (take n xs) x h) [
-  | inl same ↦ subst (λ z. Contains (y ∷ xs) z) same (has_head y xs)
-  | inr more ↦ has_tail y xs x (in-take n xs x more)
-]
-
-map-get : {A B : Type 0} (f : A → B) (xs : List A) (j : ℕ) (x : A) → slice_get xs j ≡ Some x → slice_get (map f xs) j ≡ Some (f x)
-map-get f [] j x e = cc
-map-get f (y ∷ xs) zero x e = let same : y ≡ x = cc in ap (λ z. Some (f z)) same
-map-get f (y ∷ xs) (suc j) x e = map-get f xs j x e
-
--- what was seen last is one update, or none
-last-cases : (n : ℕ) (updates : List Stamp) → (last_seen n updates ≡ []) ⊎ ((update : Stamp) × (last_seen n updates ≡ update ∷ []))
-last-cases zero updates = inl refl
-last-cases (suc n) [] = inl refl
-last-cases (suc zero) (update ∷ updates) = inr (update, refl)
-last-cases (suc (suc n)) (update ∷ updates) = last-cases (suc n) updates
+use Rattle.vector_stamp.proofs.Seen.{last-cases}
 
 -- the judge's entry, if it had to put what was seen last before the program
 record Settles (pairs : List Given) (author : ℕ) (stamp : Stamp) (events : List Stamp) : Type 0 where
@@ -109,16 +92,19 @@ module _ (laws : VisitLaws) (shards : ℕ) (seen : Account) (shard : ℕ) (log :
       let naming = commits_naming v commits in
       let many = length (updates_of v log) in
       let there : Contains (map (update_of v) (take many naming)) update =
-      subst (λ (us : List Update). Contains us update) (laws.updates shards seen.store shard log has v here) (in-take n (updates_of v log) update h) in
+      subst (λ (us : List Update). Contains us update) (laws.updates shards seen.store shard log has v here)
+      (take_has n (updates_of v log) update h) in
       let of = map_has (update_of v) (take many naming) update there in
-      let named = (filter_has (names_vertex v) commits of.0 (in-take many naming of.0 of.1)).0 in
+      let named = (filter_has (names_vertex v) commits of.0 (take_has many naming of.0 of.1)).0 in
       subst (λ (u : Update). Contains (map (update_of v) commits) u) of.2 (has_map (update_of v) commits of.0 named)
 
   module _ (oracle_is : seen.oracle ≡ before ++ more) (pairs_are : pairs_in seen ≡ pairs_after_visit pairs stamp v log) where
     after-seen : 0 < n → ForSome (update_at v (n - 1) log) (λ (update : Update). Precedence seen update.stamp stamp)
     after-seen some update e =
         let stamps = update_stamps v log in
-        let at : slice_get stamps (n - 1) ≡ Some update.stamp = map-get (λ (u : Update). u.stamp) (updates_of v log) (n - 1) update e in
+        let at : slice_get stamps (n - 1) ≡ Some update.stamp =
+        slice_get-map (λ (u : Update). u.stamp) (updates_of v log) (n - 1)
+        ∙ ap (option_map (λ (u : Update). u.stamp)) e in
         let back : n ≡ n - 1 + 1 = omega (arith, some) in
         let one : last ≡ update.stamp ∷ [] = last-is ∙ (ap (λ k. last_seen k stamps) back ∙ laws.named stamps update.stamp (n - 1) at) in
         subst (λ (ps : List Given). Precedes ps update.stamp stamp) (sym pairs_are)

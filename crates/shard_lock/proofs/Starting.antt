@@ -1,4 +1,5 @@
 -- Notes of whole logs are enough, if the logs are legal and have all that the shard's own log refers to.
+-- Used by `notes_of_whole_logs_are_enough`.
 use Rattle.std.proofs.Common.{◌≡◌, ℕ, ◌<◌, ◌≤◌, List, [], ◌∷◌, ◌++◌, length, refl, sym, ap, ◌∙◌, arith}
 use Rattle.std.proofs.lemmas.List.{append-nil, length-append}
 use Rattle.weave_entries.specs.declared.shard_log.ShardEntry.{ShardEntry}
@@ -9,14 +10,14 @@ use Rattle.weave_account.specs.GoesOn.{IsBeginningOf}
 use Rattle.seen_logs.specs.References.{ShardRefersAs}
 use Rattle.seen_logs.specs.Seen.{AreLegal, ShardRefersWithin}
 use Rattle.shard_lock.specs.declared.notes.ShardNotes.{ShardNotes}
-use Rattle.shard_lock.specs.LowerLaws.{LowerLaws}
-use Rattle.shard_lock.specs.Notes.{IsKept, seen_of}
+use Rattle.shard_lock.specs.LowerLaws.{LawsForShardNotes}
+use Rattle.shard_lock.specs.Notes.{ShardIsKept, seen_of}
 use Rattle.shard_lock.proofs.Accounts.{at_number, at_shards}
 
 on : {A : Type 0} (xs ys : List A) → ys ≡ xs → IsBeginningOf xs ys
 on xs ys is = ([], is ∙ sym (append-nil xs))
 
-module _ (laws : LowerLaws) (shard : ShardView) (shards : ℕ) (notes : ShardNotes) (account : Account) (number : shard.number < shards)
+module _ (laws : LawsForShardNotes) (shard : ShardView) (shards : ℕ) (notes : ShardNotes) (account : Account) (number : shard.number < shards)
     (gates : length notes.gates.items ≡ shard.gates)
     (legal : AreLegal shard.gates shards account) (refers : ShardRefersWithin shards account shard.number)
     (gates_are : (k : ℕ) → gate_log (seen_of shard notes) k ≡ gate_log account k) (store_is : (seen_of shard notes).store ≡ account.store)
@@ -41,7 +42,7 @@ module _ (laws : LowerLaws) (shard : ShardView) (shards : ℕ) (notes : ShardNot
       let L : List ShardEntry → ℕ = λ l. length l in
       absurd (omega (arith, long, ap L same_own, ap L at, length-append front (entry ∷ rest)))
 
-  pub kept_at_start : IsKept shard shards notes
+  pub kept_at_start : ShardIsKept shard shards notes
   kept_at_start = record {
     number = number;
     gates = gates;

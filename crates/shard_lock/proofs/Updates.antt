@@ -1,10 +1,11 @@
 -- What a shard keeps of a vertex was begun by transactions, in what it has seen of the gatekeepers' logs.
-use Rattle.std.proofs.Common.{◌≡◌, ◌≢◌, inl, inr, ℕ, zero, suc, ◌≤◌, ◌==◌, ◌&&◌, List, [], ◌∷◌, drop, length, map, get_or, Contains, Option, None, Some, refl, sym, ap, ◌∙◌, subst}
+-- Used by Visits.
+use Rattle.std.proofs.Common.{◌≡◌, ◌≢◌, inl, inr, ℕ, ◌≤◌, ◌==◌, ◌&&◌, List, [], ◌∷◌, length, map, get_or, Contains, sym, ap, ◌∙◌, subst}
 use Rattle.std.specs.Prelude.{All}
-use Rattle.std.specs.List.{cons_option, filter, filter_map, find, flat_map}
-use Rattle.std.specs.Option.{option_map}
+use Rattle.std.specs.List.{filter, find, flat_map}
 use Rattle.std.proofs.lemmas.List.Elements.{Contains-get_or}
-use Rattle.proof_base.proofs.Members.{cut_at, find_has, flat_has, has_map, has_none, has_read, has_tail, map_has, only}
+use Rattle.weave_data.proofs.Members.{cut_at, find_has, flat_has, has_map, has_none, has_read, map_has, only, drop_has, filter_map_has}
+use Rattle.weave_data.proofs.Options.{map_some}
 use Rattle.weave_data.specs.Names.{same_name}
 use Rattle.weave_data.specs.declared.name.Name.{Name}
 use Rattle.graph_ops.specs.declared.part.Part.{Part}
@@ -25,28 +26,6 @@ use Rattle.seen_logs.specs.References.{ArrivesAsSeen, ShardRefersAs}
 use Rattle.seen_logs.specs.Seen.{ShardRefersWithin}
 use Rattle.shard_lock.specs.VisitLaws.{VisitLaws}
 use Rattle.shard_lock.proofs.Begins.{all-programs, all-txs, sent-of-tx, tx-and-program}
-
-in-drop : {A : Type 0} (n : ℕ) (xs : List A) (x : A) → Contains (drop n xs) x → Contains xs x
-in-drop zero xs x h = h
-in-drop (suc n) [] x h = absurd (has_none x h)
-in-drop (suc n) (y ∷ xs) x h = has_tail y xs x (in-drop n xs x h)
-
-some-of : {A B : Type 0} (f : A → B) (o : Option A) (y : B) → option_map f o ≡ Some y → (x : A) × (o ≡ Some x) × (f x ≡ y)
-some-of f None y e = cc
-some-of f (Some x) y e = (x, refl, cc)
-
--- what a list gives is given by one of its elements
-filter_map-from : {A B : Type 0} (f : A → Option B) (xs : List A) (y : B) → Contains (filter_map f xs) y → (x : A) × (f x ≡ Some y)
-filter_map-from f [] y h = absurd (has_none y h)
-filter_map-from {A} {B} f (x ∷ xs) y h = at (f x) refl (filter_map-from f xs y) h
-  where
-    at : (o : Option B) → f x ≡ o → (Contains (filter_map f xs) y → (x : A) × (f x ≡ Some y))
-        → Contains (cons_option o (filter_map f xs)) y → (x : A) × (f x ≡ Some y)
-    at None e rest h = rest h
-    at (Some z) e rest h = elim (has_read z (filter_map f xs) y h) [
-      | inl same ↦ (x, e ∙ ap Some same)
-      | inr more ↦ rest more
-    ]
 
 -- the update is of a transaction that was begun
 pub record IsUpdateOfTx (seen : Account) (update : Update) : Type 0 where
@@ -76,9 +55,9 @@ module _ (shards : ℕ) (seen : Account) (shard : ℕ) (log : List ShardEntry) (
   message-seen : (message : Message) → Contains (applied_messages log) message
       → (arrival : Arrival) × (ArrivesAsSeen seen shards shard arrival.gate arrival.number arrival.message) × (arrival.message ≡ message)
   message-seen message h =
-      let of = filter_map-from (λ (of : ℕ × ℕ). arrived_at of.0 of.1 log) (processed_of log) message h in
+      let of = filter_map_has (λ (of : ℕ × ℕ). arrived_at of.0 of.1 log) (processed_of log) message h in
       let test = λ (arrival : Arrival). (arrival.gate == of.0.0) && (arrival.number == of.0.1) in
-      let found = some-of (λ (arrival : Arrival). arrival.message) (find test (arrivals_of log)) message of.1 in
+      let found = map_some (λ (arrival : Arrival). arrival.message) (find test (arrivals_of log)) message of.2 in
       (found.0, arrival-seen found.0 (find_has test (arrivals_of log) found.0 found.1).0, found.2)
 
   -- each update is of a transaction
@@ -105,7 +84,8 @@ module _ (shards : ℕ) (seen : Account) (shard : ℕ) (log : List ShardEntry) (
 
   kept-of-tx : (v : Name) (stamp : Stamp) → Contains (kept_stamps v log) stamp → (update : Update) × (IsUpdateOfTx seen update) × (update.stamp ≡ stamp)
   kept-of-tx v stamp h =
-      let from = map_has (λ (update : Update). update.stamp) (updates_of v log) stamp (in-drop (dropped_of v log) (update_stamps v log) stamp h) in
+      let from = map_has (λ (update : Update). update.stamp) (updates_of v log) stamp
+      (drop_has (dropped_of v log) (update_stamps v log) stamp h) in
       (from.0, update-of-tx v from.0 from.1, from.2)
 
   module _ (home : ℕ) (program : Begun) (begun : Contains (programs_of (gate_log seen home)) program) (v : Name) where

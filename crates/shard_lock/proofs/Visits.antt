@@ -1,10 +1,11 @@
 -- What a shard with notes has seen is enough for a visit, and after it all that its entries refer to is still seen.
-use Rattle.std.proofs.Common.{◌≡◌, ◌≢◌, inl, inr, ℕ, ◌<◌, ◌≤◌, List, [], ◌∷◌, ◌++◌, length, map, Contains, sym, ap, ◌∙◌, subst, append_assoc, arith}
+-- Used by `visit` and `visit_over`.
+use Rattle.std.proofs.Common.{◌≡◌, ◌≢◌, inl, inr, ℕ, ◌<◌, ◌≤◌, List, [], ◌∷◌, ◌++◌, length, map, Contains, sym, ap, ◌∙◌, subst, arith}
 use Rattle.std.specs.Prelude.{Result, Ok, Err, All}
 use Rattle.std.proofs.lemmas.Bool.{cases_lt}
 use Rattle.std.proofs.lemmas.List.{append-nil, get_or_past, length-append, length-map, map-append}
 use mathlib.Core.List.{IsPrefix}
-use Rattle.proof_base.proofs.Members.{has_head, has_none, only}
+use Rattle.weave_data.proofs.Members.{has_head, has_none, only}
 use Rattle.weave_data.specs.Names.{shard_of}
 use Rattle.weave_data.specs.declared.name.Name.{Name}
 use Rattle.graph_ops.specs.Operations.{State}
@@ -32,17 +33,18 @@ use Rattle.seen_logs.specs.Seen.{GatesGoOn, IsWithin}
 use Rattle.chronicle.specs.declared.note.Note.{Note}
 use Rattle.chronicle.specs.Logs.{Log}
 use Rattle.chronicle.specs.Passes.{noted}
+use Rattle.chronicle.proofs.Logs.{prefix_trans}
 use Rattle.oracle_lock.specs.Entries.{gate_entries, oracle_entries, oracle_pair, oracle_pairs}
 use Rattle.oracle_lock.specs.Seen.{gates_noted, of_gates}
+use Rattle.oracle_lock.proofs.Settling.{pairs_back}
 use Rattle.shard_lock.specs.declared.notes.ShardNotes.{ShardNotes}
-use Rattle.shard_lock.specs.LowerLaws.{LowerLaws}
-use Rattle.shard_lock.specs.Notes.{IsKept, NotedView, seen_of}
+use Rattle.shard_lock.specs.LowerLaws.{LawsForShardNotes}
+use Rattle.shard_lock.specs.Notes.{ShardIsKept, NotedShardView, seen_of}
 use Rattle.shard_lock.specs.Visited.{VisitsOver}
 use Rattle.shard_lock.specs.VisitLaws.{VisitLaws}
 use Rattle.shard_lock.proofs.Accounts.{at_number, grows, same_on}
 use Rattle.shard_lock.proofs.Adding.{kept_still, kept_then}
 use Rattle.shard_lock.proofs.Begins.{running-begun}
-use Rattle.shard_lock.proofs.Lending.{pairs-back}
 use Rattle.shard_lock.proofs.Reading.{visits-as-seen}
 use Rattle.shard_lock.proofs.Updates.{asked-begun, other-ids}
 
@@ -52,7 +54,7 @@ pub stamp-stays : ((seen next : Account) → GatesGoOn seen next → (deed : Ora
 stamp-stays stays seen next on event h =
     stays seen next on (Settled [] event []) (λ stamp has. subst (λ (s : Stamp). IsBegunStamp seen s) (only event stamp has) h) event (has_head event [])
 
-module _ (laws : LowerLaws) (visits : VisitLaws) (shard : ShardView) (shards : ℕ) (notes : ShardNotes) (kept : IsKept shard shards notes)
+module _ (laws : LawsForShardNotes) (visits : VisitLaws) (shard : ShardView) (shards : ℕ) (notes : ShardNotes) (kept : ShardIsKept shard shards notes)
     (few : shard.gates ≤ 8) (home : ℕ) (program : Begun) (runs : Contains (running_of (gate_log (seen_of shard notes) home)) program)
     (v : Name) (here : shard_of v shards ≡ shard.number) where
   abbrev seen : Account
@@ -96,14 +98,14 @@ module _ (laws : LowerLaws) (visits : VisitLaws) (shard : ShardView) (shards : �
       (asked-begun shards seen shard.number shard.log own kept.refers kept.legal.gate_logs home program begun v event h)
 
 -- what a visit asks, in one
-pub record MayVisit (v : NotedView) (request : ℕ) (stamp : Stamp) (vertex : Name) : Type 0 where
+pub record MayVisit (v : NotedShardView) (request : ℕ) (stamp : Stamp) (vertex : Name) : Type 0 where
   pub few : v.shard.gates ≤ 8
   pub here : shard_of vertex v.shards ≡ v.shard.number
   pub home : ℕ
   pub by : ℕ
   pub runs : Contains (running_of (gate_log (seen_of v.shard v.notes) home)) (record { author = by; request = request; stamp = stamp })
 
-pub may_visit : (v : NotedView) (request : ℕ) (stamp : Stamp) (vertex : Name) (many : ℕ) → v.shard.gates ≡ many → many ≤ 8
+pub may_visit : (v : NotedShardView) (request : ℕ) (stamp : Stamp) (vertex : Name) (many : ℕ) → v.shard.gates ≡ many → many ≤ 8
     → shard_of vertex v.shards ≡ v.shard.number
     → ((home : ℕ) × (by : ℕ)
     × Contains (running_of (gate_log (seen_of v.shard v.notes) home)) (record { author = by; request = request; stamp = stamp }))
@@ -122,12 +124,9 @@ may_visit v request stamp vertex many same few here runs = record {
 abbrev pub with_oracle : ShardNotes → Note OracleDeed → ShardNotes
 with_oracle notes note = record { gates = notes.gates; store = notes.store; oracle = note }
 
-then-on : {A : Type 0} (a b c : List A) → IsPrefix a b → IsPrefix b c → IsPrefix a c
-then-on a b c p q = (p.0 ++ q.0, sym (append_assoc a p.0 q.0) ∙ (ap (λ l. l ++ q.0) p.1 ∙ q.1))
-
 -- the oracle's note has seen more
-more-noted : LowerLaws → (shard : ShardView) (shards : ℕ) (notes : ShardNotes) (note : Note OracleDeed) → IsKept shard shards notes
-    → IsPrefix (noted notes.oracle) (noted note) → IsOracleLog (oracle_entries (noted note)) → IsKept shard shards (with_oracle notes note)
+more-noted : LawsForShardNotes → (shard : ShardView) (shards : ℕ) (notes : ShardNotes) (note : Note OracleDeed) → ShardIsKept shard shards notes
+    → IsPrefix (noted notes.oracle) (noted note) → IsOracleLog (oracle_entries (noted note)) → ShardIsKept shard shards (with_oracle notes note)
 more-noted laws shard shards notes note kept on right =
     let before = seen_of shard notes in
     let after = seen_of shard (with_oracle notes note) in
@@ -165,7 +164,7 @@ module _ (author request : ℕ) (stamp : Stamp) (v : Name) (old new : ShardView)
       → VisitsOver number request stamp v was is first own last before result
   visits-since result number was is first their last author_is old_is new_is on own_is has_is over =
       let moved : VisitsOver author request stamp v old new first mine has before result = record {
-        begins = then-on first had (oracle_pairs before) on over.begins;
+        begins = prefix_trans first had (oracle_pairs before) on over.begins;
         own_then = over.own_then;
         ready = over.ready;
         state = over.state;
@@ -181,7 +180,7 @@ module _ (author request : ℕ) (stamp : Stamp) (v : Name) (old new : ShardView)
       subst (λ (z : ℕ × ShardView × ShardView × Log OracleDeed × Log OracleDeed). VisitsOver z.0 request stamp v z.1 z.2 first z.3 z.4 before result)
       (λ i. (author_is i, old_is i, new_is i, own_is i, has_is i)) moved
 
-  module _ (laws : LowerLaws) (visits : VisitLaws) (shards : ℕ) (notes : ShardNotes) (kept : IsKept old shards notes) (few : old.gates ≤ 8)
+  module _ (laws : LawsForShardNotes) (visits : VisitLaws) (shards : ℕ) (notes : ShardNotes) (kept : ShardIsKept old shards notes) (few : old.gates ≤ 8)
       (home by : ℕ)
       (runs : Contains (running_of (gate_log (seen_of old notes) home)) (record { author = by; request = request; stamp = stamp }))
       (here : shard_of v shards ≡ old.number) (note : Note OracleDeed) (one : noted note ≡ has) (on : IsPrefix (noted notes.oracle) had)
@@ -195,11 +194,12 @@ module _ (author request : ℕ) (stamp : Stamp) (v : Name) (old new : ShardView)
     abbrev pairs : List Given
     pairs = pairs_of_log before
 
-    kept-later : (result : Result State VisitFault) → VisitsOver author request stamp v old new had mine has before result → IsKept old shards later
+    kept-later : (result : Result State VisitFault) → VisitsOver author request stamp v old new had mine has before result → ShardIsKept old shards later
     kept-later result over =
         more-noted laws old shards notes note kept
         (subst (λ (l : Log OracleDeed). IsPrefix (noted notes.oracle) l) (sym one)
-        (then-on (noted notes.oracle) (oracle_pairs before) has (then-on (noted notes.oracle) had (oracle_pairs before) on over.begins)
+        (prefix_trans (noted notes.oracle) (oracle_pairs before) has
+        (prefix_trans (noted notes.oracle) had (oracle_pairs before) on over.begins)
         (goes-on result over)))
         (subst (λ (l : Log OracleDeed). IsOracleLog (oracle_entries l)) (sym one) right)
 
@@ -209,7 +209,7 @@ module _ (author request : ℕ) (stamp : Stamp) (v : Name) (old new : ShardView)
     refers state over =
         let more = map oracle_entry (entries_of_visit pairs author stamp v old.log) in
         let logged : oracle_entries (noted note) ≡ before ++ more
-        = ap (λ (l : Log OracleDeed). oracle_entries l) (one ∙ over.logged) ∙ pairs-back (before ++ more) in
+        = ap (λ (l : Log OracleDeed). oracle_entries l) (one ∙ over.logged) ∙ pairs_back (before ++ more) in
         visits-as-seen visits shards (seen_of old later) old.number old.log
         (has-seen laws visits old shards notes kept few home program runs v here) before author request stamp v here
         (kept-for laws visits old shards notes kept few home program runs v here) logged
@@ -218,13 +218,13 @@ module _ (author request : ℕ) (stamp : Stamp) (v : Name) (old new : ShardView)
 
     -- all is still seen
     pub visit-keeps : (result : Result State VisitFault) → VisitsOver author request stamp v old new had mine has before result
-        → IsKept new shards later
+        → ShardIsKept new shards later
     visit-keeps (Ok state) over =
         kept_then laws old new shards later (kept-later (Ok state) over) rules author
         (Visited request stamp v (updates_read pairs stamp v old.log) (is_settled_by pairs stamp v old.log)) over.entry (refers state over)
     visit-keeps (Err fault) over = kept_still laws old new shards later (kept-later (Err fault) over) rules author over.unchanged
 
-    -- the shard has its number and as many gatekeepers as before
+    -- the shard's number and its number of gatekeepers are as before
     pub same-shard : (result : Result State VisitFault) → VisitsOver author request stamp v old new had mine has before result
         → (new.number ≡ old.number) × (new.gates ≡ old.gates)
     same-shard (Ok state) over = (over.entry.number, over.entry.gates)

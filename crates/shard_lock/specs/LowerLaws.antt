@@ -1,4 +1,4 @@
--- The laws of the crates below that this crate stands on, in one. No public contract cites this.
+-- The laws of the crates below that this crate relies on, in one record. No public contract cites this.
 use Rattle.std.specs.Prelude.{◌≡◌, ℕ, ◌≤◌, List, length, Some, None}
 use Rattle.weave_entries.specs.declared.message.Message.{Message}
 use Rattle.weave_entries.specs.declared.shard_log.ShardDeed.{ShardDeed}
@@ -16,7 +16,7 @@ use Rattle.seen_logs.specs.References.{ShardRefersAs}
 use Rattle.seen_logs.specs.Seen.{AreLegal, GatesGoOn, IsWithin, ShardRefersWithin}
 
 -- what was seen goes on, and heads pass
-pub record LowerLaws : Type 0 where
+pub record LawsForShardNotes : Type 0 where
   pub notes : (shards : ℕ) (seen next : Account) → GatesGoOn seen next
       → IsBeginningOf seen.store next.store → IsBeginningOf seen.oracle next.oracle → (shard : ℕ)
       → IsBeginningOf (shard_log seen shard) (shard_log next shard) → ShardRefersWithin shards seen shard

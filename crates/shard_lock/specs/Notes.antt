@@ -48,14 +48,14 @@ frame_of shard shards notes = shard_frame shard.number shard.gates shards (lock_
     (lock_noted notes.oracle) (map lock_noted notes.gates.items)
 
 -- a shard with notes as contracts see it
-pub record NotedView : Type 0 where
+pub record NotedShardView : Type 0 where
   pub shard : ShardView
   pub shards : ℕ
   pub notes : ShardNotes
 
 -- What a shard's type keeps. There is a note of each gatekeeper's lock. Each list that was seen is legal, and all that
 -- the log's entries refer to was seen.
-pub record IsKept (shard : ShardView) (shards : ℕ) (notes : ShardNotes) : Type 0 where
+pub record ShardIsKept (shard : ShardView) (shards : ℕ) (notes : ShardNotes) : Type 0 where
   pub number : shard.number < shards
   pub gates : length notes.gates.items ≡ shard.gates
   pub legal : AreLegal shard.gates shards (seen_of shard notes)

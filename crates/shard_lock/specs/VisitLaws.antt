@@ -1,4 +1,4 @@
--- The laws of the crates below that a visit stands on, in one. No public contract cites this.
+-- The laws of the crates below that a visit relies on, in one record. No public contract cites this.
 use Rattle.std.specs.Prelude.{◌≡◌, ◌≢◌, ◌↔◌, ℕ, ◌+◌, ◌<◌, ◌≤◌, List, [], ◌∷◌, ◌++◌, map, take, length, slice_get, AllPairs, Contains, IsTrue, Some}
 use Rattle.weave_data.specs.declared.name.Name.{Name}
 use Rattle.weave_data.specs.Names.{shard_of}

@@ -18,7 +18,8 @@ use Rattle.oracle_lock.specs.Entries.{oracle_entries, oracle_pairs}
 -- The oracle's log was `before`, which begins with the list that had been seen, and has this author's own entries. Then
 -- the list `has` was seen, which is the log after the visit. The answer and both entries are those of the shard's rule
 -- over `before`. At a refusal, and out of memory, nothing was added.
-pub record VisitsOver (author request : ℕ) (stamp : Stamp) (v : Name) (old new : ShardView) (had own has : Log OracleDeed)
+pub record VisitsOver (author request : ℕ) (stamp : Stamp) (v : Name) (old new : ShardView)
+    (had own has : Log OracleDeed)
     (before : List OracleEntry) (result : Result State VisitFault) : Type 0 where
   pub begins : IsPrefix had (oracle_pairs before)
   pub own_then : entries_of author (oracle_pairs before) ≡ own

@@ -41,7 +41,7 @@ where
     S: Machine<Entry = StoreDeed>,
     O: Machine<Entry = OracleDeed>,
 {
-    /// A shard beside these locks.
+    /// A shard with these locks.
     pub fn new(
         shard: Shard,
         shards: u32,

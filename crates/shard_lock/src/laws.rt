@@ -13,11 +13,11 @@ ghost use Rattle.seen_logs.specs.Seen.{AreLegal, ShardRefersWithin};
 ghost use Rattle.chronicle.specs.Logs.{Log};
 ghost use Rattle.shard_lock.specs.declared.notes.ShardNotes.{ShardNotes};
 ghost use Rattle.shard_lock.specs.Entries.{shard_entries, shard_pair};
-ghost use Rattle.shard_lock.specs.Notes.{IsKept, seen_of};
+ghost use Rattle.shard_lock.specs.Notes.{ShardIsKept, seen_of};
 
 use crate::lower_laws::the_crates_below_keep_their_laws;
 
-/// A shard's log is the one that its lock has as pairs, and the other way round.
+/// A shard's entries come back from the pairs that its lock has, and the pairs from the entries.
 pub fn entries_come_back()
     ensures log { (log : List ShardEntry) → shard_entries (map shard_pair log) ≡ log }
     ensures pairs { (log : Log ShardDeed) → map shard_pair (shard_entries log) ≡ log }
@@ -31,7 +31,7 @@ pub fn notes_of_whole_logs_are_enough()
         → ShardRefersWithin shards account shard.number
         → ((k : ℕ) → gate_log (seen_of shard notes) k ≡ gate_log account k)
         → (seen_of shard notes).store ≡ account.store → (seen_of shard notes).oracle ≡ account.oracle
-        → shard.log ≡ shard_log account shard.number → IsKept shard shards notes }
+        → shard.log ≡ shard_log account shard.number → ShardIsKept shard shards notes }
 {
     the_crates_below_keep_their_laws();
 }

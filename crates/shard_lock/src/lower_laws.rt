@@ -1,5 +1,5 @@
 //! The laws of the crates below, in one.
-ghost use Rattle.shard_lock.specs.LowerLaws.{LowerLaws};
+ghost use Rattle.shard_lock.specs.LowerLaws.{LawsForShardNotes};
 ghost use Rattle.shard_lock.specs.VisitLaws.{VisitLaws};
 
 use seen_logs::laws::{
@@ -15,9 +15,9 @@ use weave_account::laws::{
 };
 use weave_entries::laws::kept_updates_are_read_like_all;
 
-/// The laws of the crates below that this crate stands on.
+/// The laws of the crates below that this crate relies on.
 pub(crate) fn the_crates_below_keep_their_laws()
-    ensures { LowerLaws }
+    ensures { LawsForShardNotes }
 {
     beginnings_are_legal();
     heads_pass();
@@ -26,7 +26,7 @@ pub(crate) fn the_crates_below_keep_their_laws()
     shards_have_seen();
 }
 
-/// The laws that a visit stands on.
+/// The laws that a visit relies on.
 pub(crate) fn visits_are_right()
     ensures { VisitLaws }
 {

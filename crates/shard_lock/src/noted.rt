@@ -7,7 +7,7 @@ ghost use Rattle.weave_entries.specs.declared.shard_log.ShardEntry.{ShardEntry};
 ghost use Rattle.weave_entries.specs.GateReplay.{running_of};
 ghost use Rattle.weave_entries.specs.ShardReplay.{arrived_at, bound_of, processed_count};
 ghost use Rattle.weave_entries.specs.ShardRules.{IsShardLog, IsTakable};
-ghost use Rattle.shard_node.specs.Shards.{AddsEntry, IsNext, IsRightlyUnapplied};
+ghost use Rattle.shard_node.specs.Shards.{AddsEntry, CanApplyHead, IsRightlyUnapplied};
 ghost use Rattle.weave_account.specs.Account.{gate_log};
 ghost use Rattle.weave_account.specs.GoesOn.{IsBeginningOf};
 ghost use Rattle.seen_logs.specs.References.{ArrivesAsSeen};
@@ -20,7 +20,7 @@ ghost use Rattle.lock_row.specs.Meetings.{AllMet, HaveMet};
 ghost use Rattle.oracle_lock.specs.Entries.{oracle_entries};
 ghost use Rattle.oracle_lock.specs.Seen.{gates_noted, gates_seen, of_gates, AreGateLogs, OracleIsKept};
 ghost use Rattle.shard_lock.specs.Frames.{shard_frame};
-ghost use Rattle.shard_lock.specs.Notes.{frame_of, seen_of, seen_by_passes, IsKept};
+ghost use Rattle.shard_lock.specs.Notes.{frame_of, seen_of, seen_by_passes, ShardIsKept};
 ghost use Rattle.shard_lock.specs.Visited.{VisitsOver};
 
 use crate::lower_laws::{the_crates_below_keep_their_laws, visits_are_right};
@@ -49,13 +49,13 @@ pub struct NotedShard {
 }
 
 impl Model for NotedShard {
-    ghost use Rattle.shard_lock.specs.Notes.{NotedView, IsKept};
+    ghost use Rattle.shard_lock.specs.Notes.{NotedShardView, ShardIsKept};
 
-    ghost Value = { NotedView };
+    ghost Value = { NotedShardView };
 
     ghost view = { λ n. record { shard = n.shard; shards = n.shards; notes = n.notes } };
 
-    ghost invariant = { λ n. IsKept n.shard n.shards n.notes };
+    ghost invariant = { λ n. ShardIsKept n.shard n.shards n.notes };
 }
 
 impl Machine for NotedShard {
@@ -73,7 +73,7 @@ impl Machine for NotedShard {
 impl NotedShard {
     /// A shard, one of this many, with these notes, which have seen all that its log refers to.
     pub fn new(shard: Shard, shards: u32, notes: ShardNotes) -> NotedShard
-        requires { IsKept shard shards notes }
+        requires { ShardIsKept shard shards notes }
         ensures shard { result.shard ≡ shard }
         ensures shards { result.shards ≡ shards }
         ensures notes { result.notes ≡ notes }
@@ -95,7 +95,7 @@ impl NotedShard {
 
     /// What it keeps: all that its log refers to was seen, and each list that was seen is legal.
     pub fn shows_what_it_keeps(&self)
-        ensures { IsKept self.now.shard self.now.shards self.now.notes }
+        ensures { ShardIsKept self.now.shard self.now.shards self.now.notes }
     {
         let _shard = &self.shard;
     }
@@ -182,7 +182,7 @@ impl NotedShard {
         requires { gate < self.old.shard.gates }
         ensures shards { self.new.shards ≡ self.old.shards }
         ensures notes { self.new.notes ≡ self.old.notes }
-        ensures next { OnOk result (IsNext gate self.old.shard.log) }
+        ensures next { OnOk result (CanApplyHead gate self.old.shard.log) }
         ensures entry { OnOk result (AddsEntry self.old.shard self.new.shard author
             (ShardDeed.Applied gate (processed_count gate self.old.shard.log + 1))) }
         ensures refused { IfErr result (λ fault. IsRightlyUnapplied gate self.old.shard.log fault) }
@@ -194,9 +194,9 @@ impl NotedShard {
         applied
     }
 
-    /// Reads a vertex for a program in this hold, over the oracle in one hold of its lock. The passes have seen what the
-    /// notes have, in which the program is running. Then they have seen all to which the oracle's entries refer. It may
-    /// wait.
+    /// Reads a vertex for a program in this hold, over the oracle in one hold of its lock. The passes have seen what
+    /// the notes have, in which the program is running. Then they have seen all to which the oracle's entries refer. It
+    /// may wait.
     pub fn visit<R: Wait, G: Machine<Entry = GateDeed>>(
         &mut self,
         rt: &R,
@@ -215,7 +215,8 @@ impl NotedShard {
         requires passes { length passes.old ≡ length gates.now }
         requires all_ready { AreReady gates.now passes.old }
         requires legal { AreGateLogs self.old.shards (gates_seen passes.old) }
-        requires met { GatesGoOn (of_gates (gates_noted self.old.notes.gates.items)) (of_gates (gates_seen passes.old)) }
+        requires met { GatesGoOn (of_gates (gates_noted self.old.notes.gates.items))
+            (of_gates (gates_seen passes.old)) }
         requires gates { self.old.shard.gates ≡ length gates.now }
         requires few { length gates.now ≤ 8 }
         requires kept_here { shard_of vertex self.old.shards ≡ self.old.shard.number }
@@ -236,7 +237,8 @@ impl NotedShard {
         ensures passes_on { GatesGoOn (of_gates (gates_seen passes.old)) (of_gates (gates_seen passes.new)) }
         ensures legal { AreGateLogs self.old.shards (gates_seen passes.new) }
         ensures oracle_kept { OracleIsKept self.old.shards (gates_seen passes.new) (oracle_entries (seen pass.new)) }
-        ensures met { (notes : List (Note GateDeed)) × (later : List (Note GateDeed)) × (length notes ≡ length gates.now)
+        ensures met { (notes : List (Note GateDeed)) × (later : List (Note GateDeed))
+            × (length notes ≡ length gates.now)
             × AllMet gates.now passes.old passes.new notes later (length gates.now) }
         ensures answer { (before : List OracleEntry) × VisitsOver (number_of pass.old) request stamp vertex
             self.old.shard self.new.shard (seen pass.old) (own pass.old) (seen pass.new) before result }

@@ -100,7 +100,8 @@ fn visit_with(
     ensures notes { oracle.new.gates ≡ oracle.old.gates }
     ensures ready { OnOk result (first_unready shard.old.gates stamp shard.old.log ≡ None) }
     ensures state { IfOk result (λ state. state ≡ state_of_updates
-        (take (updates_read (pairs_of_log oracle.old.oracle) stamp vertex shard.old.log) (updates_of vertex shard.old.log))) }
+        (take (updates_read (pairs_of_log oracle.old.oracle) stamp vertex shard.old.log)
+        (updates_of vertex shard.old.log))) }
     ensures entry { OnOk result (AddsEntry shard.old shard.new author (ShardDeed.Visited request stamp vertex
         (updates_read (pairs_of_log oracle.old.oracle) stamp vertex shard.old.log)
         (is_settled_by (pairs_of_log oracle.old.oracle) stamp vertex shard.old.log))) }

@@ -1,4 +1,5 @@
 -- The chain of a vertex after a collection is that of its updates, with what the collection dropped.
+-- Used by Keeping.
 use Rattle.std.proofs.Common.{◌≡◌, ℕ, zero, suc, ◌+◌, ◌-◌, ◌≤◌, Bool, true, false, List, [], ◌∷◌, drop, length, None, Some, refl, ap, ◌∙◌, arith}
 use Rattle.std.specs.Prelude.{◌==◌, cond, pred, max}
 use Rattle.std.specs.Option.{option_map}
@@ -8,33 +9,13 @@ use Rattle.graph_ops.specs.VertexOps.{state_after}
 use Rattle.vector_stamp.specs.declared.clock.Clock.{Clock}
 use Rattle.vector_stamp.specs.Order.{is_before}
 use Rattle.vector_stamp.specs.Seeing.{with_front, last_place}
+use Rattle.vector_stamp.proofs.LastPlaces.{place-drop}
+use Rattle.vector_stamp.proofs.Seen.{place-within}
 use Rattle.version_chain.specs.declared.version.Version.{Version}
 use Rattle.version_chain.specs.Collection.{older_versions, collected}
 use Rattle.weave_entries.specs.ShardReplay.{Update, older_than}
 use Rattle.shard_node.specs.Keeping.{versions_from}
 use Rattle.shard_node.proofs.Updates.{chain_from}
-
--- The last element that passes a test
-
-front-within : (front : Bool) (place n : ℕ) → place ≤ n → with_front front place ≤ suc n
-front-within true zero n within = omega arith
-front-within false zero n within = omega arith
-front-within front (suc place) n within = omega (arith, within)
-
-front-less : (front : Bool) (place n : ℕ) → place - n ≡ with_front front place - suc n
-front-less true zero n = omega arith
-front-less false zero n = omega arith
-front-less front (suc place) n = omega arith
-
-module _ {A : Type 0} (test : A → Bool) where
-  place-within : (xs : List A) → last_place test xs ≤ length xs
-  place-within [] = omega arith
-  place-within (x ∷ xs) = front-within (test x) (last_place test xs) (length xs) (place-within xs)
-
-  place-drop : (n : ℕ) (xs : List A) → last_place test (drop n xs) ≡ last_place test xs - n
-  place-drop zero xs = omega arith
-  place-drop (suc n) [] = omega arith
-  place-drop (suc n) (x ∷ xs) = place-drop n xs ∙ front-less (test x) (last_place test xs) n
 
 pred-is : (n : ℕ) → pred n ≡ n - 1
 pred-is zero = omega arith

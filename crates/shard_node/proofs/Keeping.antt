@@ -1,13 +1,15 @@
 -- What a shard keeps goes on being the replay of its log, with each deed.
+-- Used by `apply`, `arrive`, `collect`, `new`, `visit` and Ready.
 use Rattle.std.proofs.Common.{◌≡◌, ◌≢◌, ℕ, ◌+◌, ◌-◌, ◌<◌, ◌≤◌, Bool, true, false, cond, List, [], ◌∷◌, ◌++◌, length, slice_get, slice_set, Option, None, Some, is_some, inl, inr, refl, sym, ap, subst, ◌∙◌, arith}
 use Rattle.std.specs.Prelude.{All}
 use Rattle.std.specs.Option.{option_map}
 use Rattle.std.proofs.lemmas.Bool.{cases_eq, cases_lt, eq-eqb, ne_eqb}
 use Rattle.std.proofs.lemmas.Bool.Decides.{leb_tells}
 use Rattle.std.proofs.lemmas.List.{length-set}
-use Rattle.std.proofs.lemmas.Option.{slice_get_within, get_or_from_slice_get}
-use Rattle.proof_base.proofs.Entries.{each_none, each_push}
-use Rattle.proof_base.proofs.Members.{has_none}
+use Rattle.std.proofs.lemmas.Option.{slice_get_within, get_or_from_slice_get, same_Some}
+use Rattle.weave_data.proofs.Entries.{each_none, each_push}
+use Rattle.weave_data.proofs.Members.{has_none}
+use Rattle.weave_data.proofs.Lists.{get_set_here, get_set_other}
 use Rattle.weave_data.specs.declared.name.Name.{Name}
 use Rattle.vector_stamp.specs.declared.clock.Clock.{Clock}
 use Rattle.vector_stamp.specs.declared.clock.Stamp.{Stamp}
@@ -18,14 +20,12 @@ use Rattle.version_graph.specs.Graphs.{Chains, chain_of, after_parts}
 use Rattle.weave_entries.specs.declared.message.Message.{Message}
 use Rattle.weave_entries.specs.declared.shard_log.ShardEntry.{ShardEntry}
 use Rattle.weave_entries.specs.declared.shard_log.ShardDeed.TheVariants.{Arrived, Applied, Visited, Collected}
-use Rattle.weave_entries.specs.ShardReplay.{arrived_at, processed_by, processed_count, head_of, updates_in, updates_of, waits_at, first_unready, dropped_after, bound_of}
-use Rattle.vector_stamp.specs.Precedence.{Given}
-use Rattle.weave_entries.specs.ShardRules.{dropped_of, updates_read, is_settled_by, IsKeptFor, IsTakable, PassesAt, FitsShard}
+use Rattle.weave_entries.specs.ShardReplay.{arrived_at, processed_by, processed_count, head_of, updates_in, updates_of, waits_at, dropped_after, bound_of}
+use Rattle.weave_entries.specs.ShardRules.{dropped_of, IsTakable, PassesAt, FitsShard, ArrivesOnce, IsReadRightly}
 use Rattle.shard_node.specs.declared.waiting.Waiting.{Waiting}
 use Rattle.shard_node.specs.Keeping.{chain_in_if, collected_if, head_in, LeadsTo, IsInboxOf, IsReplayOf}
 use Rattle.shard_node.proofs.Leading.{stamp_in, stamp_at, leads-new, leads-some, leads-stamp, leads-message, leads-still}
-use Rattle.shard_node.proofs.Places.{get_set_here, get_set_other, some_is}
-use Rattle.shard_node.proofs.Replay.{arrived-still, arrived-new, arrived-others, count-still, count-applied, updates-still, updates-applied, all-still, all-applied, dropped-push}
+use Rattle.weave_entries.proofs.ShardLogs.{arrived-still, arrived-new, arrived-others, count-still, count-applied, updates-still, updates-applied, all-still, all-applied, dropped-push}
 use Rattle.shard_node.proofs.Updates.{chain_from, parts-on, still-few}
 use Rattle.shard_node.proofs.Collecting.{collected-from, few-dropped}
 
@@ -141,7 +141,7 @@ few-by (Some bound) v log dropped few = few-dropped bound dropped (updates_of v 
 -- All that is kept
 
 module _ (gates : ℕ) (inboxes : List (Incoming Waiting)) (chains : Chains) (log : List ShardEntry) (kept : IsReplayOf gates inboxes chains log) where
-  -- as many are dropped as before, by a deed that drops nothing
+  -- a deed that drops nothing leaves the number dropped as it was
   dropped-same : (entry : ShardEntry) → ((v : Name) (dropped : ℕ) → dropped_after v log entry.deed dropped ≡ dropped) → (v : Name) → dropped_of v (log ++ entry ∷ []) ≡ dropped_of v log
   dropped-same entry still v = dropped-push v [] log entry 0 ∙ still v (dropped_of v log)
 
@@ -165,80 +165,95 @@ module _ (gates : ℕ) (inboxes : List (Incoming Waiting)) (chains : Chains) (lo
       let count = kept.count in
       elim (cases_eq other gate) [
         | inl same ↦
-            let is : next ≡ inbox = some_is (sym (get_set_here inboxes gate next (omega (arith, below, count))) ∙ ap (slice_get (slice_set inboxes gate next)) (sym same) ∙ at) in
+            let is : next ≡ inbox = same_Some _ _
+            (sym (get_set_here inboxes gate next (omega (arith, below, count)))
+            ∙ ap (slice_get (slice_set inboxes gate next)) (sym same) ∙ at) in
             subst (λ n. IsInboxOf n longer inbox) (sym same) (subst (IsInboxOf gate longer) is here)
         | inr differ ↦ others other inbox differ (kept.channels other inbox (sym (get_set_other inboxes gate other next differ) ∙ at))
       ]
 
-  -- a message arrived
-  pub keeps_arrived : WaitingLaws stamp_at → (author gate number : ℕ) (message : Message) (waiting : Waiting) (inbox next : Incoming Waiting) (longer : List ShardEntry) → waiting.place ≡ length log → waiting.stamp ≡ message.stamp → gate < gates → 1 ≤ number → IsTakable message → arrived_at gate number log ≡ None → slice_get inboxes gate ≡ Some inbox → next ≡ after_arrival number waiting inbox → longer ≡ log ++ record { author = author; deed = Arrived gate number message } ∷ [] → IsReplayOf gates (slice_set inboxes gate next) chains longer
-  keeps_arrived laws author gate number message waiting inbox next longer place stamp below some takable none at is longer_is =
-      let entry : ShardEntry = record { author = author; deed = Arrived gate number message } in
-      let here : IsInboxOf gate (log ++ entry ∷ []) next = subst (IsInboxOf gate (log ++ entry ∷ [])) (sym is) (inbox-arrives gate log inbox (kept.channels gate inbox at) laws author number message waiting place stamp some none) in
-      let still : (v : Name) (dropped : ℕ) → dropped_after v log entry.deed dropped ≡ dropped = λ v dropped. refl in
-      subst (λ (l : List ShardEntry). IsReplayOf gates (slice_set inboxes gate next) chains l) (sym longer_is) (record {
-        some_gate = kept.some_gate;
-        few_gates = kept.few_gates;
-        count = length-set inboxes gate next ∙ kept.count;
-        channels = placed gate next (log ++ entry ∷ []) below here (λ other one differ of. inbox-still other log one of entry (count-still log entry refl other) (λ k. arrived-others log author gate number message other k (λ same. differ (sym same.0))));
-        chains_are = chains-still entry refl still;
-        takable = λ at_gate k one arrived. elim (cases_eq gate at_gate) [
-          | inl same ↦ elim (cases_eq number k) [
-            | inl also ↦
-                let found : Some message ≡ Some one = sym (arrived-new log author gate number message none) ∙ (λ i. arrived_at (same i) (also i) (log ++ entry ∷ [])) ∙ arrived in
-                subst IsTakable (some_is found) takable
-            | inr differ ↦ kept.takable at_gate k one (sym (arrived-others log author gate number message at_gate k (λ both. differ both.1)) ∙ arrived)
-          ]
-          | inr differ ↦ kept.takable at_gate k one (sym (arrived-others log author gate number message at_gate k (λ both. differ both.0)) ∙ arrived)
-        ];
-        all_arrived = all-still log entry refl kept.all_arrived;
-        some_kept = some-still entry refl still;
-        rules = each_push (λ before one. FitsShard gates before one.deed) log entry kept.rules (record { gate_is = below; from_one = some; new = none; takable = takable });
-      })
+  module _ (laws : WaitingLaws stamp_at) (author gate number : ℕ) (message : Message) (inbox next : Incoming Waiting)
+      (longer : List ShardEntry) where
+    -- a message arrived
+    pub keeps_arrived : (waiting : Waiting) → waiting.place ≡ length log → waiting.stamp ≡ message.stamp
+        → ArrivesOnce gates log gate number message → slice_get inboxes gate ≡ Some inbox
+        → next ≡ after_arrival number waiting inbox
+        → longer ≡ log ++ record { author = author; deed = Arrived gate number message } ∷ []
+        → IsReplayOf gates (slice_set inboxes gate next) chains longer
+    keeps_arrived waiting place stamp once at is longer_is =
+        let entry : ShardEntry = record { author = author; deed = Arrived gate number message } in
+        let here : IsInboxOf gate (log ++ entry ∷ []) next = subst (IsInboxOf gate (log ++ entry ∷ [])) (sym is)
+        (inbox-arrives gate log inbox
+        (kept.channels gate inbox at) laws author number message waiting place stamp once.from_one once.new) in
+        let still : (v : Name) (dropped : ℕ) → dropped_after v log entry.deed dropped ≡ dropped = λ v dropped. refl in
+        subst (λ (l : List ShardEntry). IsReplayOf gates (slice_set inboxes gate next) chains l) (sym longer_is) (record {
+          some_gate = kept.some_gate;
+          few_gates = kept.few_gates;
+          count = length-set inboxes gate next ∙ kept.count;
+          channels = placed gate next (log ++ entry ∷ []) once.gate_is here
+              (λ other one differ of. inbox-still other log one of entry (count-still log entry refl other)
+              (λ k. arrived-others log author gate number message other k (λ same. differ (sym same.0))));
+          chains_are = chains-still entry refl still;
+          takable = λ at_gate k one arrived. elim (cases_eq gate at_gate) [
+            | inl same ↦ elim (cases_eq number k) [
+              | inl also ↦
+                  let found : Some message ≡ Some one = sym (arrived-new log author gate number message once.new)
+                  ∙ (λ i. arrived_at (same i) (also i) (log ++ entry ∷ [])) ∙ arrived in
+                  subst IsTakable (same_Some _ _ found) once.takable
+              | inr differ ↦ kept.takable at_gate k one (sym (arrived-others log author gate number message at_gate k (λ both. differ both.1)) ∙ arrived)
+            ]
+            | inr differ ↦ kept.takable at_gate k one (sym (arrived-others log author gate number message at_gate k (λ both. differ both.0)) ∙ arrived)
+          ];
+          all_arrived = all-still log entry refl kept.all_arrived;
+          some_kept = some-still entry refl still;
+          rules = each_push (λ before one. FitsShard gates before one.deed) log entry kept.rules once;
+        })
 
-  -- a head was processed
-  pub keeps_applied : WaitingLaws stamp_at
-      → (author gate number : ℕ) (head : Message) (inbox next : Incoming Waiting) (after : Chains) (longer : List ShardEntry)
-      → gate < gates → head_of gate log ≡ Some head → waits_at head log ≡ None → PassesAt log head
-      → slice_get inboxes gate ≡ Some inbox → next ≡ after_head stamp_at inbox → number ≡ inbox.processed + 1
-      → ((v : Name) → chain_of after v ≡ after_parts head.stamp v (chain_of chains v) head.parts)
-      → longer ≡ log ++ record { author = author; deed = Applied gate number } ∷ []
-      → IsReplayOf gates (slice_set inboxes gate next) after longer
-  keeps_applied laws author gate number head inbox next after longer below is in_turn passes at next_is number_is applied longer_is =
-      let channel = kept.channels gate inbox at in
-      let entry : ShardEntry = record { author = author; deed = Applied gate (processed_count gate log + 1) } in
-      let own : number ≡ processed_count gate log + 1 = number_is ∙ ap (λ n. n + 1) channel.processed in
-      let whole : longer ≡ log ++ entry ∷ [] = longer_is ∙ ap (λ (n : ℕ). log ++ record { author = author; deed = Applied gate n } ∷ []) own in
-      let here : IsInboxOf gate (log ++ entry ∷ []) next = subst (IsInboxOf gate (log ++ entry ∷ [])) (sym next_is) (inbox-advances gate log inbox channel laws author head is) in
-      let still : (v : Name) (dropped : ℕ) → dropped_after v log entry.deed dropped ≡ dropped = λ v dropped. refl in
-      subst (λ (l : List ShardEntry). IsReplayOf gates (slice_set inboxes gate next) after l) (sym whole) (record {
-        some_gate = kept.some_gate;
-        few_gates = kept.few_gates;
-        count = length-set inboxes gate next ∙ kept.count;
-        channels = placed gate next (log ++ entry ∷ []) below here (λ other one differ of. inbox-still other log one of entry (other_count author gate log other (λ same. differ (sym same))) (λ k. arrived-still log entry refl other k));
-        chains_are = λ v.
-            applied v
-            ∙ ap (λ (chain : Option ChainView). after_parts head.stamp v chain head.parts) (kept.chains_are v)
-            ∙ parts-on head.stamp v (dropped_of v log) (updates_of v log) head.parts (kept.some_kept v)
-            ∙ sym (λ i. chain_from (dropped-same entry still v i) (updates-applied log author gate (processed_count gate log + 1) head is kept.all_arrived v i));
-        takable = λ at_gate k one arrived. kept.takable at_gate k one (sym (arrived-still log entry refl at_gate k) ∙ arrived);
-        all_arrived = all-applied log author gate (processed_count gate log + 1) head is kept.all_arrived;
-        some_kept = λ v.
-            let few = still-few (dropped_of v log) (updates_of v log) (updates_in v head) (kept.some_kept v) in
-            let same = dropped-same entry still v in
-            let long : length (updates_of v (log ++ entry ∷ [])) ≡ length (updates_of v log ++ updates_in v head) = ap length (updates-applied log author gate (processed_count gate log + 1) head is kept.all_arrived v) in
-            omega (arith, few, same, long);
-        rules = each_push (λ before one. FitsShard gates before one.deed) log entry kept.rules (record { gate_is = below; number_is = refl; message = head; head = is; in_turn = in_turn; passes = passes });
-      })
+    -- a head was processed
+    pub keeps_applied : (after : Chains) → gate < gates → head_of gate log ≡ Some message → waits_at message log ≡ None
+        → PassesAt log message → slice_get inboxes gate ≡ Some inbox → next ≡ after_head stamp_at inbox
+        → number ≡ inbox.processed + 1 →
+        ((v : Name) → chain_of after v ≡ after_parts message.stamp v (chain_of chains v) message.parts)
+        → longer ≡ log ++ record { author = author; deed = Applied gate number } ∷ []
+        → IsReplayOf gates (slice_set inboxes gate next) after longer
+    keeps_applied after below is in_turn passes at next_is number_is applied longer_is =
+        let channel = kept.channels gate inbox at in
+        let entry : ShardEntry = record { author = author; deed = Applied gate (processed_count gate log + 1) } in
+        let own : number ≡ processed_count gate log + 1 = number_is ∙ ap (λ n. n + 1) channel.processed in
+        let whole : longer ≡ log ++ entry ∷ [] = longer_is ∙ ap (λ (n : ℕ). log ++ record { author = author; deed = Applied gate n } ∷ []) own in
+        let here : IsInboxOf gate (log ++ entry ∷ []) next = subst (IsInboxOf gate (log ++ entry ∷ [])) (sym next_is)
+        (inbox-advances gate log inbox channel laws author message is) in
+        let still : (v : Name) (dropped : ℕ) → dropped_after v log entry.deed dropped ≡ dropped = λ v dropped. refl in
+        subst (λ (l : List ShardEntry). IsReplayOf gates (slice_set inboxes gate next) after l) (sym whole) (record {
+          some_gate = kept.some_gate;
+          few_gates = kept.few_gates;
+          count = length-set inboxes gate next ∙ kept.count;
+          channels = placed gate next (log ++ entry ∷ []) below here (λ other one differ of. inbox-still other log one of entry (other_count author gate log other (λ same. differ (sym same))) (λ k. arrived-still log entry refl other k));
+          chains_are = λ v.
+              applied v
+              ∙ ap (λ (chain : Option ChainView). after_parts message.stamp v chain message.parts) (kept.chains_are v)
+              ∙ parts-on message.stamp v (dropped_of v log) (updates_of v log) message.parts (kept.some_kept v)
+              ∙ sym (λ i. chain_from (dropped-same entry still v i)
+              (updates-applied log author gate (processed_count gate log + 1) message is kept.all_arrived v i));
+          takable = λ at_gate k one arrived. kept.takable at_gate k one (sym (arrived-still log entry refl at_gate k) ∙ arrived);
+          all_arrived = all-applied log author gate (processed_count gate log + 1) message is kept.all_arrived;
+          some_kept = λ v.
+              let few = still-few (dropped_of v log) (updates_of v log) (updates_in v message) (kept.some_kept v) in
+              let same = dropped-same entry still v in
+              let long : length (updates_of v (log ++ entry ∷ [])) ≡ length
+              (updates_of v log ++ updates_in v message) = ap length
+              (updates-applied log author gate (processed_count gate log + 1) message is kept.all_arrived v) in
+              omega (arith, few, same, long);
+          rules = each_push (λ before one. FitsShard gates before one.deed) log entry kept.rules
+              (record { gate_is = below; number_is = refl; message = message; head = is; in_turn = in_turn; passes = passes });
+        })
 
   -- a program read a vertex
   pub keeps_visited : (author request : ℕ) (stamp : Stamp) (vertex : Name) (updates : ℕ) (settled : Bool) (longer : List ShardEntry)
-      → first_unready gates stamp log ≡ None → IsKeptFor stamp vertex log → updates ≤ length (updates_of vertex log)
-      → (pairs : List Given) → updates ≡ updates_read pairs stamp vertex log
-      → settled ≡ is_settled_by pairs stamp vertex log
+      → IsReadRightly gates log stamp vertex updates settled
       → longer ≡ log ++ record { author = author; deed = Visited request stamp vertex updates settled } ∷ []
       → IsReplayOf gates inboxes chains longer
-  keeps_visited author request stamp vertex updates settled longer ready base applied pairs updates_are settled_is longer_is =
+  keeps_visited author request stamp vertex updates settled longer right longer_is =
       let entry : ShardEntry = record { author = author; deed = Visited request stamp vertex updates settled } in
       let still : (v : Name) (dropped : ℕ) → dropped_after v log entry.deed dropped ≡ dropped = λ v dropped. refl in
       subst (λ (l : List ShardEntry). IsReplayOf gates inboxes chains l) (sym longer_is) (record {
@@ -250,7 +265,7 @@ module _ (gates : ℕ) (inboxes : List (Incoming Waiting)) (chains : Chains) (lo
         takable = λ at_gate k one arrived. kept.takable at_gate k one (sym (arrived-still log entry refl at_gate k) ∙ arrived);
         all_arrived = all-still log entry refl kept.all_arrived;
         some_kept = some-still entry refl still;
-        rules = each_push (λ before one. FitsShard gates before one.deed) log entry kept.rules (record { ready = ready; base = base; applied = applied; pairs = pairs; updates_are = updates_are; settled_is = settled_is });
+        rules = each_push (λ before one. FitsShard gates before one.deed) log entry kept.rules right;
       })
 
   -- old versions were dropped

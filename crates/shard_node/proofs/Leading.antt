@@ -1,8 +1,9 @@
 -- What waits on a channel leads to a message in the log, and goes on leading there when the log gets longer.
-use Rattle.std.proofs.Common.{◌≡◌, ℕ, zero, suc, List, [], ◌∷◌, ◌++◌, length, slice_get, Option, None, Some, is_some, refl, ap, ◌∙◌}
+-- Used by Keeping and Ready.
+use Rattle.std.proofs.Common.{◌≡◌, ℕ, List, [], ◌∷◌, ◌++◌, length, slice_get, Option, None, Some, is_some, refl, ap, ◌∙◌}
 use Rattle.std.specs.Option.{option_map, option_and_then}
 use Rattle.std.proofs.lemmas.Option.{option_and_then_some}
-use Rattle.proof_base.proofs.Lists.{get-here}
+use Rattle.weave_data.proofs.Lists.{get-here, get_kept}
 use Rattle.vector_stamp.specs.declared.clock.Stamp.{Stamp}
 use Rattle.weave_entries.specs.declared.message.Message.{Message}
 use Rattle.weave_entries.specs.declared.shard_log.ShardEntry.{ShardEntry}
@@ -18,13 +19,7 @@ stamp_in message = message.stamp
 abbrev pub stamp_at : Waiting → Stamp
 stamp_at waiting = waiting.stamp
 
--- an element stays in its place when more follow
-get_kept : {A : Type 0} (xs ys : List A) (place : ℕ) (x : A) → slice_get xs place ≡ Some x → slice_get (xs ++ ys) place ≡ Some x
-get_kept [] ys place x is = absurd cc
-get_kept (first ∷ xs) ys zero x is = is
-get_kept (first ∷ xs) ys (suc place) x is = get_kept xs ys place x is
-
--- and so does the message of an entry
+-- the message of an entry stays in its place when more follow
 message-kept : (log more : List ShardEntry) (place : ℕ) (message : Message) → message_in log place ≡ Some message → message_in (log ++ more) place ≡ Some message
 message-kept log more place message is =
     option_and_then_some (λ (entry : ShardEntry). message_by entry.deed) (slice_get log place) message is

@@ -1,6 +1,4 @@
-pub mod Places
 pub mod Leading
-pub mod Replay
 pub mod Updates
 pub mod Collecting
 pub mod LowMarks

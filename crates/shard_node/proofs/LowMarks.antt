@@ -1,18 +1,19 @@
 -- The low marks that a shard keeps stay those of the last processed messages, and their meet is its bound.
+-- Used by `apply`, `arrive`, `collect`, `new` and `visit`.
 use Rattle.std.proofs.Common.{◌≡◌, ◌≢◌, ℕ, suc, ◌+◌, ◌<◌, ◌≤◌, Bool, true, false, cond, List, [], ◌∷◌, ◌++◌, map, length, slice_get, slice_set, Option, None, Some, is_some, All, inl, inr, refl, sym, ap, subst, ◌∙◌, arith}
 use Rattle.std.specs.List.{range_with_len}
 use Rattle.std.specs.Option.{option_map}
 use Rattle.std.proofs.lemmas.Bool.{cases_eq, eq-eqb, ne_eqb}
 use Rattle.std.proofs.lemmas.List.{length-set}
-use Rattle.std.proofs.lemmas.Option.{slice_get_within, get_or_from_slice_get}
+use Rattle.std.proofs.lemmas.Option.{slice_get_within, get_or_from_slice_get, same_Some}
+use Rattle.weave_data.proofs.Lists.{get_set_here, get_set_other}
 use Rattle.vector_stamp.specs.declared.clock.Clock.{Clock}
 use Rattle.weave_entries.specs.declared.message.Message.{Message}
 use Rattle.weave_entries.specs.declared.shard_log.ShardEntry.{ShardEntry}
 use Rattle.weave_entries.specs.declared.shard_log.ShardDeed.TheVariants.{Arrived, Applied}
 use Rattle.weave_entries.specs.ShardReplay.{arrival_by, arrived_at, processed_by, processed_count, head_of, last_of, meet_of_all, bound_of}
 use Rattle.shard_node.specs.Keeping.{low_of, AreLowMarks}
-use Rattle.shard_node.proofs.Places.{get_set_here, get_set_other, some_is}
-use Rattle.shard_node.proofs.Replay.{arrived-still, arrived-others, count-still, count-applied}
+use Rattle.weave_entries.proofs.ShardLogs.{arrived-still, arrived-others, count-still, count-applied}
 
 -- The last processed messages
 
@@ -83,7 +84,9 @@ module _ (gates : ℕ) (lows : List (Option Clock)) (log : List ShardEntry) (mar
         count = length-set lows gate (Some head.low) ∙ count;
         each = λ other low at. elim (cases_eq other gate) [
           | inl same ↦
-              let found : Some head.low ≡ low = some_is (sym (get_set_here lows gate (Some head.low) (omega (arith, below, count))) ∙ ap (slice_get (slice_set lows gate (Some head.low))) (sym same) ∙ at) in
+              let found : Some head.low ≡ low = same_Some _ _
+              (sym (get_set_here lows gate (Some head.low) (omega (arith, below, count)))
+              ∙ ap (slice_get (slice_set lows gate (Some head.low))) (sym same) ∙ at) in
               sym found ∙ ap (option_map (λ (message : Message). message.low)) (sym (last-applied log author gate ∙ is)) ∙ ap (low_of (log ++ applied log author gate ∷ [])) (sym same)
           | inr differ ↦
               marks.each other low (sym (get_set_other lows gate other (Some head.low) differ) ∙ at)

@@ -1,4 +1,5 @@
 -- What the inboxes and the chains of a shard say is what the replay of its log says.
+-- Used by `apply`, `arrive`, `head_passes`, `kept`, `visit` and `visit_for`.
 use Rattle.std.proofs.Common.{◌≡◌, ℕ, suc, ◌+◌, ◌-◌, Bool, true, false, cond, List, [], ◌∷◌, length, slice_get, get_or, Option, None, Some, is_some, inl, inr, refl, sym, ap, subst, ◌∙◌, arith}
 use Rattle.std.specs.Prelude.{◌==◌, ◌||◌, not, All, IsTrue, ◌<◌, ◌≤◌}
 use Rattle.std.specs.List.{find, range_with_len}
@@ -7,7 +8,7 @@ use Rattle.std.proofs.lemmas.Bool.Decides.{eqb_tells}
 use Rattle.std.proofs.lemmas.List.Elements.{All-contains_itself}
 use Rattle.std.proofs.lemmas.List.{length-drop, length-map}
 use Rattle.std.proofs.lemmas.Option.{slice_get_read}
-use Rattle.proof_base.proofs.Members.{find_lacks}
+use Rattle.weave_data.proofs.Members.{find_lacks}
 use Rattle.weave_data.specs.declared.name.Name.{Name}
 use Rattle.graph_ops.specs.declared.part.Part.{Part}
 use Rattle.graph_ops.specs.Operations.{State}
@@ -25,7 +26,7 @@ use Rattle.weave_entries.specs.ShardReplay.{Update, arrived_at, processed_count,
 use Rattle.weave_entries.specs.ShardRules.{dropped_of, update_stamps, kept_stamps, updates_read, PassesAt}
 use Rattle.shard_node.specs.declared.waiting.Waiting.{Waiting}
 use Rattle.shard_node.specs.Keeping.{versions_from, chain_in, head_in, first_differing, is_after, is_channel_ready, first_not_ready, IsInboxOf, IsReplayOf}
-use Rattle.shard_node.proofs.Replay.{processed_are_few}
+use Rattle.weave_entries.proofs.ShardLogs.{processed_are_few}
 use Rattle.shard_node.proofs.Updates.{chain_from, or_new, count-is, newest-state-is, kept-stamps-are, length-versions}
 use Rattle.shard_node.proofs.Leading.{stamp_in, leads-some}
 use Rattle.shard_node.proofs.Keeping.{has-arrived, head-leads, head-is, head-stamp}

@@ -1,9 +1,10 @@
 -- A visit splits the updates of a vertex into those that the program reads and those that it precedes.
+-- Used by `visits_split_the_updates`.
 use Rattle.std.proofs.Common.{◌≡◌, ℕ, zero, suc, ◌+◌, ◌-◌, ◌<◌, ◌≤◌, Bool, true, false, List, [], ◌∷◌, ◌++◌, drop, Contains, IsTrue, Some, refl, sym, ap, subst, ◌∙◌, arith}
 use Rattle.std.specs.Prelude.{slice_get, not, ◌||◌, ◌&&◌}
 use Rattle.std.specs.Option.{option_map}
 use Rattle.std.proofs.lemmas.Option.{slice_get-map}
-use Rattle.proof_base.proofs.Members.{has_head}
+use Rattle.weave_data.proofs.Members.{has_head}
 use Rattle.weave_data.specs.declared.name.Name.{Name}
 use Rattle.vector_stamp.specs.declared.clock.Stamp.{Stamp}
 use Rattle.vector_stamp.specs.Order.{stamp_before}
@@ -36,6 +37,7 @@ comes_later false false true unseen ordered = refl
 comes_later false false false unseen ordered = absurd (unseen refl)
 
 module _ (pairs : List Given) (program : Stamp) (v : Name) (log : List ShardEntry) where
+  -- an update that is not read is preceded by the program
   pub later-skipped : ((update : Stamp) (updates : List Stamp) (place : ℕ) → seen_of pairs program updates ≤ place → slice_get updates place ≡ Some update → IsTrue (is_seen pairs program update) → ⊥) → ((a b : Stamp) → IsTrue (stamp_before a b) → IsTrue (precedes pairs a b)) → (place : ℕ) (later : Update) → updates_read pairs program v log ≤ place → slice_get (updates_of v log) place ≡ Some later → IsTrue (precedes pairs program later.stamp)
   later-skipped skipped ordered place later past at =
       let dropped = dropped_of v log in
@@ -44,15 +46,18 @@ module _ (pairs : List Given) (program : Stamp) (v : Name) (log : List ShardEntr
       let there : slice_get stamps (place - dropped) ≡ Some later.stamp = kept_stamp v log (place - dropped) ∙ ap (λ n. option_map stamp_by (slice_get (updates_of v log) n)) (omega (arith, past)) ∙ ap (option_map stamp_by) at in
       comes_later (stamp_before later.stamp program) (stamp_before program later.stamp) (precedes pairs program later.stamp) (skipped later.stamp stamps (place - dropped) from there) (ordered program later.stamp)
 
-  pub last-precedes : ((updates : List Stamp) (update : Stamp) (before : ℕ) → slice_get updates before ≡ Some update → last_seen (before + 1) updates ≡ update ∷ [])
-      → ((earlier : List Stamp) (event : Stamp) → Contains earlier event → IsTrue (precedes (pairs ++ pairs_of (additions_from 0 pairs earlier program) program) event program))
-      → (last : Update) → dropped_of v log < updates_read pairs program v log
-      → slice_get (updates_of v log) (updates_read pairs program v log - 1) ≡ Some last
-      → IsTrue (precedes (pairs_after_visit pairs program v log) last.stamp program)
-  last-precedes named all_precede last some at =
-      let dropped = dropped_of v log in
-      let stamps = kept_stamps v log in
-      let seen = seen_of pairs program stamps in
-      let there : slice_get stamps (seen - 1) ≡ Some last.stamp = kept_stamp v log (seen - 1) ∙ ap (λ n. option_map stamp_by (slice_get (updates_of v log) n)) (omega (arith, some)) ∙ ap (option_map stamp_by) at in
-      let read : last_seen seen stamps ≡ last.stamp ∷ [] = ap (λ n. last_seen n stamps) (omega (arith, some)) ∙ named stamps last.stamp (seen - 1) there in
-      subst (λ (earlier : List Stamp). IsTrue (precedes (pairs ++ pairs_of (additions_from 0 pairs earlier program) program) last.stamp program)) (sym read) (all_precede (last.stamp ∷ []) last.stamp (has_head last.stamp []))
+  module _ (named : (updates : List Stamp) (update : Stamp) (before : ℕ) → slice_get updates before ≡ Some update
+      → last_seen (before + 1) updates ≡ update ∷ [])
+      (all_precede : (earlier : List Stamp) (event : Stamp) → Contains earlier event
+      → IsTrue (precedes (pairs ++ pairs_of (additions_from 0 pairs earlier program) program) event program)) where
+    -- the last update that is read precedes the program once the visit was judged
+    pub last-precedes : (last : Update) → dropped_of v log < updates_read pairs program v log
+        → slice_get (updates_of v log) (updates_read pairs program v log - 1) ≡ Some last
+        → IsTrue (precedes (pairs_after_visit pairs program v log) last.stamp program)
+    last-precedes last some at =
+        let dropped = dropped_of v log in
+        let stamps = kept_stamps v log in
+        let seen = seen_of pairs program stamps in
+        let there : slice_get stamps (seen - 1) ≡ Some last.stamp = kept_stamp v log (seen - 1) ∙ ap (λ n. option_map stamp_by (slice_get (updates_of v log) n)) (omega (arith, some)) ∙ ap (option_map stamp_by) at in
+        let read : last_seen seen stamps ≡ last.stamp ∷ [] = ap (λ n. last_seen n stamps) (omega (arith, some)) ∙ named stamps last.stamp (seen - 1) there in
+        subst (λ (earlier : List Stamp). IsTrue (precedes (pairs ++ pairs_of (additions_from 0 pairs earlier program) program) last.stamp program)) (sym read) (all_precede (last.stamp ∷ []) last.stamp (has_head last.stamp []))

@@ -1,5 +1,5 @@
--- What a shard keeps beside its log. No public contract cites this.
-use Rattle.std.specs.Prelude.{◌≡◌, ℕ, ◌+◌, ◌-◌, ◌<◌, ◌≤◌, ◌==◌, ◌||◌, Bool, false, not, if◌then◌else◌, List, [], ◌∷◌, drop, length, slice_get, Option, None, Some, IsSome, Contains, ⊤}
+-- What a shard keeps besides its log. No public contract cites this.
+use Rattle.std.specs.Prelude.{◌≡◌, ℕ, ◌+◌, ◌-◌, ◌<◌, ◌≤◌, ◌==◌, ◌||◌, Bool, false, not, if◌then◌else◌, List, [], ◌∷◌, drop, length, slice_get, Option, None, Some, IsSome, ⊤}
 use Rattle.std.specs.Option.{option_map, option_and_then}
 use Rattle.std.specs.List.{find}
 use Rattle.graph_ops.specs.declared.part.Part.{Part}
@@ -18,7 +18,7 @@ use Rattle.weave_entries.specs.declared.message.Message.{Message}
 use Rattle.weave_entries.specs.declared.shard_log.ShardEntry.{ShardEntry}
 use Rattle.weave_entries.specs.declared.shard_log.ShardDeed.{ShardDeed}
 use Rattle.weave_entries.specs.declared.shard_log.ShardDeed.TheVariants.{Arrived, Applied, Visited, Collected}
-use Rattle.weave_entries.specs.ShardReplay.{Update, arrived_at, processed_of, processed_count, last_of, updates_of}
+use Rattle.weave_entries.specs.ShardReplay.{Update, arrived_at, processed_count, last_of, updates_of, ProcessedArrived}
 use Rattle.weave_entries.specs.ShardRules.{dropped_of, IsTakable, IsShardLog}
 use Rattle.shard_node.specs.declared.waiting.Waiting.{Waiting}
 
@@ -26,7 +26,8 @@ use Rattle.shard_node.specs.declared.waiting.Waiting.{Waiting}
 abbrev pub versions_from : State → List Update → List Version
 versions_from state [] = []
 versions_from state (update ∷ updates) =
-    record { stamp = update.stamp; state = state_after update.ops state } ∷ versions_from (state_after update.ops state) updates
+    record { stamp = update.stamp; state = state_after update.ops state } ∷ versions_from (state_after update.ops state)
+    updates
 
 -- the chain of a vertex at the end of a log
 abbrev pub chain_in : Name → List ShardEntry → ChainView
@@ -50,7 +51,9 @@ low_of log gate = option_map (λ (message : Message). message.low) (last_of gate
 
 -- the first vertex of these parts whose count is not the number of updates that its chain has
 abbrev pub first_differing : Chains → List Part → Option Name
-first_differing chains parts = option_map (λ (part : Part). part.vertex) (find (λ (part : Part). not (part.before == update_count (chain_or_new (chain_of chains part.vertex)))) parts)
+first_differing chains parts =
+    option_map (λ (part : Part). part.vertex) (find
+    (λ (part : Part). not (part.before == update_count (chain_or_new (chain_of chains part.vertex)))) parts)
 
 -- the message that a deed brought
 abbrev pub message_by : ShardDeed → Option Message
@@ -72,7 +75,8 @@ abbrev pub LeadsTo : List ShardEntry → Option Waiting → Option Message → T
 LeadsTo log None None = ⊤
 LeadsTo log None (Some message) = ⊥
 LeadsTo log (Some waiting) None = ⊥
-LeadsTo log (Some waiting) (Some message) = (message_in log waiting.place ≡ Some message) × (waiting.stamp ≡ message.stamp)
+LeadsTo log (Some waiting) (Some message) = (message_in log waiting.place ≡ Some message)
+    × (waiting.stamp ≡ message.stamp)
 
 -- there is a stamp, and it is after this one
 abbrev pub is_after : Stamp → Option Stamp → Bool
@@ -81,36 +85,38 @@ is_after stamp (Some other) = stamp_before stamp other
 
 -- the stamp of the last processed message of a channel, or of its head, is after this one
 abbrev pub is_channel_ready : Stamp → Incoming Waiting → Bool
-is_channel_ready stamp inbox = is_after stamp inbox.last || is_after stamp (option_map (λ (waiting : Waiting). waiting.stamp) (head_of inbox))
+is_channel_ready stamp inbox =
+    is_after stamp inbox.last || is_after stamp (option_map (λ (waiting : Waiting). waiting.stamp) (head_of inbox))
 
 -- the place, counted on from this one, of the first channel that is not ready
 abbrev pub first_not_ready : ℕ → Stamp → List (Incoming Waiting) → Option ℕ
 first_not_ready place stamp [] = None
-first_not_ready place stamp (inbox ∷ inboxes) = if is_channel_ready stamp inbox then first_not_ready (place + 1) stamp inboxes else Some place
+first_not_ready place stamp (inbox ∷ inboxes) =
+    if is_channel_ready stamp inbox then first_not_ready (place + 1) stamp inboxes else Some place
 
--- an inbox is that of a gatekeeper's channel at the end of a log: what waits leads to the messages that arrived and are not yet processed
+-- an inbox is that of a gatekeeper's channel at the end of a log: what waits leads to the messages that arrived and are
+-- not yet processed
 pub record IsInboxOf (gate : ℕ) (log : List ShardEntry) (inbox : Incoming Waiting) : Type 0 where
   pub processed : inbox.processed ≡ processed_count gate log
   pub last : inbox.last ≡ option_map (λ (message : Message). message.stamp) (last_of gate log)
-  pub waits : (number : ℕ) → processed_count gate log < number → LeadsTo log (waiting_at number inbox) (arrived_at gate number log)
+  pub waits : (number : ℕ) → processed_count gate log < number
+      → LeadsTo log (waiting_at number inbox) (arrived_at gate number log)
   pub arrived : (number : ℕ) → 1 ≤ number → number ≤ processed_count gate log → IsSome (arrived_at gate number log)
   pub from_one : arrived_at gate 0 log ≡ None
 
--- each message that was processed had arrived
-abbrev pub ProcessedArrived : List ShardEntry → Type 0
-ProcessedArrived log = (of : ℕ × ℕ) → Contains (processed_of log) of → IsSome (arrived_at of.0 of.1 log)
-
 -- all that it keeps is what the replay of the log gives; of a vertex with updates it keeps at least the newest version
-pub record IsReplayOf (gates : ℕ) (inboxes : List (Incoming Waiting)) (chains : Chains) (log : List ShardEntry) : Type 0 where
-  pub some_gate : 1 ≤ gates
-  pub few_gates : gates ≤ 8
-  pub count : length inboxes ≡ gates
-  pub channels : (gate : ℕ) (inbox : Incoming Waiting) → slice_get inboxes gate ≡ Some inbox → IsInboxOf gate log inbox
-  pub chains_are : (v : Name) → chain_of chains v ≡ chain_in_if v log
-  pub takable : (gate number : ℕ) (message : Message) → arrived_at gate number log ≡ Some message → IsTakable message
-  pub all_arrived : ProcessedArrived log
-  pub some_kept : (v : Name) → dropped_of v log ≤ length (updates_of v log) - 1
-  pub rules : IsShardLog gates log
+pub record IsReplayOf (gates : ℕ) (inboxes : List (Incoming Waiting)) (chains : Chains) (log : List ShardEntry) : Type 0
+  where
+    pub some_gate : 1 ≤ gates
+    pub few_gates : gates ≤ 8
+    pub count : length inboxes ≡ gates
+    pub channels : (gate : ℕ) (inbox : Incoming Waiting) → slice_get inboxes gate ≡ Some inbox
+        → IsInboxOf gate log inbox
+    pub chains_are : (v : Name) → chain_of chains v ≡ chain_in_if v log
+    pub takable : (gate number : ℕ) (message : Message) → arrived_at gate number log ≡ Some message → IsTakable message
+    pub all_arrived : ProcessedArrived log
+    pub some_kept : (v : Name) → dropped_of v log ≤ length (updates_of v log) - 1
+    pub rules : IsShardLog gates log
 
 -- the low marks that it keeps are those of the last processed messages, by gatekeeper
 pub record AreLowMarks (gates : ℕ) (lows : List (Option Clock)) (log : List ShardEntry) : Type 0 where

@@ -23,7 +23,7 @@ pub record AddsEntry (old new : ShardView) (author : ℕ) (deed : ShardDeed) : T
   pub gates : new.gates ≡ old.gates
 
 -- a head can be applied: each of its counts is the number of updates applied there
-pub record IsNext (gate : ℕ) (log : List ShardEntry) : Type 0 where
+pub record CanApplyHead (gate : ℕ) (log : List ShardEntry) : Type 0 where
   pub head : Message
   pub is : head_of gate log ≡ Some head
   pub waits : waits_at head log ≡ None
@@ -31,7 +31,8 @@ pub record IsNext (gate : ℕ) (log : List ShardEntry) : Type 0 where
 -- a refusal to apply is right
 abbrev pub IsRightlyUnapplied : ℕ → List ShardEntry → ApplyFault → Type 0
 IsRightlyUnapplied gate log unapplied.Empty = head_of gate log ≡ None
-IsRightlyUnapplied gate log (unapplied.Waits v) = (head : Message) × (head_of gate log ≡ Some head) × (waits_at head log ≡ Some v)
+IsRightlyUnapplied gate log (unapplied.Waits v) = (head : Message) × (head_of gate log ≡ Some head)
+    × (waits_at head log ≡ Some v)
 IsRightlyUnapplied gate log unapplied.Memory = ⊤
 
 -- a refusal to read is right

@@ -7,7 +7,8 @@ use weave_data::Name;
 pub enum ApplyFault {
     /// The next message has not arrived.
     Empty,
-    /// The message's count for this vertex, the first such in order of naming, is not the number of updates applied to it here.
+    /// The message's count for this vertex, the first such in order of naming, is not the number of updates applied to
+    /// it here.
     Waits { vertex: Name },
     /// Out of memory.
     Memory,
@@ -16,7 +17,8 @@ pub enum ApplyFault {
 /// Why a vertex was not read.
 #[derive(Clone, Copy, PartialEq, Eq, Debug)]
 pub enum VisitFault {
-    /// Neither the last processed message of this gatekeeper nor the head has a stamp after the program's. It is the least such gatekeeper.
+    /// Neither the last processed message of this gatekeeper nor the head has a stamp after the program's. It is the
+    /// least such gatekeeper.
     Again { gate: u32 },
     /// Out of memory.
     Memory,

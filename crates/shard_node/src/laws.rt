@@ -11,7 +11,8 @@ use vector_stamp::laws::{
     precedence_is_decided, settling_puts_all_before, the_last_update_read_is_seen,
 };
 
-/// A visit splits the updates of a vertex. The last one that the program read precedes it, by the judge's pairs after the visit, and it precedes all later ones, by those before the visit.
+/// A visit splits the updates of a vertex. The last one that the program read precedes it, by the judge's pairs after
+/// the visit, and it precedes all later ones, by those before the visit.
 pub fn visits_split_the_updates()
     ensures read { (pairs : List Given) (program : Stamp) (v : Name) (log : List ShardEntry) (last : Update)
         → dropped_of v log < updates_read pairs program v log

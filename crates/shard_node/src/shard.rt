@@ -12,7 +12,7 @@ ghost use Rattle.version_chain.specs.Views.{has_unordered, view_of, put_before, 
 ghost use Rattle.weave_entries.specs.ShardReplay.{arrived_at, processed_count, head_of, updates_of, waits_at, state_of_updates, first_unready, bound_of, kept_of};
 ghost use Rattle.weave_entries.specs.ShardRules.{kept_stamps, updates_read, is_settled_by, pairs_after_visit, entries_of_visit, is_judge_asked, IsKeptFor, IsTakable, PassesAt, IsShardLog};
 ghost use Rattle.shard_node.specs.Keeping.{collected_if};
-ghost use Rattle.shard_node.specs.Shards.{AddsEntry, IsNext, IsRightlyUnapplied, IsRightlyUnread};
+ghost use Rattle.shard_node.specs.Shards.{AddsEntry, CanApplyHead, IsRightlyUnapplied, IsRightlyUnread};
 
 use crate::channels::{empty_channels, first_unready, pass_head};
 use crate::fault::{ApplyFault, VisitFault};
@@ -120,12 +120,13 @@ impl Shard {
         self.channels[gate as usize].next()
     }
 
-    /// Processes the head of a gatekeeper's channel, if each of its counts is the number of updates applied to that vertex here.
+    /// Processes the head of a gatekeeper's channel, if each of its counts is the number of updates applied to that
+    /// vertex here.
     pub fn apply(&mut self, alloc: Global, author: u32, gate: u32) -> Result<(), ApplyFault>
         requires gate { gate < self.old.gates }
         requires passes { ForSome (head_of gate self.old.log) (λ head.
             waits_at head self.old.log ≡ None → PassesAt self.old.log head) }
-        ensures next { OnOk result (IsNext gate self.old.log) }
+        ensures next { OnOk result (CanApplyHead gate self.old.log) }
         ensures entry { OnOk result (AddsEntry self.old self.new author
             (ShardDeed.Applied gate (processed_count gate self.old.log + 1))) }
         ensures refused { IfErr result (λ fault. IsRightlyUnapplied gate self.old.log fault) }
@@ -149,7 +150,8 @@ impl Shard {
         Ok(())
     }
 
-    /// Reads a vertex for a program: the state that the program sees, by the rule of visits. The judge's entry, if it makes one, is made in the same call.
+    /// Reads a vertex for a program: the state that the program sees, by the rule of visits. The judge's entry, if it
+    /// makes one, is made in the same call.
     pub fn visit<J: Judge>(
         &mut self,
         alloc: Global,

@@ -25,7 +25,8 @@ use version_graph::VersionGraph;
 use weave_data::Items;
 use weave_entries::{Message, ShardDeed, ShardEntry};
 
-// A judge for calls with one earlier event. It looks for paths as the definition does, and is out of memory once `is_full` is set.
+// A judge for calls with one earlier event. It looks for paths as the definition does, and is out of memory once
+// `is_full` is set.
 #[derive(Drop)]
 struct TestJudge {
     pairs: Vec<(Stamp, Stamp)>,
@@ -398,7 +399,8 @@ fn reaches_back(graph: &VersionGraph, vertex: Name, program: &Stamp) -> bool
     chain.reaches_back(program)
 }
 
-// A visit for a request, under the conditions of `visit`: the stamps of all that arrived, and those that the judge knows, are coherent with the program's. The program's gatekeeper is the author.
+// A visit for a request, under the conditions of `visit`: the stamps of all that arrived, and those that the judge
+// knows, are coherent with the program's. The program's gatekeeper is the author.
 fn visit_for(
     rt: &impl Abort,
     alloc: Global,
@@ -488,7 +490,8 @@ fn deliver(
     Some(arrive(rt, alloc, shard, 0, number, message))
 }
 
-// Three empty messages arrive out of order, the first of them twice, and are processed in order. A fourth one was never sent.
+// Three empty messages arrive out of order, the first of them twice, and are processed in order. A fourth one was never
+// sent.
 #[test]
 fn messages_out_of_order(rt: HostRuntime) -> Result<(), Fail> {
     let alloc = rt.alloc();
@@ -587,7 +590,8 @@ fn forty_messages(rt: HostRuntime) -> Result<(), Fail> {
     Ok(())
 }
 
-// Three updates of `v` by three gatekeepers: it is made, becomes red, and becomes blue. A program with the stamp (2, 0, 0) is after the first, unordered with the second, and before the third.
+// Three updates of `v` by three gatekeepers: it is made, becomes red, and becomes blue. A program with the stamp (2, 0,
+// 0) is after the first, unordered with the second, and before the third.
 fn three_updates(rt: &impl Abort, alloc: Global) -> Shard {
     let v = name(rt, "v");
     let mut shard = Shard::new(alloc, 0, 3).expect(rt, "memory");
@@ -600,7 +604,8 @@ fn three_updates(rt: &impl Abort, alloc: Global) -> Shard {
     shard
 }
 
-// Two silent gatekeepers keep a program waiting, the least of them first. The last message of the third one is after the program.
+// Two silent gatekeepers keep a program waiting, the least of them first. The last message of the third one is after
+// the program.
 #[test]
 fn silent_gatekeepers(rt: HostRuntime) {
     let alloc = rt.alloc();
@@ -634,7 +639,8 @@ fn ready_shard(rt: &impl Abort, alloc: Global) -> Shard {
     shard
 }
 
-// A program reads the red vertex: it sees the unordered update, which is put before it, and not the one after it. Of a vertex without updates it reads that it is absent.
+// A program reads the red vertex: it sees the unordered update, which is put before it, and not the one after it. Of a
+// vertex without updates it reads that it is absent.
 #[test]
 fn a_program_reads(rt: HostRuntime) {
     let alloc = rt.alloc();
@@ -703,7 +709,8 @@ fn a_later_program_reads_the_newest_state(rt: HostRuntime) {
     );
 }
 
-// A head waits for its second vertex, and nothing of it is applied until then. Of two vertices that wait the first is named.
+// A head waits for its second vertex, and nothing of it is applied until then. Of two vertices that wait the first is
+// named.
 #[test]
 fn the_second_vertex_waits(rt: HostRuntime) -> Result<(), Fail> {
     let alloc = rt.alloc();
@@ -727,7 +734,8 @@ fn the_second_vertex_waits(rt: HostRuntime) -> Result<(), Fail> {
     Ok(())
 }
 
-// A message of three vertices waits for the last of them, and nothing of it is applied until then. All of it is applied at once.
+// A message of three vertices waits for the last of them, and nothing of it is applied until then. All of it is applied
+// at once.
 #[test]
 fn a_message_of_three_vertices(rt: HostRuntime) -> Result<(), Fail> {
     let alloc = rt.alloc();
@@ -747,7 +755,8 @@ fn a_message_of_three_vertices(rt: HostRuntime) -> Result<(), Fail> {
     Ok(())
 }
 
-// `w` is made. One transaction then makes `v`, gives it a color and links `w` to it. A third one has no operation on `v`.
+// `w` is made. One transaction then makes `v`, gives it a color and links `w` to it. A third one has no operation on
+// `v`.
 fn two_linked(rt: &impl Abort, alloc: Global) -> Shard {
     let (v, w) = (name(rt, "v"), name(rt, "w"));
     let mut shard = Shard::new(alloc, 0, 2).expect(rt, "memory");
@@ -780,7 +789,8 @@ fn edges(visit: &Result<Option<Record>, VisitFault>) -> Option<usize> {
     Some(found.edges.len())
 }
 
-// A message of two vertices is applied to both, with all operations of each part. A part without operations is an update.
+// A message of two vertices is applied to both, with all operations of each part. A part without operations is an
+// update.
 #[test]
 fn a_message_of_two_vertices(rt: HostRuntime) {
     let alloc = rt.alloc();
@@ -799,7 +809,8 @@ fn a_message_of_two_vertices(rt: HostRuntime) {
     }
 }
 
-// Eight gatekeepers in epoch 3: the last one makes a vertex, and a program of the seventh reads it once each has sent a message of epoch 4.
+// Eight gatekeepers in epoch 3: the last one makes a vertex, and a program of the seventh reads it once each has sent a
+// message of epoch 4.
 #[test]
 fn eight_gatekeepers(rt: HostRuntime) {
     let alloc = rt.alloc();

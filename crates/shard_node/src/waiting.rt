@@ -6,7 +6,8 @@ use shard_queue::Inbox;
 use vector_stamp::{Stamp, Stamped};
 use weave_entries::{Message, ShardDeed, ShardEntry};
 
-/// A message that waits: the place of its entry in the log, from 0, and its stamp. The message itself is in the log alone.
+/// A message that waits: the place of its entry in the log, from 0, and its stamp. The message itself is in the log
+/// alone.
 #[derive(Clone, Copy)]
 pub(crate) struct Waiting {
     pub(crate) place: usize,

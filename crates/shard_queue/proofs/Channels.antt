@@ -1,4 +1,5 @@
 -- What is processed is what was sent, in number order.
+-- Used by `channels_give_what_was_sent` and `each_number_waits_by_itself`.
 use Rattle.std.proofs.Common.{append_assoc, add-one, get_or, ◌≡◌, ◌≢◌, ℕ, zero, suc, ◌+◌, ◌-◌, ◌<◌, ◌≤◌, Bool, true, false, ◌||◌, cond, List, [], ◌∷◌, ◌++◌, take, length, Contains, inl, inr, Option, Some, None, refl, sym, ap, subst, ◌∙◌, arith}
 use Rattle.std.specs.Prelude.{◌==◌, fold, nat_le, is_some}
 use Rattle.std.specs.List.{list_any, slice_get}

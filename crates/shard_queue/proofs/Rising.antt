@@ -1,4 +1,5 @@
 -- Stamps that rise.
+-- Used by `push`.
 use Rattle.std.proofs.Common.{◌≡◌, ℕ, ◌-◌, ◌<◌, ◌≤◌, Bool, true, false, cond, List, [], ◌∷◌, ◌++◌, map, length, get_or, IsTrue, inl, inr, sym, subst, arith}
 use Rattle.std.proofs.Math.Nat.{eq-or-lt_of_le}
 use Rattle.std.proofs.lemmas.List.{map-append}
@@ -24,7 +25,7 @@ rise_on transitive stamps stamp rise after = all_pairs_push (λ (a b : Stamp). I
           | inr under ↦ transitive (get_or stamps k d) (get_or stamps (length stamps - 1) d) stamp (rise k (length stamps - 1) d under (omega arith)) (last_before d some)
         ]
 
--- and so where the message was sent, or wasn't
+-- and so whether the message was sent or not
 pub rise_sent : {M : Type 0} (stamp_of : M → Stamp) → ((a b c : Stamp) → IsTrue (stamp_before a b) → IsTrue (stamp_before b c) → IsTrue (stamp_before a c)) → (ok : Bool) (items old now new : List M) (message : M) → items ≡ old → now ≡ items → new ≡ cond ok (now ++ message ∷ []) now → StampsRise (map stamp_of items) → IsAfterLast (stamp_of message) (map stamp_of old) → StampsRise (map stamp_of new)
 rise_sent stamp_of transitive true items old now new message is_old is_now is_new rise after =
     let sent : new ≡ items ++ message ∷ [] = cc in

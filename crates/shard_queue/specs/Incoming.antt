@@ -7,13 +7,14 @@ use Rattle.std.specs.BTreeMap.{insert_entry, is_at}
 use Rattle.shard_queue.specs.Sent.{sent_as}
 use Rattle.vector_stamp.specs.declared.clock.Stamp.{Stamp}
 
--- how many messages were processed, the stamp of the last of these, and what waits under its number, in rising order of numbers
+-- how many messages were processed, the stamp of the last of these, and what waits under its number, in rising order of
+-- numbers
 pub record Incoming (M : Type 0) : Type 0 where
   pub processed : ℕ
   pub last : Option Stamp
   pub waiting : List (ℕ × M)
 
--- what happens there: a message arrives under its number, or the head is taken where there is one
+-- what happens there: a message arrives under its number, or the head is taken if there is one
 pub data Event (M : Type 0) : Type 0 where
   Arrives : ℕ → M → Event M
   TakesHead : Event M
@@ -49,7 +50,7 @@ module _ {M : Type 0} where
     waiting = remove_entry (is_at (nat_cmp (inbox.processed + 1))) inbox.waiting;
   }
 
-  -- after the head was taken; where there is none, nothing changes
+  -- after the head was taken; if there is none, nothing changes
   abbrev pub after_head_if : (M → Stamp) → Option M → Incoming M → Incoming M
   after_head_if stamp_of None inbox = inbox
   after_head_if stamp_of (Some head) inbox = after_head stamp_of inbox
@@ -76,7 +77,8 @@ module _ {M : Type 0} where
   -- what events process, in order
   abbrev pub processed_in : (M → Stamp) → Incoming M → List (Event M) → List M
   processed_in stamp_of inbox [] = []
-  processed_in stamp_of inbox (event ∷ events) = taken_by inbox event ++ processed_in stamp_of (after_event stamp_of inbox event) events
+  processed_in stamp_of inbox (event ∷ events) =
+      taken_by inbox event ++ processed_in stamp_of (after_event stamp_of inbox event) events
 
   -- whether an event brings the message of this number
   abbrev pub brings : ℕ → Event M → Bool
@@ -85,13 +87,19 @@ module _ {M : Type 0} where
 
   -- what arrives is what was sent under that number; it may come in any order, again, or never
   abbrev pub AreOfSent : List M → List (Event M) → Type 0
-  AreOfSent sent events = (number : ℕ) (message : M) → Contains events (Arrives number message) → sent_as number sent ≡ Some message
+  AreOfSent sent events = (number : ℕ) (message : M) → Contains events (Arrives number message)
+      → sent_as number sent ≡ Some message
 
 module _ {M : Type 0} (stamp_of : M → Stamp) where
-  -- what waits under each number after an arrival and after the head was processed: both change what waits under one number alone
+  -- what waits under each number after an arrival and after the head was processed: both change what waits under one
+  -- number alone
   pub record WaitingLaws : Type 0 where
-    pub arrived : (number : ℕ) (message : M) (inbox : Incoming M) → has_arrived number inbox ≡ false → waiting_at number (after_arrival number message inbox) ≡ Some message
-    pub others : (number other : ℕ) (message : M) (inbox : Incoming M) → other ≢ number → waiting_at other (after_arrival number message inbox) ≡ waiting_at other inbox
-    pub processed : (number : ℕ) (message : M) (inbox : Incoming M) → (after_arrival number message inbox).processed ≡ inbox.processed
+    pub arrived : (number : ℕ) (message : M) (inbox : Incoming M) → has_arrived number inbox ≡ false
+        → waiting_at number (after_arrival number message inbox) ≡ Some message
+    pub others : (number other : ℕ) (message : M) (inbox : Incoming M) → other ≢ number
+        → waiting_at other (after_arrival number message inbox) ≡ waiting_at other inbox
+    pub processed : (number : ℕ) (message : M) (inbox : Incoming M)
+        → (after_arrival number message inbox).processed ≡ inbox.processed
     pub last : (number : ℕ) (message : M) (inbox : Incoming M) → (after_arrival number message inbox).last ≡ inbox.last
-    pub still : (other : ℕ) (inbox : Incoming M) → other ≢ inbox.processed + 1 → waiting_at other (after_head stamp_of inbox) ≡ waiting_at other inbox
+    pub still : (other : ℕ) (inbox : Incoming M) → other ≢ inbox.processed + 1
+        → waiting_at other (after_head stamp_of inbox) ≡ waiting_at other inbox

@@ -10,7 +10,7 @@ pub record Channel (M : Type 0) : Type 0 where
   pub sent : List M
   pub spare : ℕ
 
--- the stamp is after the last of these, where there is one
+-- the stamp is after the last of these, if there is one
 abbrev pub IsAfterLast : Stamp → List Stamp → Type 0
 IsAfterLast stamp stamps = ForSome (slice_get stamps (length stamps - 1)) (λ last. IsTrue (stamp_before last stamp))
 

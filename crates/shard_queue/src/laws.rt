@@ -16,7 +16,8 @@ pub fn channels_give_what_was_sent<M: Stamped>()
         → has_arrived number (inbox_after M.stamp_of events) ≡ list_any (brings number) events }
 {}
 
-/// What waits under each number after an arrival, and after the head was processed, as one fact for proofs that take it as a premise.
+/// What waits under each number after an arrival, and after the head was processed, as one fact for proofs that take it
+/// as a premise.
 pub fn each_number_waits_by_itself<M: Stamped>()
     ensures { WaitingLaws M.stamp_of }
 {}

@@ -7,8 +7,6 @@
 mod inbox;
 pub mod laws;
 mod outbox;
-#[cfg(test)]
-mod tests;
 
 pub use inbox::{Arrival, Inbox};
 pub use outbox::Outbox;

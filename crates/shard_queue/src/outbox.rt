@@ -7,7 +7,8 @@ use std::marker::Model;
 use vector_stamp::Stamped;
 use vector_stamp::laws::stamps_are_ordered;
 
-/// What was sent on a channel, in order and numbered from 1. Contracts see the list, and `spare`: how many more can be sent without taking memory.
+/// What was sent on a channel, in order and numbered from 1. Contracts see the list, and `spare`: how many more can be
+/// sent without taking memory.
 #[derive(Drop)]
 pub struct Outbox<M: Stamped> {
     sent: Vec<M>,
@@ -45,7 +46,8 @@ impl<M: Stamped> Outbox<M> {
         Ok(())
     }
 
-    /// Sends a message, and answers its number. If it is out of memory it gives the message back, and the channel is as before. If there is room it can't fail.
+    /// Sends a message, and answers its number. If it is out of memory it gives the message back, and the channel is as
+    /// before. If there is room it can't fail.
     pub fn push(&mut self, _alloc: Global, message: M) -> Result<u64, M>
         requires { IsAfterLast (M.stamp_of message) (map M.stamp_of self.old.sent) }
         ensures sent { OnOk result (self.new.sent ≡ self.old.sent ++ message ∷ []) }
@@ -66,7 +68,7 @@ impl<M: Stamped> Outbox<M> {
         }
     }
 
-    /// The message of this number, or `None` where it was not sent.
+    /// The message of this number, or `None` if it was not sent.
     pub fn get(&self, number: u64) -> Option<&M>
         ensures { option_copied result ≡ sent_as number self.now.sent }
     {

@@ -1,5 +1,6 @@
 -- A begin: one more entry in a gatekeeper's log and one in a session's.
-use Rattle.std.proofs.Common.{◌≡◌, ◌≢◌, ℕ, ◌<◌, ◌==◌, Bool, false, cond, List, [], ◌∷◌, ◌++◌, length, Contains, AllPairs, IsTrue, Option, None, Some, inl, inr, refl, sym, ap, subst, ◌∙◌, get_or-set_same, get_or-set_other, arith}
+-- Used by BeginStep.
+use Rattle.std.proofs.Common.{◌≡◌, ◌≢◌, ℕ, ◌<◌, ◌==◌, Bool, false, cond, List, [], ◌∷◌, ◌++◌, length, Contains, AllPairs, IsTrue, Option, None, Some, inl, inr, refl, sym, ap, subst, ◌∙◌}
 use Rattle.std.specs.Prelude.{is_some}
 use Rattle.std.specs.List.{find, flat_map}
 use Rattle.std.specs.Option.{option_map, option_or}
@@ -8,8 +9,7 @@ use Rattle.std.proofs.lemmas.List.{append-nil, length-set}
 use Rattle.std.proofs.lemmas.List.Concat.{flat_map-append}
 use Rattle.std.proofs.lemmas.List.Folds.{find-append}
 use Rattle.std.proofs.lemmas.List.Elements.{Contains-append_left, Contains-append_right, Contains-append_cases}
-use Rattle.proof_base.proofs.Entries.{each_push}
-use Rattle.proof_base.proofs.Members.{find_lacks}
+use Rattle.weave_data.proofs.Members.{find_lacks}
 use Rattle.vector_stamp.specs.declared.clock.Clock.{Clock}
 use Rattle.vector_stamp.specs.declared.clock.Stamp.{Stamp}
 use Rattle.program_defs.specs.declared.script.Request.{Request}
@@ -18,13 +18,12 @@ use Rattle.weave_entries.specs.declared.gate_log.GateEntry.{GateEntry}
 use Rattle.weave_entries.specs.declared.gate_log.GateDeed.{GateDeed}
 use Rattle.weave_entries.specs.declared.session_log.SessionEntry.{SessionEntry}
 use Rattle.weave_entries.specs.declared.session_log.SessionDeed.TheVariants as session
-use Rattle.weave_entries.specs.Logs.{AtEachEntry}
 use Rattle.weave_entries.specs.GateReplay.{Begun, begun_by, begun_in, clocks_by, clocks_in, ended_by, ended_in}
 use Rattle.weave_entries.specs.GateRules.{FitsAs, HearsAs}
 use Rattle.weave_entries.specs.SessionReplay.{BeginsNext, FitsSession, begin_by, begins_in, has_begun_in, has_reply_in, replied_in, reply_by, session_of, session_stamp_of}
 use Rattle.report_rules.specs.Lookups.{is_in, request_at}
 use Rattle.weave_account.specs.declared.account.Account.{Account}
-use Rattle.weave_account.specs.Account.{gate_log, shard_log, session_log, all_begun, stamp_of}
+use Rattle.weave_account.specs.Account.{gate_log, session_log, all_begun, stamp_of}
 use Rattle.weave_account.specs.Channels.{SendsAs}
 use Rattle.weave_account.specs.Clocks.{IsKnown}
 use Rattle.weave_account.specs.Gatekeepers.{BeginsAs}
@@ -33,10 +32,13 @@ use Rattle.weave_account.specs.IsAccount.{IsAccount}
 use Rattle.program_defs.specs.Limits.{IsWithinLimits}
 use Rattle.weave_account.specs.Sessions.{requests_of_session}
 use Rattle.step_rules.specs.CoreState.{with_gate_deed, with_session_deed}
-use Rattle.step_rules.specs.LowerLaws.{LowerLaws}
+use Rattle.step_rules.specs.LowerLaws.{LawsForSteps}
 use Rattle.step_rules.proofs.FindLists.{any-find, find-here, find-into, is-some-map, no-some, or-none, pairs-into}
 use Rattle.step_rules.proofs.Frames.{ReplyRule, SendRule, store-stays, oracle-stays, sends-stay, deeds-stay, replies-stay}
 use Rattle.step_rules.proofs.SetLists.{flat-set, flat-more, SetMore}
+use Rattle.step_rules.proofs.StepGoesOn.{goes-further, with-gate-deed, with-session-deed}
+use Rattle.step_rules.proofs.SetLogs.{each-set, gate-entry, set-here, set-there}
+use Rattle.step_rules.proofs.Within.{gate-within}
 
 -- The stamps that a session's log has after one more begin
 
@@ -68,7 +70,7 @@ module _ (log : List SessionEntry) (author r : ℕ) (stamp : Stamp) where
 
 -- The account
 
-module _ (laws : LowerLaws) (script : Script) (account : Account) (limits : IsWithinLimits script) (is : IsAccount script account)
+module _ (laws : LawsForSteps) (script : Script) (account : Account) (limits : IsWithinLimits script) (is : IsAccount script account)
     (g : ℕ) (inside : g < script.gates) (s : ℕ) (within-s : s < length account.sessions) (author r : ℕ) (stamp : Stamp) (deed : GateDeed)
     (one : begun_by author deed ≡ record { author = author; request = r; stamp = stamp } ∷ []) (unbegun : stamp_of account r ≡ None) where
   abbrev pub log : List GateEntry
@@ -78,7 +80,7 @@ module _ (laws : LowerLaws) (script : Script) (account : Account) (limits : IsWi
   slog = session_log account s
 
   abbrev pub entry : GateEntry
-  entry = record { author = author; deed = deed }
+  entry = gate-entry author deed
 
   abbrev pub sentry : SessionEntry
   sentry = record { author = s; deed = session.Begun r stamp }
@@ -89,40 +91,27 @@ module _ (laws : LowerLaws) (script : Script) (account : Account) (limits : IsWi
   abbrev pub next : Account
   next = with_session_deed (with_gate_deed account g author deed) s (session.Begun r stamp)
 
-  within : g < length account.gates
-  within = let many = is.gatekeepers.as_many in omega (arith, inside, many)
-
   pub log-here : gate_log next g ≡ log ++ entry ∷ []
-  log-here = get_or-set_same account.gates g (log ++ entry ∷ []) [] within
+  log-here = set-here account.gates g (gate-within is g inside) entry
 
   pub log-there : (home : ℕ) → home ≢ g → gate_log next home ≡ gate_log account home
-  log-there home other = get_or-set_other account.gates g home (log ++ entry ∷ []) [] other
+  log-there = set-there account.gates g (gate-within is g inside) entry
 
   session-here : session_log next s ≡ slog ++ sentry ∷ []
-  session-here = get_or-set_same account.sessions s (slog ++ sentry ∷ []) [] within-s
+  session-here = set-here account.sessions s within-s sentry
 
   session-there : (i : ℕ) → i ≢ s → session_log next i ≡ session_log account i
-  session-there i other = get_or-set_other account.sessions s i (slog ++ sentry ∷ []) [] other
+  session-there = set-there account.sessions s within-s sentry
 
   pub on : GoesOn account next
-  on = record {
-    gates = λ home. elim (cases_eq home g) [
-      | inl same ↦ (entry ∷ [], ap (gate_log next) same ∙ log-here ∙ ap (λ n. gate_log account n ++ entry ∷ []) (sym same))
-      | inr other ↦ ([], log-there home other ∙ sym (append-nil (gate_log account home)))
-    ];
-    store = ([], sym (append-nil account.store));
-    oracle = ([], sym (append-nil account.oracle));
-    shards = λ shard. ([], sym (append-nil (shard_log account shard)));
-    sessions = λ i. elim (cases_eq i s) [
-      | inl same ↦ (sentry ∷ [], ap (session_log next) same ∙ session-here ∙ ap (λ n. session_log account n ++ sentry ∷ []) (sym same))
-      | inr other ↦ ([], session-there i other ∙ sym (append-nil (session_log account i)))
-    ];
-  }
+  on =
+      goes-further account (with_gate_deed account g author deed) next (with-gate-deed account g author deed (gate-within is g inside))
+      (with-session-deed (with_gate_deed account g author deed) s (session.Begun r stamp) within-s)
 
   -- What was begun
 
   set : SetMore begun_in account.gates g (log ++ entry ∷ []) (new ∷ [])
-  set = flat-more begun_in account.gates g (log ++ entry ∷ []) (new ∷ []) within
+  set = flat-more begun_in account.gates g (log ++ entry ∷ []) (new ∷ []) (gate-within is g inside)
       (flat_map-append (λ (e : GateEntry). begun_by e.author e.deed) log (entry ∷ []) ∙ ap (λ bs. begun_in log ++ (bs ++ [])) one)
 
   fresh : (b : Begun) → Contains (all_begun account) b → b.request ≢ r
@@ -154,22 +143,10 @@ module _ (laws : LowerLaws) (script : Script) (account : Account) (limits : IsWi
   pub known-next : (clock : Clock) → IsKnown account clock → IsKnown next clock
   known-next = laws.accounts.stay_clocks script account next on
 
-  -- Rules at each entry
-
-  each-gate : (P : ℕ → List GateEntry → GateEntry → Type 0) → ((home : ℕ) → AtEachEntry (P home) (gate_log account home)) → P g log entry → (home : ℕ) → AtEachEntry (P home) (gate_log next home)
-  each-gate P each here home = elim (cases_eq home g) [
-    | inl same ↦ subst (λ n. AtEachEntry (P n) (gate_log next n)) (sym same) (subst (AtEachEntry (P g)) (sym log-here) (each_push (P g) log entry (each g) here))
-    | inr other ↦ subst (AtEachEntry (P home)) (sym (log-there home other)) (each home)
-  ]
-
-  each-session : (P : ℕ → List SessionEntry → SessionEntry → Type 0) → ((i : ℕ) → AtEachEntry (P i) (session_log account i)) → P s slog sentry → (i : ℕ) → AtEachEntry (P i) (session_log next i)
-  each-session P each here i = elim (cases_eq i s) [
-    | inl same ↦ subst (λ n. AtEachEntry (P n) (session_log next n)) (sym same) (subst (AtEachEntry (P s)) (sym session-here) (each_push (P s) slog sentry (each s) here))
-    | inr other ↦ subst (AtEachEntry (P i)) (sym (session-there i other)) (each i)
-  ]
+  -- What has ended, and what has its reply
 
   ended-same : ended_by deed ≡ [] → flat_map ended_in next.gates ≡ flat_map ended_in account.gates
-  ended-same quiet = flat-set ended_in account.gates g (log ++ entry ∷ []) within
+  ended-same quiet = flat-set ended_in account.gates g (log ++ entry ∷ []) (gate-within is g inside)
       (flat_map-append (λ (e : GateEntry). ended_by e.deed) log (entry ∷ []) ∙ ap (λ more. ended_in log ++ (more ++ [])) quiet ∙ append-nil (ended_in log))
 
   -- a reply that was there is there: a begin adds none
@@ -191,21 +168,21 @@ module _ (laws : LowerLaws) (script : Script) (account : Account) (limits : IsWi
   begin-goes-on fits begins knows hears sends quiet session-is turn unbegun-in = record {
     gatekeepers = record {
       as_many = length-set account.gates g (log ++ entry ∷ []) ∙ is.gatekeepers.as_many;
-      logs = each-gate (λ home before (e : GateEntry). FitsAs home script.shards before e.author e.deed) is.gatekeepers.logs fits;
-      begins = each-gate (λ home before (e : GateEntry). BeginsAs script next home before e.deed)
+      logs = each-set account.gates g (gate-within is g inside) entry (λ home before (e : GateEntry). FitsAs home script.shards before e.author e.deed) is.gatekeepers.logs fits;
+      begins = each-set account.gates g (gate-within is g inside) entry (λ home before (e : GateEntry). BeginsAs script next home before e.deed)
           (λ home before e rest at. laws.accounts.stay_begins script account next limits is on once-next home before rest e at) begins;
       once = once-next;
     };
-    clocks = record { known = knowing; hears_no_more = each-gate (λ home before (e : GateEntry). HearsAs home before e.deed) is.clocks.hears_no_more hears };
+    clocks = record { known = knowing; hears_no_more = each-set account.gates g (gate-within is g inside) entry (λ home before (e : GateEntry). HearsAs home before e.deed) is.clocks.hears_no_more hears };
     sessions = record {
-      logs = each-session (λ i before (e : SessionEntry). (e.author ≡ i) × FitsSession (session_of (requests_of_session script i) before) e.deed) is.sessions.logs (refl, turn);
+      logs = each-set account.sessions s within-s sentry (λ i before (e : SessionEntry). (e.author ≡ i) × FitsSession (session_of (requests_of_session script i) before) e.deed) is.sessions.logs (refl, turn);
       stamps = stamps;
-      replies = each-session (λ i. ReplyRule next) (replies-stay laws script account next limits is on) tt;
+      replies = each-set account.sessions s within-s sentry (λ i. ReplyRule next) (replies-stay laws script account next limits is on) tt;
       finished_are_replied = λ q request at look ended. reply-same q request.session (is.sessions.finished_are_replied q request at look (subst (λ all. IsTrue (is_in q all)) (ended-same quiet) ended));
     };
     store = store-stays laws script account next limits is on refl;
     oracle = oracle-stays laws script account next limits is on refl (λ shard. refl) refl;
-    channels = each-gate (λ home. SendRule script next) (sends-stay laws script account next limits is on) sends;
+    channels = each-set account.gates g (gate-within is g inside) entry (λ home. SendRule script next) (sends-stay laws script account next limits is on) sends;
     shards = record { as_many = is.shards.as_many; deeds = deeds-stay laws script account next limits is on };
     programs = λ q request program at look. (let read = is.programs q request program at look in record {
       once = read.once;

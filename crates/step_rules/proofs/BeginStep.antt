@@ -1,12 +1,13 @@
 -- `begin` keeps a core.
+-- Used by Stepping.
 use Rattle.std.proofs.Common.{◌≡◌, ℕ, ◌+◌, ◌<◌, ◌==◌, Bool, true, false, cond, List, [], ◌∷◌, ◌++◌, length, Contains, IsTrue, Option, None, Some, refl, sym, ap, subst, ◌∙◌, arith}
 use Rattle.std.specs.Prelude.{count_by, is_some, ◌&&◌}
 use Rattle.std.specs.Option.{ForSome, option_and_then}
 use Rattle.std.proofs.lemmas.Bool.{and_from, eq-eqb}
 use Rattle.std.proofs.lemmas.List.{length-set}
 use Rattle.std.proofs.lemmas.List.Concat.{flat_map-append}
-use Rattle.proof_base.proofs.Ends.{count_push}
-use Rattle.proof_base.proofs.Members.{map_has, only}
+use Rattle.weave_data.proofs.Ends.{count_push}
+use Rattle.weave_data.proofs.Members.{map_has, only}
 use Rattle.vector_stamp.specs.declared.clock.Clock.{Clock}
 use Rattle.vector_stamp.specs.declared.clock.Stamp.{Stamp}
 use Rattle.vector_stamp.specs.Clocks.{counts_no_more}
@@ -42,6 +43,7 @@ use Rattle.step_rules.specs.Requests.{finds_flight, has_begun, last_begun, waits
 use Rattle.step_rules.proofs.Basis.{Basis}
 use Rattle.step_rules.proofs.SessionTurns as turns
 use Rattle.step_rules.proofs.BeginAccount as one
+use Rattle.step_rules.proofs.Within.{session-within}
 
 -- only the last of the four answers is `Ok`
 none-of : (a b c : Bool) → cond a Twice (cond b Early (cond c Busy Ok)) ≡ Ok → (a ≡ false) × (b ≡ false) × (c ≡ false)
@@ -89,7 +91,7 @@ module _ (script : Script) (state : CoreState) (basis : Basis script state) (r :
   below = let few = basis.limits.few_gates in omega (arith, inside, few)
 
   within-s : s < length account.sessions
-  within-s = let many = basis.core.sessions in let less = basis.limits.sessions r request request-is in omega (arith, many, less)
+  within-s = session-within basis.limits basis.core r request request-is
 
   no-stamp : stamp_of account r ≡ None
   no-stamp = nothing (stamp_of account r) (ap is_some (sym (is.sessions.stamps r request request-is)) ∙ sym (one.begun-agree slog s r stamp) ∙ unbegun)

@@ -1,8 +1,9 @@
 -- What was begun at the gatekeepers.
+-- Used by JudgeStep, NopStep, SendStep and VisitStep.
 use Rattle.std.proofs.Common.{◌≡◌, ◌≢◌, ℕ, ◌<◌, List, [], length, Contains, Some, inl, inr, sym, arith}
 use Rattle.std.proofs.lemmas.List.Elements.{Contains-get_or, Contains-append_left, Contains-append_right}
-use Rattle.proof_base.proofs.Members.{flat_has, has_flat}
-use Rattle.proof_base.proofs.Ordered.{pairs_cases}
+use Rattle.weave_data.proofs.Members.{flat_has, has_flat}
+use Rattle.weave_data.proofs.Ordered.{pairs_cases}
 use Rattle.program_defs.specs.declared.script.Script.{Script}
 use Rattle.weave_entries.specs.declared.gate_log.GateEntry.{GateEntry}
 use Rattle.weave_entries.specs.GateReplay.{Begun, begun_by, begun_in, flight_of, tx_by, program_by, programs_of, txs_of}
@@ -11,7 +12,7 @@ use Rattle.weave_account.specs.Account.{gate_log, all_begun}
 use Rattle.weave_account.specs.Gatekeepers.{BeginEachOnce}
 use Rattle.weave_account.specs.IsAccount.{IsAccount}
 use Rattle.program_defs.specs.Limits.{IsWithinLimits}
-use Rattle.step_rules.specs.LowerLaws.{LowerLaws, Further}
+use Rattle.step_rules.specs.LowerLaws.{LawsForSteps, Further}
 
 -- a transaction that was begun is one of what was begun
 pub tx-begun : (log : List GateEntry) (b : Begun) → Contains (txs_of log) b → Contains (begun_in log) b
@@ -37,7 +38,7 @@ one-begun account once a b ha hb same = elim (pairs_cases (λ (x y : Begun). x.r
   | inr (inr differ) ↦ absurd (differ (sym same))
 ]
 
-module _ (laws : LowerLaws) (further : Further) (script : Script) (account : Account) (limits : IsWithinLimits script) (is : IsAccount script account) (home : ℕ) (inside : home < script.gates) where
+module _ (laws : LawsForSteps) (further : Further) (script : Script) (account : Account) (limits : IsWithinLimits script) (is : IsAccount script account) (home : ℕ) (inside : home < script.gates) where
   pub inside-log : home < length account.gates
   inside-log = let many = is.gatekeepers.as_many in omega (arith, inside, many)
 

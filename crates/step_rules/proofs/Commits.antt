@@ -1,10 +1,11 @@
 -- Commits of a store's log, and lists by recursion.
+-- Used by JudgeStep and VisitStep.
 use Rattle.std.proofs.Common.{◌≡◌, ℕ, List, [], ◌∷◌, Contains, inl, inr, subst, ap}
 use Rattle.std.specs.Prelude.{reverse}
 use Rattle.std.specs.List.{AllByRecursion}
 use Rattle.std.proofs.lemmas.List.{reverse-append}
 use Rattle.std.proofs.lemmas.List.Elements.{Contains-append_cases}
-use Rattle.proof_base.proofs.Members.{flat_has, has_head, has_map, has_none, has_tail, only}
+use Rattle.weave_data.proofs.Members.{flat_has, has_head, has_map, has_none, has_tail, only}
 use Rattle.weave_entries.specs.declared.store_log.StoreEntry.{StoreEntry}
 use Rattle.weave_entries.specs.declared.store_log.StoreDeed.{StoreDeed}
 use Rattle.weave_entries.specs.declared.store_log.StoreDeed.TheVariants.{Judged}

@@ -1,4 +1,5 @@
 -- A request has its reply exactly if a `reply` of it was done.
+-- Used by `replies_finish_programs` and ReportedReplies.
 use Rattle.std.proofs.Common.{◌≡◌, ◌≢◌, ℕ, ◌+◌, ◌<◌, Bool, true, false, cond, List, [], ◌∷◌, ◌++◌, length, Contains, IsTrue, Option, None, Some, ◌⊎◌, inl, inr, refl, sym, ap, subst, ◌∙◌, get_or, get_or-set_same, get_or-set_other, arith}
 use Rattle.std.specs.Prelude.{◌↔◌, slice_set}
 use Rattle.std.specs.List.{zip}
@@ -6,8 +7,8 @@ use Rattle.std.proofs.lemmas.Bool.{cases_eq}
 use Rattle.std.proofs.lemmas.List.{length-append, length-replicate, length-set}
 use Rattle.std.proofs.lemmas.List.Elements.{Contains-append_left, Contains-append_right, Contains-append_cases}
 use Rattle.std.proofs.lemmas.List.Sums.{fold-append}
-use Rattle.proof_base.proofs.Ends.{by_last, flat_push}
-use Rattle.proof_base.proofs.Members.{has_head, has_last, has_none, only}
+use Rattle.weave_data.proofs.Ends.{by_last, flat_push}
+use Rattle.weave_data.proofs.Members.{has_head, has_last, has_none, only}
 use Rattle.weave_data.specs.declared.name.Name.{Name}
 use Rattle.vector_stamp.specs.declared.clock.Clock.{Clock}
 use Rattle.shard_queue.specs.Sent.{sent_as}
@@ -33,15 +34,15 @@ use Rattle.step_rules.specs.CoreState.{CoreState}
 use Rattle.step_rules.specs.Answers.{answer_of}
 use Rattle.step_rules.specs.Entries.{account_with, after_begin, after_deliver, after_hear, after_judge, after_reply, after_send, after_visit, after_work, at_request, judgement_in_flight, stamp_to_begin, state_with, with_finish}
 use Rattle.step_rules.specs.Finishing.{IsReplyDone}
-use Rattle.step_rules.specs.LowerLaws.{LowerLaws}
+use Rattle.step_rules.specs.LowerLaws.{LawsForSteps}
 use Rattle.step_rules.specs.Requests.{has_ended, has_reply, next_vertex}
 use Rattle.step_rules.specs.Trace.{TraceState, is_ok, state_after, trace_of, trace_start, traced_after}
-use Rattle.step_rules.proofs.FewSteps.{none-at}
 use Rattle.step_rules.proofs.Stepping.{ok-is}
+use Rattle.weave_account.proofs.Starting.{none-at}
 
 -- The logs of sessions, of which one has one more entry
 
-module _ (laws : LowerLaws) (sessions : List (List SessionEntry)) (s : ℕ) (within : s < length sessions) (entry : SessionEntry) where
+module _ (laws : LawsForSteps) (sessions : List (List SessionEntry)) (s : ℕ) (within : s < length sessions) (entry : SessionEntry) where
   abbrev log : List SessionEntry
   log = get_or sessions s []
 
@@ -83,7 +84,7 @@ module _ (laws : LowerLaws) (sessions : List (List SessionEntry)) (s : ℕ) (wit
 
 -- Steps
 
--- the sessions are as many; a request has its reply if it had it, or if this is so of it
+-- there are as many sessions as before; a request has its reply if and only if it had it, or this is so of it
 record AddsReplies (script : Script) (account next : Account) (IsNew : ℕ → Type 0) : Type 0 where
   pub many : length next.sessions ≡ length account.sessions
   pub has : (q : ℕ) (request : Request) → request_at script q ≡ Some request → IsTrue (has_reply next q request) → IsTrue (has_reply account q request) ⊎ IsNew q
@@ -101,27 +102,28 @@ adds-none script account next IsNew same none = record {
   ];
 }
 
--- one of them has one more entry
-adds-entry : (laws : LowerLaws) (script : Script) (account next : Account) (s : ℕ) (entry : SessionEntry) (IsNew : ℕ → Type 0) → s < length account.sessions
-    → next.sessions ≡ slice_set account.sessions s (session_log account s ++ entry ∷ [])
-    → ((q : ℕ) (request : Request) → request_at script q ≡ Some request → Contains (reply_by entry.deed) q → IsNew q)
-    → ((q : ℕ) (request : Request) → request_at script q ≡ Some request → IsNew q → (request.session ≡ s) × Contains (reply_by entry.deed) q)
-    → AddsReplies script account next IsNew
-adds-entry laws script account next s entry IsNew within same new its = record {
-  many = ap length same ∙ length-set account.sessions s (session_log account s ++ entry ∷ []);
-  has = λ q request at h.
-      elim (more-has laws account.sessions s within entry q request.session (subst (λ ss. IsTrue (has_reply_in q (get_or ss request.session []))) same h)) [
-        | inl before ↦ inl before
-        | inr more ↦ inr (new q request at more.1)
-      ];
-  from = λ q request at h. subst (λ ss. IsTrue (has_reply_in q (get_or ss request.session []))) (sym same) (has-more laws account.sessions s within entry q request.session (elim h [
-    | inl before ↦ inl before
-    | inr one ↦ inr (its q request at one)
-  ]));
-}
+module _ (laws : LawsForSteps) (script : Script) (account next : Account) (s : ℕ) (entry : SessionEntry) (IsNew : ℕ → Type 0) where
+  -- one of them has one more entry
+  adds-entry : s < length account.sessions
+      → next.sessions ≡ slice_set account.sessions s (session_log account s ++ entry ∷ [])
+      → ((q : ℕ) (request : Request) → request_at script q ≡ Some request → Contains (reply_by entry.deed) q → IsNew q)
+      → ((q : ℕ) (request : Request) → request_at script q ≡ Some request → IsNew q → (request.session ≡ s) × Contains (reply_by entry.deed) q)
+      → AddsReplies script account next IsNew
+  adds-entry within same new its = record {
+    many = ap length same ∙ length-set account.sessions s (session_log account s ++ entry ∷ []);
+    has = λ q request at h.
+        elim (more-has laws account.sessions s within entry q request.session (subst (λ ss. IsTrue (has_reply_in q (get_or ss request.session []))) same h)) [
+          | inl before ↦ inl before
+          | inr more ↦ inr (new q request at more.1)
+        ];
+    from = λ q request at h. subst (λ ss. IsTrue (has_reply_in q (get_or ss request.session []))) (sym same) (has-more laws account.sessions s within entry q request.session (elim h [
+      | inl before ↦ inl before
+      | inr one ↦ inr (its q request at one)
+    ]));
+  }
 
 -- what a step leaves if it is done
-module _ (laws : LowerLaws) (script : Script) (limits : IsWithinLimits script) (state : CoreState) (many : length state.account.sessions ≡ 64) where
+module _ (laws : LawsForSteps) (script : Script) (limits : IsWithinLimits script) (state : CoreState) (many : length state.account.sessions ≡ 64) where
   abbrev account : Account
   account = state.account
 
@@ -258,7 +260,7 @@ done-push steps answers step answer q as_many = (has, from)
         subst (λ (zs : List (Step × StepAnswer)). Contains zs (Reply q, Ok)) (sym both)
         (subst (λ (s : Step). Contains (zip steps answers ++ (step, answer) ∷ []) (s, Ok)) new.0 (subst (λ (a : StepAnswer). Contains (zip steps answers ++ (step, answer) ∷ []) (step, a)) new.1 (has_last (zip steps answers) (step, answer))))
 
-module _ (laws : LowerLaws) (script : Script) (limits : IsWithinLimits script) where
+module _ (laws : LawsForSteps) (script : Script) (limits : IsWithinLimits script) where
   -- each step has an answer, and a request has its reply exactly if a `reply` of it was done
   record IsReplied (steps : List Step) (trace : TraceState) : Type 0 where
     pub sessions : length trace.state.account.sessions ≡ 64

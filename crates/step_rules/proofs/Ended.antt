@@ -1,8 +1,9 @@
 -- Numbers in a list, by the test and by membership.
+-- Used by FinishStep, GateStep and ReplyStep.
 use Rattle.std.proofs.Common.{ℕ, List, Contains, IsTrue, refl, sym, subst}
 use Rattle.std.specs.Prelude.{nat_eq}
 use Rattle.std.proofs.lemmas.Bool.{eqb-true, eq-eqb}
-use Rattle.proof_base.proofs.Members.{any_from, any_has}
+use Rattle.weave_data.proofs.Members.{any_from, any_has}
 use Rattle.report_rules.specs.Lookups.{is_in}
 
 -- a member passes the test

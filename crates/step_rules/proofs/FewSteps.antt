@@ -1,13 +1,14 @@
 -- Fewer than 2^64 steps give stamps of 64 bits: each step makes at most one entry at a gatekeeper, and raises its epoch to at most 1,000,000.
-use Rattle.std.proofs.Common.{◌≡◌, ℕ, zero, suc, ◌+◌, ◌^◌, ◌<◌, ◌≤◌, ◌==◌, Bool, true, false, cond, List, [], ◌∷◌, ◌++◌, length, replicate, get_or, Contains, IsTrue, Option, None, Some, ◌⊎◌, inl, inr, refl, sym, ap, subst, ◌∙◌, get_or-set_same, get_or-set_other, arith}
+-- Used by `trace_is_a_core`.
+use Rattle.std.proofs.Common.{◌≡◌, ℕ, zero, suc, ◌+◌, ◌^◌, ◌<◌, ◌≤◌, ◌==◌, Bool, true, false, cond, List, [], ◌∷◌, ◌++◌, length, get_or, Contains, IsTrue, Option, None, Some, ◌⊎◌, inl, inr, refl, sym, ap, subst, ◌∙◌, get_or-set_same, get_or-set_other, arith}
 use Rattle.std.specs.Prelude.{count_by, nat_lt, slice_index, slice_set}
 use Rattle.std.specs.List.{list_all, list_any}
 use Rattle.std.specs.Option.{ForSome}
 use Rattle.std.proofs.lemmas.Bool.{and_from, cases_eq, eqb-true, lt-ltb}
 use Rattle.std.proofs.lemmas.List.{length-append}
 use Rattle.std.proofs.lemmas.List.Elements.{Contains-append_cases}
-use Rattle.proof_base.proofs.Ends.{by_last, count_push, flat_push}
-use Rattle.proof_base.proofs.Members.{any_has, has_head, has_none, has_read, has_tail, map_has, only}
+use Rattle.weave_data.proofs.Ends.{by_last, count_push, flat_push}
+use Rattle.weave_data.proofs.Members.{any_has, has_head, has_none, has_read, has_tail, map_has, only}
 use Rattle.weave_data.specs.declared.name.Name.{Name}
 use Rattle.vector_stamp.specs.declared.clock.Clock.{Clock}
 use Rattle.vector_stamp.specs.declared.clock.Stamp.{Stamp}
@@ -37,11 +38,13 @@ use Rattle.step_rules.specs.CoreState.{CoreState, start_state, with_gate_deed}
 use Rattle.step_rules.specs.Answers.{answer_of}
 use Rattle.step_rules.specs.Entries.{account_with, after_begin, after_deliver, after_hear, after_judge, after_reply, after_send, after_visit, after_work, at_request, begin_deed, judgement_in_flight, stamp_to_begin, state_with, with_finish}
 use Rattle.step_rules.specs.IsCore.{AreSteps, IsCore, IsSmall, IsStepOf}
-use Rattle.step_rules.specs.LowerLaws.{LowerLaws, Further}
+use Rattle.step_rules.specs.LowerLaws.{LawsForSteps, Further}
 use Rattle.step_rules.specs.Requests.{has_ended, last_begun, next_vertex}
 use Rattle.step_rules.specs.Trace.{is_ok, state_after}
 use Rattle.step_rules.proofs.Starting.{start-is-core}
 use Rattle.step_rules.proofs.Stepping.{step-keeps}
+use Rattle.step_rules.proofs.Within.{gate-within, home-within}
+use Rattle.weave_account.proofs.Starting.{none-at}
 
 -- Logs
 
@@ -53,7 +56,7 @@ RaisesLittle deed = (epoch : ℕ) → IsTrue (raises_to epoch deed) → epoch �
 abbrev AddsOne : List GateEntry → List GateEntry → Type 0
 AddsOne log next = (next ≡ log) ⊎ ((entry : GateEntry) × (next ≡ log ++ entry ∷ []) × RaisesLittle entry.deed)
 
--- so is the log of each gatekeeper
+-- the same holds of the log of each gatekeeper
 abbrev AddsFew : Account → Account → Type 0
 AddsFew account next = (home : ℕ) → AddsOne (gate_log account home) (gate_log next home)
 
@@ -61,12 +64,6 @@ AddsFew account next = (home : ℕ) → AddsOne (gate_log account home) (gate_lo
 pub record IsFew (n : ℕ) (account : Account) : Type 0 where
   pub few : (home : ℕ) → length (gate_log account home) ≤ n
   pub little : (home : ℕ) (entry : GateEntry) → Contains (gate_log account home) entry → RaisesLittle entry.deed
-
--- each of the empty logs is empty
-pub none-at : {A : Type 0} (n i : ℕ) → get_or {A = List A} (replicate n []) i [] ≡ []
-none-at zero i = refl
-none-at (suc n) zero = refl
-none-at (suc n) (suc i) = none-at n i
 
 few-at-first : (script : Script) → IsFew 0 (no_logs script)
 few-at-first script = record {
@@ -209,16 +206,10 @@ module _ (script : Script) (state : CoreState) (limits : IsWithinLimits script) 
   abbrev account : Account
   account = state.account
 
-  gate-within : (home : ℕ) → home < script.gates → home < length account.gates
-  gate-within home inside = let many = core.account.gatekeepers.as_many in omega (arith, inside, many)
-
-  home-within : (r : ℕ) (request : Request) → request_at script r ≡ Some request → request.gate < length account.gates
-  home-within r request at = gate-within request.gate (limits.homes r request at)
-
   begins-few : (r : ℕ) (q : Option Request) → request_at script r ≡ q → AddsFew account (at_request (after_begin account r) account q)
   begins-few r None at = adds-none account
   begins-few r (Some request) at =
-      adds-deed account request.gate 0 (begin_deed r (stamp_to_begin account request) request.work) (home-within r request at) (begins-little r (stamp_to_begin account request) request.work)
+      adds-deed account request.gate 0 (begin_deed r (stamp_to_begin account request) request.work) (home-within limits core r request at) (begins-little r (stamp_to_begin account request) request.work)
 
   judges-few : (flight : Option Begun) → AddsFew account (after_judge script account flight)
   judges-few None = adds-none account
@@ -228,11 +219,11 @@ module _ (script : Script) (state : CoreState) (limits : IsWithinLimits script) 
   sends-few home inside None judged = adds-none account
   sends-few home inside (Some flight) None = adds-none account
   sends-few home inside (Some flight) (Some judged) =
-      adds-deed account home flight.author (Sent flight.request (messages_of script.shards (gate_log account home) flight judged.ops judged.verdict)) (gate-within home inside) (λ epoch h. cc)
+      adds-deed account home flight.author (Sent flight.request (messages_of script.shards (gate_log account home) flight judged.ops judged.verdict)) (gate-within core.account home inside) (λ epoch h. cc)
 
   hears-few : (home : ℕ) → home < script.gates → (notice : Option Clock) → AddsFew account (after_hear account home notice)
   hears-few home inside None = adds-none account
-  hears-few home inside (Some notice) = adds-deed account home 0 (Heard notice) (gate-within home inside) (λ epoch h. cc)
+  hears-few home inside (Some notice) = adds-deed account home 0 (Heard notice) (gate-within core.account home inside) (λ epoch h. cc)
 
   delivers-few : (home shard number : ℕ) (message : Option Message) → AddsFew account (after_deliver account home shard number message)
   delivers-few home shard number None = adds-none account
@@ -249,7 +240,7 @@ module _ (script : Script) (state : CoreState) (limits : IsWithinLimits script) 
 
   finishes-few : (r : ℕ) (request : Request) → request_at script r ≡ Some request → (begun : Option Begun) → AddsFew account (with_finish account r request.gate begun)
   finishes-few r request at None = adds-none account
-  finishes-few r request at (Some begun) = adds-deed account request.gate begun.author (Finished r) (home-within r request at) (λ epoch h. cc)
+  finishes-few r request at (Some begun) = adds-deed account request.gate begun.author (Finished r) (home-within limits core r request at) (λ epoch h. cc)
 
   work-few : (r : ℕ) (request : Request) → request_at script r ≡ Some request → (work : Work) → AddsFew account (after_work account r request work)
   work-few r request at (Change ops) = adds-none account
@@ -271,13 +262,13 @@ module _ (script : Script) (state : CoreState) (limits : IsWithinLimits script) 
   step-few (Hear g n) range = hears-few g range.0 (sent_as n state.notices)
   step-few (Nop g s) range =
       let stamp = next_stamp g (clock_of g (gate_log account g)) in
-      adds-deed account g 0 (Empty s (next_number s (gate_log account g)) stamp (low_mark stamp (running_of (gate_log account g)))) (gate-within g range.0) (λ epoch h. cc)
+      adds-deed account g 0 (Empty s (next_number s (gate_log account g)) stamp (low_mark stamp (running_of (gate_log account g)))) (gate-within core.account g range.0) (λ epoch h. cc)
   step-few (Deliver g s n) range = delivers-few g s n (sent_as n (channel_of s (gate_log account g)))
   step-few (Apply s g) range = λ home. inl refl
   step-few (Visit r) range = at-visit r (request_at script r)
   step-few (Reply r) range = replies-few r (request_at script r) refl
   step-few (Collect s) range = λ home. inl refl
-  step-few (Epoch g epoch) range = adds-deed account g 0 (Raised epoch) (gate-within g range.0) (λ other h. (let same = eqb-true epoch other h in let most = range.2 in omega (arith, same, most)))
+  step-few (Epoch g epoch) range = adds-deed account g 0 (Raised epoch) (gate-within core.account g range.0) (λ other h. (let same = eqb-true epoch other h in let most = range.2 in omega (arith, same, most)))
 
   -- whatever a step answers, each gatekeeper has at most one entry more
   pub after-few : (step : Step) → IsStepOf script step → AddsFew account (state_after script state step).account
@@ -287,7 +278,7 @@ module _ (script : Script) (state : CoreState) (limits : IsWithinLimits script) 
       at true = step-few step range
       at false = adds-none account
 
-  module _ (laws : LowerLaws) (further : Further) (n : ℕ) (few : IsFew n account) (below : n + 1 < 2 ^ 64) where
+  module _ (laws : LawsForSteps) (further : Further) (n : ℕ) (few : IsFew n account) (below : n + 1 < 2 ^ 64) where
     known-last : (session : ℕ) → ForSome (last_begun account session) (λ one. IsKnown account one.clock)
     known-last session old e =
         let begun = map_has (λ (b : Begun). b.stamp) (all_begun account) old (further.accounts.last script account limits core.account session old e) in
@@ -321,7 +312,7 @@ module _ (script : Script) (state : CoreState) (limits : IsWithinLimits script) 
 
 -- All steps
 
-module _ (laws : LowerLaws) (further : Further) (script : Script) (limits : IsWithinLimits script) where
+module _ (laws : LawsForSteps) (further : Further) (script : Script) (limits : IsWithinLimits script) where
   are-steps : (steps : List Step) (n : ℕ) (state : CoreState) → IsCore script state → IsFew n state.account → n + length steps < 2 ^ 64 → ((step : Step) → Contains steps step → IsStepOf script step) → AreSteps script state steps
   are-steps [] n state core few below each = tt
   are-steps (step ∷ steps) n state core few below each =

@@ -1,11 +1,12 @@
 -- Looking for an element in a list that has one more.
+-- Used by BeginAccount, Replying, ReportedReplies, VisitStep and crate workers_account.
 use Rattle.std.proofs.Common.{◌≡◌, Bool, true, false, cond, List, [], ◌∷◌, ◌++◌, AllPairs, Contains, Option, None, Some, inl, inr, refl, ap, subst, ◌∙◌}
 use Rattle.std.specs.Prelude.{is_some, ◌||◌}
 use Rattle.std.specs.List.{find, list_any}
 use Rattle.std.specs.Option.{option_map, option_or}
 use Rattle.std.proofs.lemmas.List.Elements.{Contains-append_left, Contains-append_right, Contains-append_cases}
-use Rattle.proof_base.proofs.Members.{has_head, has_read, has_tail}
-use Rattle.proof_base.proofs.Ordered.{pairs_cons, pairs_head, pairs_tail}
+use Rattle.weave_data.proofs.Members.{has_head, has_read, has_tail}
+use Rattle.weave_data.proofs.Ordered.{pairs_cons, pairs_head, pairs_tail}
 
 -- one that doesn't pass changes nothing
 pub find-into : {A : Type 0} (p : A → Bool) (front : List A) (x : A) (back : List A) → p x ≡ false → find p (front ++ x ∷ back) ≡ find p (front ++ back)
@@ -41,7 +42,7 @@ pub or-none : {A : Type 0} (o : Option A) → option_or o None ≡ o
 or-none None = refl
 or-none (Some x) = refl
 
--- one more element that stands in the relation to all
+-- one more element that is in the relation to all
 pub pairs-into : {A : Type 0} (R : A → A → Type 0) (front : List A) (x : A) (back : List A) → AllPairs R (front ++ back) → ((y : A) → Contains front y → R y x) → ((y : A) → Contains back y → R x y) → AllPairs R (front ++ x ∷ back)
 pairs-into R [] x back pairs before after = pairs_cons R x back after pairs
 pairs-into R (y ∷ front) x back pairs before after =

@@ -2,7 +2,7 @@
 use Rattle.std.specs.Prelude.{◌≡◌, ◌&&◌, ◌==◌, Bool, true, false, List, refl}
 use Rattle.std.specs.List.{list_any, zip}
 use Rattle.std.proofs.lemmas.Bool.{both_ways, ltb-true}
-use Rattle.proof_base.proofs.Members.{any_from}
+use Rattle.weave_data.proofs.Members.{any_from}
 use Rattle.program_defs.specs.declared.script.Step.{Step}
 use Rattle.program_defs.specs.declared.script.Step.TheVariants.{Reply}
 use Rattle.report_rules.specs.declared.report.StepAnswer.{StepAnswer}

@@ -1,4 +1,5 @@
 -- The clauses of an account that stay while other logs go on.
+-- Used by BeginAccount, FinishStep, GateStep, JudgeStep, ReplyStep, ShardStep and VisitStep.
 use Rattle.std.proofs.Common.{◌≡◌, ◌≢◌, ℕ, List, AllPairs, Contains, sym, subst}
 use Rattle.std.specs.List.{flat_map}
 use Rattle.vector_stamp.specs.declared.clock.Stamp.{Stamp}
@@ -22,9 +23,9 @@ use Rattle.weave_account.specs.Oracle.{OracleClause, marked_in}
 use Rattle.weave_account.specs.Sessions.{RepliesAs}
 use Rattle.weave_account.specs.Shards.{ShardFitsAs}
 use Rattle.weave_account.specs.Store.{Judges, InTurn, StoreClause}
-use Rattle.step_rules.specs.LowerLaws.{LowerLaws}
+use Rattle.step_rules.specs.LowerLaws.{LawsForSteps}
 
--- what holds at each entry holds at each if the one implies the other
+-- if the first property implies the second, and holds at each entry, the second holds at each
 pub each-other : {E : Type 0} (P Q : List E → E → Type 0) → ((before : List E) (entry : E) → P before entry → Q before entry) → (log : List E) → AtEachEntry P log → AtEachEntry Q log
 each-other P Q implies log each before entry after is = implies before entry (each before entry after is)
 
@@ -41,7 +42,7 @@ ShardRule script account shard before entry = ShardFitsAs script account shard b
 abbrev pub ReplyRule : Account → List SessionEntry → SessionEntry → Type 0
 ReplyRule account before entry = RepliesAs account entry.deed
 
-module _ (laws : LowerLaws) (script : Script) (account next : Account) (limits : IsWithinLimits script) (is : IsAccount script account) (on : GoesOn account next) where
+module _ (laws : LawsForSteps) (script : Script) (account next : Account) (limits : IsWithinLimits script) (is : IsAccount script account) (on : GoesOn account next) where
   -- the same store is right
   pub store-stays : next.store ≡ account.store → StoreClause script next
   store-stays same = record {

@@ -1,4 +1,5 @@
 -- Refusals in every combination that can hold, and lists of steps that only one part of a definition decides.
+-- Used by RowsKept.
 use Rattle.std.specs.Prelude.{◌≡◌, refl, List, [], ◌∷◌, None, Some}
 use Rattle.graph_ops.specs.declared.op.Op.TheVariants.{Create, Set, Get}
 use Rattle.graph_ops.specs.declared.op.Reason.TheVariants.{Exists}

@@ -1,12 +1,12 @@
 -- One more entry in a gatekeeper's log that begins nothing.
-use Rattle.std.proofs.Common.{◌≡◌, ◌≢◌, ℕ, ◌<◌, List, [], ◌∷◌, ◌++◌, length, Contains, AllPairs, IsTrue, Some, ◌==◌, false, ◌⊎◌, inl, inr, refl, sym, ap, subst, ◌∙◌, get_or-set_same, get_or-set_other, arith}
+-- Used by GateSteps, NopStep and SendStep.
+use Rattle.std.proofs.Common.{◌≡◌, ◌≢◌, ℕ, ◌<◌, List, [], ◌∷◌, ◌++◌, Contains, AllPairs, IsTrue, Some, ◌==◌, false, ◌⊎◌, inl, inr, refl, sym, ap, subst, ◌∙◌}
 use Rattle.std.specs.List.{find, flat_map}
 use Rattle.std.specs.Option.{option_map}
 use Rattle.std.proofs.lemmas.Bool.{cases_eq}
 use Rattle.std.proofs.lemmas.List.{append-nil, length-set}
 use Rattle.std.proofs.lemmas.List.Concat.{flat_map-append}
 use Rattle.std.proofs.lemmas.List.Elements.{Contains-append_left, Contains-append_right, Contains-append_cases}
-use Rattle.proof_base.proofs.Entries.{each_push}
 use Rattle.vector_stamp.specs.declared.clock.Clock.{Clock}
 use Rattle.program_defs.specs.declared.program.Program.{Program}
 use Rattle.program_defs.specs.declared.script.Request.{Request}
@@ -18,12 +18,11 @@ use Rattle.program_defs.specs.Works.{is_look}
 use Rattle.weave_entries.specs.declared.gate_log.GateEntry.{GateEntry}
 use Rattle.weave_entries.specs.declared.gate_log.GateDeed.{GateDeed}
 use Rattle.weave_entries.specs.declared.gate_log.GateDeed.TheVariants.{BeganTx, BeganProgram, Sent, Nop, Heard, Raised, Finished}
-use Rattle.weave_entries.specs.Logs.{AtEachEntry}
 use Rattle.weave_entries.specs.GateReplay.{Begun, begun_by, begun_in, clocks_by, clocks_in, ended_by, ended_in}
 use Rattle.weave_entries.specs.GateRules.{FitsAs, HearsAs}
 use Rattle.report_rules.specs.Lookups.{request_at}
 use Rattle.weave_account.specs.declared.account.Account.{Account}
-use Rattle.weave_account.specs.Account.{gate_log, shard_log, session_log, all_begun, stamp_of, is_ended}
+use Rattle.weave_account.specs.Account.{gate_log, all_begun, stamp_of, is_ended}
 use Rattle.weave_account.specs.Channels.{SendsAs}
 use Rattle.weave_account.specs.Clocks.{IsKnown}
 use Rattle.weave_account.specs.Gatekeepers.{BeginsAs}
@@ -31,50 +30,41 @@ use Rattle.weave_account.specs.GoesOn.{GoesOn}
 use Rattle.weave_account.specs.IsAccount.{IsAccount}
 use Rattle.program_defs.specs.Limits.{IsWithinLimits}
 use Rattle.step_rules.specs.CoreState.{with_gate_deed}
-use Rattle.step_rules.specs.LowerLaws.{LowerLaws}
+use Rattle.step_rules.specs.LowerLaws.{LawsForSteps}
 use Rattle.step_rules.proofs.Frames.{SendRule, store-stays, oracle-stays, sends-stay, deeds-stay, replies-stay}
 use Rattle.step_rules.proofs.SetLists.{flat-set, flat-more, SetMore}
 use Rattle.step_rules.proofs.Ended.{in-has, has-in}
+use Rattle.step_rules.proofs.StepGoesOn.{with-gate-deed}
+use Rattle.step_rules.proofs.SetLogs.{each-set, gate-entry, set-here, set-there}
+use Rattle.step_rules.proofs.Within.{gate-within}
 
 -- a program is one by its work
 pub look-of : (work : Work) → IsTrue (is_look work) → (program : Program) × (work ≡ Look program)
 look-of (Change ops) look = absurd (let none : IsTrue false = look in cc)
 look-of (Look program) look = (program, refl)
 
-module _ (laws : LowerLaws) (script : Script) (account : Account) (limits : IsWithinLimits script) (is : IsAccount script account)
+module _ (laws : LawsForSteps) (script : Script) (account : Account) (limits : IsWithinLimits script) (is : IsAccount script account)
     (g : ℕ) (inside : g < script.gates) (author : ℕ) (deed : GateDeed) (begins-none : begun_by author deed ≡ []) where
   abbrev pub log : List GateEntry
   log = gate_log account g
 
   abbrev pub entry : GateEntry
-  entry = record { author = author; deed = deed }
+  entry = gate-entry author deed
 
   abbrev pub after : Account
   after = with_gate_deed account g author deed
 
-  pub within : g < length account.gates
-  within = let many = is.gatekeepers.as_many in omega (arith, inside, many)
-
   pub log-here : gate_log after g ≡ log ++ entry ∷ []
-  log-here = get_or-set_same account.gates g (log ++ entry ∷ []) [] within
+  log-here = set-here account.gates g (gate-within is g inside) entry
 
   pub log-there : (home : ℕ) → home ≢ g → gate_log after home ≡ gate_log account home
-  log-there home other = get_or-set_other account.gates g home (log ++ entry ∷ []) [] other
+  log-there = set-there account.gates g (gate-within is g inside) entry
 
   pub on : GoesOn account after
-  on = record {
-    gates = λ home. elim (cases_eq home g) [
-      | inl same ↦ (entry ∷ [], ap (gate_log after) same ∙ log-here ∙ ap (λ n. gate_log account n ++ entry ∷ []) (sym same))
-      | inr other ↦ ([], log-there home other ∙ sym (append-nil (gate_log account home)))
-    ];
-    store = ([], sym (append-nil account.store));
-    oracle = ([], sym (append-nil account.oracle));
-    shards = λ shard. ([], sym (append-nil (shard_log account shard)));
-    sessions = λ session. ([], sym (append-nil (session_log account session)));
-  }
+  on = with-gate-deed account g author deed (gate-within is g inside)
 
   pub all-same : all_begun after ≡ all_begun account
-  all-same = flat-set begun_in account.gates g (log ++ entry ∷ []) within
+  all-same = flat-set begun_in account.gates g (log ++ entry ∷ []) (gate-within is g inside)
       (flat_map-append (λ (e : GateEntry). begun_by e.author e.deed) log (entry ∷ []) ∙ ap (λ begun. begun_in log ++ (begun ++ [])) begins-none ∙ append-nil (begun_in log))
 
   pub stamp-same : (r : ℕ) → stamp_of after r ≡ stamp_of account r
@@ -92,17 +82,10 @@ module _ (laws : LowerLaws) (script : Script) (account : Account) (limits : IsWi
   begins-new (Raised epoch) none = tt
   begins-new (Finished r) none = tt
 
-  -- a rule of the entries of each gatekeeper
-  pub each-gate : (P : ℕ → List GateEntry → GateEntry → Type 0) → ((home : ℕ) → AtEachEntry (P home) (gate_log account home)) → P g log entry → (home : ℕ) → AtEachEntry (P home) (gate_log after home)
-  each-gate P each here home = elim (cases_eq home g) [
-    | inl same ↦ subst (λ n. AtEachEntry (P n) (gate_log after n)) (sym same) (subst (AtEachEntry (P g)) (sym log-here) (each_push (P g) log entry (each g) here))
-    | inr other ↦ subst (AtEachEntry (P home)) (sym (log-there home other)) (each home)
-  ]
-
   -- what has ended, ended before or now
 
   set : SetMore ended_in account.gates g (log ++ entry ∷ []) (ended_by deed)
-  set = flat-more ended_in account.gates g (log ++ entry ∷ []) (ended_by deed) within
+  set = flat-more ended_in account.gates g (log ++ entry ∷ []) (ended_by deed) (gate-within is g inside)
       (flat_map-append (λ (e : GateEntry). ended_by e.deed) log (entry ∷ []) ∙ ap (λ more. ended_in log ++ more) (append-nil (ended_by deed)))
 
   ended-cases : (r : ℕ) → Contains (flat_map ended_in after.gates) r → Contains (flat_map ended_in account.gates) r ⊎ Contains (ended_by deed) r
@@ -133,14 +116,14 @@ module _ (laws : LowerLaws) (script : Script) (account : Account) (limits : IsWi
   gate-goes-on fits knows hears sends no-program = record {
     gatekeepers = record {
       as_many = length-set account.gates g (log ++ entry ∷ []) ∙ is.gatekeepers.as_many;
-      logs = each-gate (λ home before (e : GateEntry). FitsAs home script.shards before e.author e.deed) is.gatekeepers.logs fits;
-      begins = each-gate (λ home before (e : GateEntry). BeginsAs script after home before e.deed)
+      logs = each-set account.gates g (gate-within is g inside) entry (λ home before (e : GateEntry). FitsAs home script.shards before e.author e.deed) is.gatekeepers.logs fits;
+      begins = each-set account.gates g (gate-within is g inside) entry (λ home before (e : GateEntry). BeginsAs script after home before e.deed)
           (λ home before e rest at. laws.accounts.stay_begins script account after limits is on once-after home before rest e at) (begins-new deed begins-none);
       once = once-after;
     };
     clocks = record {
       known = knowing;
-      hears_no_more = each-gate (λ home before (e : GateEntry). HearsAs home before e.deed) is.clocks.hears_no_more hears;
+      hears_no_more = each-set account.gates g (gate-within is g inside) entry (λ home before (e : GateEntry). HearsAs home before e.deed) is.clocks.hears_no_more hears;
     };
     sessions = record {
       logs = is.sessions.logs;
@@ -153,7 +136,7 @@ module _ (laws : LowerLaws) (script : Script) (account : Account) (limits : IsWi
     };
     store = store-stays laws script account after limits is on refl;
     oracle = oracle-stays laws script account after limits is on refl (λ shard. refl) refl;
-    channels = each-gate (λ home. SendRule script after) (sends-stay laws script account after limits is on) sends;
+    channels = each-set account.gates g (gate-within is g inside) entry (λ home. SendRule script after) (sends-stay laws script account after limits is on) sends;
     shards = record { as_many = is.shards.as_many; deeds = deeds-stay laws script account after limits is on };
     programs = λ r request program at look. (let read = is.programs r request program at look in record {
       once = read.once;

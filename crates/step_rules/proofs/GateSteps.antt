@@ -1,10 +1,11 @@
 -- `say`, `hear` and `epoch` keep a core.
+-- Used by NopStep, SendStep and Stepping.
 use Rattle.std.proofs.Common.{◌≡◌, ℕ, ◌<◌, ◌==◌, Bool, true, false, cond, List, [], ◌∷◌, Contains, Option, None, Some, inl, inr, refl, subst, ◌-◌}
 use Rattle.std.specs.Prelude.{is_some, nat_lt, slice_get}
 use Rattle.std.proofs.lemmas.Bool.{ltb-true}
 use Rattle.std.proofs.lemmas.List.Elements.{Contains-append_cases}
 use Rattle.std.proofs.lemmas.Option.{slice_get_within, get_or_from_slice_get}
-use Rattle.proof_base.proofs.Members.{has_none, only}
+use Rattle.weave_data.proofs.Members.{has_none, only}
 use Rattle.vector_stamp.specs.declared.clock.Clock.{Clock}
 use Rattle.shard_queue.specs.Sent.{sent_as}
 use Rattle.program_defs.specs.declared.script.Script.{Script}

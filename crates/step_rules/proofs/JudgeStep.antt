@@ -1,13 +1,14 @@
 -- `judge` keeps a core.
+-- Used by Stepping.
 use Rattle.std.proofs.Common.{◌≡◌, ◌≢◌, ℕ, ◌+◌, ◌<◌, ◌==◌, cond, List, [], ◌∷◌, ◌++◌, length, Contains, AllPairs, IsTrue, Option, None, Some, Ok, Err, inl, inr, refl, sym, subst, ◌∙◌}
 use Rattle.std.specs.Prelude.{IsSomeAnd, is_some}
 use Rattle.std.specs.List.{find}
 use Rattle.std.proofs.lemmas.Bool.{eq-eqb}
 use Rattle.std.proofs.lemmas.List.{append-nil, map-append}
 use Rattle.std.proofs.lemmas.List.Elements.{All-from_recursion, Contains-append_cases}
-use Rattle.proof_base.proofs.Entries.{each_push}
-use Rattle.proof_base.proofs.Members.{find_has, find_lacks, flat_has, has_map, has_none, map_has}
-use Rattle.proof_base.proofs.Ordered.{pairs_push}
+use Rattle.weave_data.proofs.Entries.{each_push}
+use Rattle.weave_data.proofs.Members.{find_has, find_lacks, flat_has, has_map, has_none, map_has}
+use Rattle.weave_data.proofs.Ordered.{pairs_push}
 use Rattle.graph_ops.specs.Mentions.{named_by}
 use Rattle.graph_ops.specs.PlainGraph.{PlainGraph, TxOutcome, transaction}
 use Rattle.graph_ops.specs.declared.op.Op.{Op}
@@ -34,6 +35,7 @@ use Rattle.weave_entries.specs.OracleReplay.{pairs_of_log, settled_entry}
 use Rattle.weave_entries.specs.OracleRules.{IsOracleLog}
 use Rattle.weave_entries.specs.StoreReplay.{Commit, Judgement, commit_by, graph_committed, judged_by, judgement_of, judgements_of}
 use Rattle.weave_entries.specs.StoreRule.{LastCommit, asked_of, asked_stamps, asked_vertices, conflict_or, counts_of, entries_of_settling, lasts_of, settled_if, verdict_by, verdict_on}
+use Rattle.weave_entries.proofs.LastCommits.{last-at, last-is, last-there}
 use Rattle.weave_account.specs.declared.account.Account.{Account}
 use Rattle.weave_account.specs.Account.{gate_log, shard_log, session_log, all_begun, commits_in, pairs_in}
 use Rattle.weave_account.specs.GoesOn.{GoesOn}
@@ -49,7 +51,7 @@ use Rattle.step_rules.proofs.Basis.{Basis}
 use Rattle.step_rules.proofs.Begun.{flight-begun}
 use Rattle.step_rules.proofs.Frames.{StoreRule, each-other, sends-stay, deeds-stay, replies-stay}
 use Rattle.step_rules.proofs.Commits.{all-from, commit-stamp, in-reverse}
-use Rattle.step_rules.proofs.Verdicts.{IsSettled, all-precede, asked-is, last-at, last-is, last-there, none-refused, settles}
+use Rattle.step_rules.proofs.Verdicts.{IsSettled, all-precede, asked-is, none-refused, settles}
 
 module _ (script : Script) (state : CoreState) (basis : Basis script state) (g : ℕ) (inside : g < script.gates)
     (flight : Begun) (flies : flight_of (gate_log state.account g) ≡ Some flight) (unjudged : judgement_of flight.request state.account.store ≡ None) where
@@ -210,7 +212,7 @@ module _ (script : Script) (state : CoreState) (basis : Basis script state) (g :
       });
     }
 
-  -- so it is by the rule
+  -- by the rule
   by-rule : (first : Option LastCommit) → find (λ (last : LastCommit). stamp_before stamp last.commit.stamp) lasts ≡ first
       → (second : Option LastCommit) → find (λ (last : LastCommit). precedes pairs stamp last.commit.stamp) asked ≡ second
       → (third : TxOutcome) → transaction ops (graph_committed commits) ≡ third

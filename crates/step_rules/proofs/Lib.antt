@@ -1,11 +1,13 @@
 mod Basis
 pub mod SetLists
 mod Ended
-mod FindLists
+pub mod FindLists
 mod Frames
+mod Within
+mod SetLogs
 mod GateStep
 mod GateSteps
-mod SessionTurns
+pub mod SessionTurns
 mod Begun
 mod SendStep
 mod BeginAccount
@@ -20,10 +22,10 @@ mod ShardStep
 mod QuietSteps
 mod ProgramBegun
 mod Replying
-mod StepGoesOn
+pub mod StepGoesOn
 pub mod VisitLogs
 mod Preceded
-mod VisitStep
+pub mod VisitStep
 mod Visiting
 mod Stepping
 mod Starting

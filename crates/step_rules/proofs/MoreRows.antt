@@ -1,4 +1,5 @@
 -- More worked lists of steps. Each refuses an edit of the definitions that the rows before it let through.
+-- Used by RowsKept.
 use Rattle.std.specs.Prelude.{◌≡◌, refl, true, List, [], ◌∷◌, None, Some}
 use Rattle.graph_ops.specs.declared.op.Op.TheVariants.{Create, Set, Link, Get}
 use Rattle.program_defs.specs.declared.program.Program.TheVariants.{Show, Reach}

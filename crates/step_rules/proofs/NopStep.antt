@@ -1,10 +1,11 @@
 -- `nop` keeps a core.
+-- Used by Stepping.
 use Rattle.std.proofs.Common.{◌≡◌, ℕ, ◌+◌, ◌<◌, ◌==◌, cond, List, [], ◌∷◌, ◌++◌, Contains, Option, None, Some, inl, inr, refl, ap, subst, ◌∙◌}
 use Rattle.std.specs.Prelude.{count_by, is_some}
 use Rattle.std.proofs.lemmas.Bool.{eq-eqb}
 use Rattle.std.proofs.lemmas.List.Concat.{flat_map-append}
-use Rattle.proof_base.proofs.Ends.{count_push}
-use Rattle.proof_base.proofs.Members.{has_none, has_read, only}
+use Rattle.weave_data.proofs.Ends.{count_push}
+use Rattle.weave_data.proofs.Members.{has_none, has_read, only}
 use Rattle.vector_stamp.specs.declared.clock.Clock.{Clock}
 use Rattle.vector_stamp.specs.declared.clock.Stamp.{Stamp}
 use Rattle.program_defs.specs.declared.script.Script.{Script}

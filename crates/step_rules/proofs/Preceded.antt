@@ -1,15 +1,16 @@
 -- In an oracle's log the earlier events of each entry precede its later one.
+-- Used by VisitStep.
 use Rattle.std.proofs.Common.{List, [], ◌∷◌, ◌++◌, Contains, IsTrue, inl, inr, sym, subst, append_assoc}
 use Rattle.std.proofs.lemmas.List.Elements.{Contains-append_left}
-use Rattle.proof_base.proofs.Members.{has_none, has_read}
+use Rattle.weave_data.proofs.Members.{has_none, has_read}
 use Rattle.vector_stamp.specs.declared.clock.Stamp.{Stamp}
 use Rattle.vector_stamp.specs.Precedence.{Given, precedes}
 use Rattle.weave_entries.specs.declared.oracle_log.OracleEntry.{OracleEntry}
 use Rattle.weave_entries.specs.OracleReplay.{pairs_of_entry, pairs_of_log, settled_entry}
 use Rattle.weave_entries.specs.OracleRules.{IsRightEntry, IsRightFrom}
-use Rattle.step_rules.specs.LowerLaws.{LowerLaws}
+use Rattle.step_rules.specs.LowerLaws.{LawsForSteps}
 
-module _ (laws : LowerLaws) where
+module _ (laws : LawsForSteps) where
   -- those of the first entry
   first-precede : (pairs rest : List Given) (entry : OracleEntry) → IsRightEntry pairs (settled_entry entry) → (x : Stamp) → Contains (settled_entry entry).earlier x
       → IsTrue (precedes (pairs ++ (pairs_of_entry (settled_entry entry) ++ rest)) x (settled_entry entry).later)

@@ -1,9 +1,10 @@
 -- `deliver`, `apply` and `collect` keep a core.
+-- Used by Stepping.
 use Rattle.std.proofs.Common.{◌≡◌, ℕ, zero, suc, ◌+◌, ◌-◌, ◌<◌, ◌≤◌, ◌==◌, Bool, true, false, cond, List, [], ◌∷◌, map, length, Contains, Option, None, Some, inl, inr, refl, sym, ap, subst, ◌∙◌, arith}
 use Rattle.std.specs.Prelude.{slice_get}
 use Rattle.std.specs.List.{range_with_len}
 use Rattle.std.proofs.lemmas.Bool.{both_ways, cases_eq, eq-eqb, eqb-true}
-use Rattle.proof_base.proofs.Members.{filter_has, flat_has, has_head, has_tail}
+use Rattle.weave_data.proofs.Members.{filter_has, flat_has, has_head, has_tail}
 use Rattle.weave_data.specs.declared.name.Name.{Name}
 use Rattle.shard_queue.specs.Sent.{sent_as}
 use Rattle.program_defs.specs.declared.script.Script.{Script}

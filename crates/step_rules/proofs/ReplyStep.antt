@@ -1,13 +1,14 @@
 -- `reply` of a transaction keeps a core.
-use Rattle.std.proofs.Common.{◌≡◌, ◌≢◌, ℕ, ◌<◌, ◌==◌, true, false, List, [], ◌∷◌, ◌++◌, length, Contains, IsTrue, Some, refl, sym, ap, subst, ◌∙◌, inl, inr, get_or-set_same, get_or-set_other, arith}
+-- Used by Replying.
+use Rattle.std.proofs.Common.{◌≡◌, ◌≢◌, ℕ, ◌<◌, ◌==◌, true, false, List, [], ◌∷◌, ◌++◌, length, Contains, IsTrue, Some, refl, sym, ap, subst, ◌∙◌, inl, inr, get_or-set_same, get_or-set_other}
 use Rattle.std.specs.List.{find, flat_map, list_any}
 use Rattle.std.specs.Option.{option_map}
 use Rattle.std.proofs.lemmas.Bool.{cases_eq, eqb-true}
 use Rattle.std.proofs.lemmas.List.{append-nil, length-set}
 use Rattle.std.proofs.lemmas.List.Concat.{flat_map-append}
 use Rattle.std.proofs.lemmas.List.Elements.{Contains-append_left, Contains-append_right, Contains-get_or}
-use Rattle.proof_base.proofs.Entries.{each_push}
-use Rattle.proof_base.proofs.Members.{any_has, has_flat, has_head}
+use Rattle.weave_data.proofs.Entries.{each_push}
+use Rattle.weave_data.proofs.Members.{any_has, has_flat, has_head}
 use Rattle.vector_stamp.specs.declared.clock.Stamp.{Stamp}
 use Rattle.program_defs.specs.declared.script.Request.{Request}
 use Rattle.program_defs.specs.declared.script.Script.{Script}
@@ -25,16 +26,17 @@ use Rattle.program_defs.specs.Limits.{IsWithinLimits}
 use Rattle.weave_account.specs.Sessions.{requests_of_session}
 use Rattle.step_rules.specs.CoreState.{CoreState, with_session_deed}
 use Rattle.step_rules.specs.IsCore.{IsCore}
-use Rattle.step_rules.specs.LowerLaws.{LowerLaws}
+use Rattle.step_rules.specs.LowerLaws.{LawsForSteps}
 use Rattle.step_rules.specs.Requests.{has_begun, has_ended, has_reply}
 use Rattle.step_rules.proofs.Basis.{Basis}
 use Rattle.step_rules.proofs.Ended.{in-has}
 use Rattle.step_rules.proofs.SessionTurns.{open-is-last}
 use Rattle.step_rules.proofs.Frames.{ReplyRule, store-stays, oracle-stays, sends-stay, deeds-stay, replies-stay}
+use Rattle.step_rules.proofs.Within.{home-within, session-within}
 
 -- One reply in a session's log
 
-module _ (laws : LowerLaws) (script : Script) (account : Account) (limits : IsWithinLimits script) (is : IsAccount script account) (s : ℕ) (within : s < length account.sessions) (r : ℕ) where
+module _ (laws : LawsForSteps) (script : Script) (account : Account) (limits : IsWithinLimits script) (is : IsAccount script account) (s : ℕ) (within : s < length account.sessions) (r : ℕ) where
   abbrev pub slog : List SessionEntry
   slog = session_log account s
 
@@ -118,25 +120,19 @@ module _ (script : Script) (state : CoreState) (basis : Basis script state) (r :
   abbrev s : ℕ
   s = request.session
 
-  within-s : s < length account.sessions
-  within-s = let many = basis.core.sessions in let less = basis.limits.sessions r request request-is in omega (arith, many, less)
-
-  within-g : request.gate < length account.gates
-  within-g = let many = basis.core.account.gatekeepers.as_many in let less = basis.limits.homes r request request-is in omega (arith, many, less)
-
   fits : RepliesToLast (session_of (requests_of_session script s) (session_log account s)) r
   fits = open-is-last basis.laws s (requests_of_session script s) (session_log account s) (basis.core.account.sessions.logs s) r begun unreplied
 
   has-ended : IsTrue (is_ended account r)
   has-ended = in-has (flat_map ended_in account.gates) r
-      (has_flat ended_in account.gates (gate_log account request.gate) r (Contains-get_or account.gates request.gate [] within-g) (ended-there (ended_in (gate_log account request.gate)) ended))
+      (has_flat ended_in account.gates (gate_log account request.gate) r (Contains-get_or account.gates request.gate [] (home-within basis.limits basis.core r request request-is)) (ended-there (ended_in (gate_log account request.gate)) ended))
     where
       ended-there : (all : List ℕ) → list_any (λ one. one == r) all ≡ true → Contains all r
       ended-there all h = let found = any_has (λ one. one == r) all h in subst (λ k. Contains all k) (eqb-true found.0 r found.2) found.1
 
   pub replied-keeps : IsCore script (record { account = with_session_deed account s (session.Replied r); notices = state.notices })
   replied-keeps = record {
-    account = reply-goes-on basis.laws script account basis.limits basis.core.account s within-s r fits has-ended;
+    account = reply-goes-on basis.laws script account basis.limits basis.core.account s (session-within basis.limits basis.core r request request-is) r fits has-ended;
     sessions = length-set account.sessions s _ ∙ basis.core.sessions;
-    notices = λ clock h. basis.laws.accounts.stay_clocks script account (with_session_deed account s (session.Replied r)) (on basis.laws script account basis.limits basis.core.account s within-s r) clock (basis.core.notices clock h);
+    notices = λ clock h. basis.laws.accounts.stay_clocks script account (with_session_deed account s (session.Replied r)) (on basis.laws script account basis.limits basis.core.account s (session-within basis.limits basis.core r request request-is) r) clock (basis.core.notices clock h);
   }

@@ -1,10 +1,11 @@
 -- `reply` keeps a core: a transaction that was sent has its reply; a program that has read all is finished and has its reply.
-use Rattle.std.proofs.Common.{◌≡◌, ℕ, ◌<◌, ◌==◌, Bool, true, false, cond, not, length, Option, None, Some, List, refl, sym, ap, ◌∙◌, arith}
+-- Used by Stepping.
+use Rattle.std.proofs.Common.{◌≡◌, ℕ, ◌==◌, Bool, true, false, cond, not, Option, None, Some, List, refl, sym, ap, ◌∙◌}
 use Rattle.std.specs.Prelude.{is_some, ◌||◌}
 use Rattle.std.specs.List.{find, list_any}
 use Rattle.std.proofs.lemmas.Bool.{and_from, both_ways, eq-eqb}
 use Rattle.std.proofs.lemmas.List.{length-set}
-use Rattle.proof_base.proofs.Members.{any_from, find_has, find_lacks}
+use Rattle.weave_data.proofs.Members.{any_from, find_has, find_lacks}
 use Rattle.vector_stamp.specs.declared.clock.Stamp.{Stamp}
 use Rattle.weave_data.specs.declared.name.Name.{Name}
 use Rattle.program_defs.specs.declared.program.Program.{Program}
@@ -36,6 +37,7 @@ use Rattle.step_rules.proofs.FinishStep as finish
 use Rattle.step_rules.proofs.ProgramBegun.{program-there}
 use Rattle.step_rules.proofs.SessionTurns.{open-is-last}
 use Rattle.step_rules.proofs.ReplyStep.{replied-keeps}
+use Rattle.step_rules.proofs.Within.{session-within}
 
 -- only a begun request without a reply that is answered gets its reply
 all-three : (a b c : Bool) → cond (not a || b || not c) Idle Ok ≡ Ok → (a ≡ true) × (b ≡ false) × (c ≡ true)
@@ -65,12 +67,6 @@ module _ (script : Script) (state : CoreState) (basis : Basis script state) (r :
   abbrev log : List GateEntry
   log = gate_log account g
 
-  within-s : s < length account.sessions
-  within-s = let many = basis.core.sessions in let less = basis.limits.sessions r request request-is in omega (arith, many, less)
-
-  inside : g < script.gates
-  inside = basis.limits.homes r request request-is
-
   turn : RepliesToLast (session_of (requests_of_session script s) (session_log account s)) r
   turn = open-is-last basis.laws s (requests_of_session script s) (session_log account s) (is.sessions.logs s) r begun unreplied
 
@@ -86,7 +82,7 @@ module _ (script : Script) (state : CoreState) (basis : Basis script state) (r :
       let running = (basis.laws.logs.open_running g script.shards log (is.gatekeepers.logs g) (basis.further.accounts.each_once script account basis.limits is g) b).1
       (has.0, λ ended. both_ways (list_any (λ one. one == r) (ended_in log)) goes (any_from (λ one. one == r) (ended_in log) b.request ended has.1)) in
       record {
-        account = finish.finish-goes-on basis.laws script account basis.limits is g inside s within-s b.author r
+        account = finish.finish-goes-on basis.laws script account basis.limits is g (basis.limits.homes r request request-is) s (session-within basis.limits basis.core r request request-is) b.author r
             (any_from (is_begun b.author r) (running_of log) b running (and_from (b.author == b.author) (b.request == r) (eq-eqb b.author b.author refl) has.1))
             turn (λ q there. (let one : Some request ≡ Some q = sym request-is ∙ there in let same : request ≡ q = cc in ap (λ (o : Request). o.session) (sym same)))
             (λ q other there looks.
@@ -96,8 +92,8 @@ module _ (script : Script) (state : CoreState) (basis : Basis script state) (r :
             let programs : program ≡ other = cc in
             ap (next_visit (reads_of account r)) (sym programs) ∙ read));
         sessions = length-set account.sessions s _ ∙ basis.core.sessions;
-        notices = λ clock h. basis.laws.accounts.stay_clocks script account (finish.next basis.laws script account basis.limits is g inside s within-s b.author r)
-            (finish.on basis.laws script account basis.limits is g inside s within-s b.author r) clock (basis.core.notices clock h);
+        notices = λ clock h. basis.laws.accounts.stay_clocks script account (finish.next basis.laws script account basis.limits is g (basis.limits.homes r request request-is) s (session-within basis.limits basis.core r request request-is) b.author r)
+            (finish.on basis.laws script account basis.limits is g (basis.limits.homes r request request-is) s (session-within basis.limits basis.core r request request-is) b.author r) clock (basis.core.notices clock h);
       }
 
   by-work : (work : Work) → request.work ≡ work → is_answered account r request work ≡ true

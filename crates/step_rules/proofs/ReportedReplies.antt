@@ -1,4 +1,5 @@
 -- The report of logs says that a program is finished exactly if it is finished in the logs.
+-- Used by `replies_finish_programs`.
 use Rattle.std.proofs.Common.{◌≡◌, ℕ, zero, suc, ◌+◌, ◌<◌, ◌==◌, true, false, List, [], ◌∷◌, map, drop, length, IsTrue, Option, None, Some, refl, sym, ap, subst, ◌∙◌, arith}
 use Rattle.std.specs.Prelude.{◌↔◌, IsSomeAnd, is_some, slice_get}
 use Rattle.std.specs.List.{AllByRecursion, find, range_with_len}
@@ -24,7 +25,7 @@ use Rattle.weave_account.specs.IsAccount.{IsAccount}
 use Rattle.weave_account.specs.Report.{IsReplyInAccount, IsReportOfAccount, IsStateOf, IsStateOfProgram}
 use Rattle.weave_account.specs.Sessions.{requests_of_session}
 use Rattle.step_rules.specs.Finishing.{IsReplyDone, RepliesFinishPrograms, is_finished, is_finished_in}
-use Rattle.step_rules.specs.LowerLaws.{LowerLaws}
+use Rattle.step_rules.specs.LowerLaws.{LawsForSteps}
 use Rattle.step_rules.specs.Requests.{has_reply}
 use Rattle.step_rules.specs.Trace.{trace_of}
 use Rattle.step_rules.proofs.DoneReplies.{replied-exactly}
@@ -69,7 +70,7 @@ by-stamp account r program None state begun is =
     ((λ h. (let clash : IsTrue (is_finished Unbegun) = subst (λ s. IsTrue (is_finished s)) is h in cc)), (λ ended. (let clash : false ≡ true = begun ended in cc)))
 by-stamp account r program (Some stamp) state begun is = by-state account r program state is
 
-module _ (laws : LowerLaws) (script : Script) (account : Account) (is : IsAccount script account) (r : ℕ) (request : Request) (request-is : request_at script r ≡ Some request) where
+module _ (laws : LawsForSteps) (script : Script) (account : Account) (is : IsAccount script account) (r : ℕ) (request : Request) (request-is : request_at script r ≡ Some request) where
   -- what has its reply has its stamp
   replied-stamp : IsTrue (has_reply account r request) → is_some (stamp_of account r) ≡ true
   replied-stamp replied =
@@ -101,7 +102,7 @@ abbrev pub AreFinishedIfReplied : Type 0
 AreFinishedIfReplied = (script : Script) (account : Account) → IsWithinLimits script → IsAccount script account → (r : ℕ) (request : Request) → request_at script r ≡ Some request → IsTrue (is_look request.work)
     → IsTrue (is_ended account r) ↔ IsTrue (has_reply account r request)
 
-module _ (laws : LowerLaws) (ends : AreFinishedIfReplied) (script : Script) (steps : List Step) (limits : IsWithinLimits script) (is : IsAccount script (trace_of script steps).state.account) where
+module _ (laws : LawsForSteps) (ends : AreFinishedIfReplied) (script : Script) (steps : List Step) (limits : IsWithinLimits script) (is : IsAccount script (trace_of script steps).state.account) where
   -- a program is finished in the logs exactly if a `reply` of it was done
   pub finished-by-reply : (r : ℕ) (request : Request) → request_at script r ≡ Some request → IsTrue (is_look request.work)
       → IsTrue (is_ended (trace_of script steps).state.account r) ↔ IsReplyDone steps (trace_of script steps).answers r

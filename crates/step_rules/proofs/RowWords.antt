@@ -1,4 +1,5 @@
 -- The words in which worked lists of steps are written.
+-- Used by FurtherRows, MoreRows, Rows and RowsKept.
 use Rattle.std.specs.Prelude.{ℕ, List, [], ◌∷◌, ◌++◌, codes, take, Option, None}
 use Rattle.weave_data.specs.declared.name.Name.{Name}
 use Rattle.graph_ops.specs.declared.op.Op.{Op}

@@ -1,22 +1,24 @@
 -- What a session's log says of its next request, and of the one that waits for its reply.
+-- Used by BeginStep, ReplyStep, Replying, ReportedReplies and crates weaver_core and workers_account.
 use Rattle.std.proofs.Common.{◌≡◌, ℕ, zero, suc, ◌-◌, ◌<◌, ◌≤◌, Bool, true, false, cond, not, List, [], ◌∷◌, ◌++◌, take, AllPairs, Contains, IsTrue, Some, inl, inr, refl, sym, ap, subst, ◌∙◌, arith}
 use Rattle.std.specs.Prelude.{nat_lt, slice_get, ◌&&◌}
 use Rattle.std.specs.List.{list_any}
 use Rattle.std.proofs.lemmas.Bool.{and_from, both_ways, cases_Bool, cases_lt, lt-ltb, not_from_false}
 use Rattle.std.proofs.lemmas.List.Sums.{fold-append}
 use Rattle.std.proofs.lemmas.Option.{get_or_from_slice_get, slice_get_within}
-use Rattle.proof_base.proofs.Ends.{by_last}
-use Rattle.proof_base.proofs.Members.{any_from, has_head, has_none, has_read, has_tail}
-use Rattle.proof_base.proofs.Ordered.{pairs_placed}
+use Rattle.weave_data.proofs.Ends.{by_last}
+use Rattle.weave_data.proofs.Members.{any_from, has_head, has_none, has_read, has_tail}
+use Rattle.weave_data.proofs.Ordered.{pairs_placed}
 use Rattle.weave_entries.specs.declared.session_log.SessionEntry.{SessionEntry}
 use Rattle.weave_entries.specs.declared.session_log.SessionDeed.{SessionDeed}
 use Rattle.weave_entries.specs.declared.session_log.SessionDeed.TheVariants.{Begun, Replied}
 use Rattle.weave_entries.specs.SessionReplay.{IsSessionLog, RepliesToLast, SessionState, has_begun_in, has_reply_in, next_request, replied_count, session_after, session_of, session_start}
-use Rattle.step_rules.specs.LowerLaws.{LowerLaws}
+use Rattle.step_rules.specs.LowerLaws.{LawsForSteps}
 
 -- Places in a list
 
-take-get : {A : Type 0} (n : ℕ) (xs : List A) (x : A) → Contains (take n xs) x → (i : ℕ) × (i < n) × (slice_get xs i ≡ Some x)
+-- an element of the first n of a list has a place below n
+pub take-get : {A : Type 0} (n : ℕ) (xs : List A) (x : A) → Contains (take n xs) x → (i : ℕ) × (i < n) × (slice_get xs i ≡ Some x)
 take-get zero xs x h = absurd (has_none x h)
 take-get (suc n) [] x h = absurd (has_none x h)
 take-get (suc n) (y ∷ xs) x h = elim (has_read y (take n xs) x h) [
@@ -24,13 +26,15 @@ take-get (suc n) (y ∷ xs) x h = elim (has_read y (take n xs) x h) [
   | inr more ↦ (let rest = take-get n xs x more in let less = rest.1 in (suc rest.0, omega (arith, less), rest.2))
 ]
 
-get-take : {A : Type 0} (n : ℕ) (xs : List A) (i : ℕ) (x : A) → i < n → slice_get xs i ≡ Some x → Contains (take n xs) x
+-- an element at a place below n is one of the first n
+pub get-take : {A : Type 0} (n : ℕ) (xs : List A) (i : ℕ) (x : A) → i < n → slice_get xs i ≡ Some x → Contains (take n xs) x
 get-take zero xs i x less e = absurd (omega (arith, less))
 get-take (suc n) [] i x less e = cc
 get-take (suc n) (y ∷ xs) zero x less e = let same : y ≡ x = cc in subst (λ z. Contains (y ∷ take n xs) z) same (has_head y (take n xs))
 get-take (suc n) (y ∷ xs) (suc i) x less e = has_tail y (take n xs) x (get-take n xs i x (omega (arith, less)) e)
 
-get-before : {A : Type 0} (xs : List A) (i j : ℕ) (x : A) → slice_get xs i ≡ Some x → j < i → (y : A) × (slice_get xs j ≡ Some y)
+-- before the place of an element there is an element at each place
+pub get-before : {A : Type 0} (xs : List A) (i j : ℕ) (x : A) → slice_get xs i ≡ Some x → j < i → (y : A) × (slice_get xs j ≡ Some y)
 get-before [] i j x e less = cc
 get-before (z ∷ xs) zero j x e less = absurd (omega (arith, less))
 get-before (z ∷ xs) (suc i) zero x e less = (z, refl)
@@ -43,16 +47,19 @@ contains-get (y ∷ xs) x h = elim (has_read y xs x h) [
   | inr more ↦ (let rest = contains-get xs x more in (suc rest.0, rest.1))
 ]
 
-abbrev at-place : {A : Type 0} (xs : List A) (i : ℕ) (x : A) → slice_get xs i ≡ Some x → Contains xs x
+-- what is at a place of a list is in the list
+abbrev pub at-place : {A : Type 0} (xs : List A) (i : ℕ) (x : A) → slice_get xs i ≡ Some x → Contains xs x
 at-place xs i x e = (i, slice_get_within xs i x e, get_or_from_slice_get xs i x x e)
 
 -- The state of a session
 
 module _ (requests : List ℕ) where
-  one-more : (log : List SessionEntry) (entry : SessionEntry) → session_of requests (log ++ entry ∷ []) ≡ session_after (session_of requests log) entry.deed
+  -- the state after one more entry
+  pub one-more : (log : List SessionEntry) (entry : SessionEntry) → session_of requests (log ++ entry ∷ []) ≡ session_after (session_of requests log) entry.deed
   one-more log entry = fold-append (λ session (e : SessionEntry). session_after session e.deed) (session_start requests) log (entry ∷ [])
 
-  requests-same : (log : List SessionEntry) → (session_of requests log).requests ≡ requests
+  -- the requests of a session stay the same
+  pub requests-same : (log : List SessionEntry) → (session_of requests log).requests ≡ requests
   requests-same = by_last (λ log. (session_of requests log).requests ≡ requests) refl (λ log entry so. ap (λ (session : SessionState). session.requests) (one-more log entry) ∙ by-deed entry.deed (session_of requests log) ∙ so)
     where
       by-deed : (deed : SessionDeed) (session : SessionState) → (session_after session deed).requests ≡ session.requests
@@ -60,7 +67,7 @@ module _ (requests : List ℕ) where
       by-deed (Replied r) session = refl
 
   -- one that waits has begun
-  waits-begun : (log : List SessionEntry) → (session_of requests log).waits ≡ true → 1 ≤ (session_of requests log).begun
+  pub waits-begun : (log : List SessionEntry) → (session_of requests log).waits ≡ true → 1 ≤ (session_of requests log).begun
   waits-begun = by_last (λ log. (session_of requests log).waits ≡ true → 1 ≤ (session_of requests log).begun) (λ waits. cc)
       (λ log entry so. subst (λ (session : SessionState). session.waits ≡ true → 1 ≤ session.begun) (sym (one-more log entry)) (by-deed entry.deed (session_of requests log)))
     where
@@ -77,7 +84,7 @@ last-any a b = by_last (λ log. (session_of a log).last ≡ (session_of b log).l
     by-deed (Begun r stamp) one other so = refl
     by-deed (Replied r) one other so = so
 
-module _ (laws : LowerLaws) (number : ℕ) (requests : List ℕ) (log : List SessionEntry) (right : IsSessionLog number requests log) where
+module _ (laws : LawsForSteps) (number : ℕ) (requests : List ℕ) (log : List SessionEntry) (right : IsSessionLog number requests log) where
   abbrev session : SessionState
   session = session_of requests log
 
@@ -144,7 +151,7 @@ module _ (laws : LowerLaws) (number : ℕ) (requests : List ℕ) (log : List Ses
               (any_from (λ earlier. nat_lt earlier r && not (has_reply_in earlier log)) requests q (at-place requests j q at) (and_from (nat_lt q r) (not (has_reply_in q log)) (lt-ltb q r lower) (not_from_false (has_reply_in q log) none))))
         ]
 
-    -- and so it stands before those without
+    -- and so its place is below the number of replies
     replied-below : (j q : ℕ) → slice_get requests j ≡ Some q → j < place.0 → j < replied_count session
     replied-below j q at less = elim (cases_lt j (replied_count session)) [
       | inl below ↦ below

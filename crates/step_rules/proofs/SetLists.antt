@@ -1,8 +1,9 @@
 -- Lists of lists of which one is set to another.
+-- Used by BeginAccount, FinishStep, GateStep, VisitStep and crate weaver_core.
 use Rattle.std.proofs.Common.{◌≡◌, ℕ, zero, suc, ◌<◌, List, [], ◌∷◌, ◌++◌, map, length, Contains, refl, sym, ap, ◌∙◌, append_assoc, get_or, arith}
 use Rattle.std.specs.Prelude.{slice_set}
 use Rattle.std.specs.List.{flat_map}
-use Rattle.proof_base.proofs.Members.{has_head, has_tail}
+use Rattle.weave_data.proofs.Members.{has_head, has_tail}
 
 -- the images are the same if those of each member are
 pub map-same : {A B : Type 0} (f h : A → B) (xs : List A) → ((x : A) → Contains xs x → f x ≡ h x) → map f xs ≡ map h xs

@@ -1,8 +1,9 @@
 -- The state before the first step is that of a core, and a step that isn't done leaves its state.
+-- Used by `refused_steps_change_nothing`, `start_is_a_core`, `steps_keep_the_core`, FewSteps and Stepping.
 use Rattle.std.proofs.Common.{◌≡◌, ◌≢◌, List, [], refl, ap}
 use Rattle.std.specs.Prelude.{if◌then◌else◌}
 use Rattle.std.proofs.lemmas.List.{length-replicate}
-use Rattle.proof_base.proofs.Members.{has_none}
+use Rattle.weave_data.proofs.Members.{has_none}
 use Rattle.program_defs.specs.declared.script.Script.{Script}
 use Rattle.report_rules.specs.declared.report.StepAnswer.{StepAnswer}
 use Rattle.report_rules.specs.declared.report.StepAnswer.TheVariants.{Ok, Twice, Early, Busy, Idle, Old, Unknown, Repeat, Empty, Waits, Again}

@@ -1,7 +1,6 @@
 -- After each step the logs begin with those before it.
-use Rattle.std.proofs.Common.{◌≡◌, ℕ, ◌<◌, Bool, true, false, cond, List, [], ◌∷◌, ◌++◌, length, Option, None, Some, inl, inr, refl, sym, ap, ◌∙◌, append_assoc, get_or, get_or-set_same, get_or-set_other, arith}
-use Rattle.std.specs.Prelude.{slice_set}
-use Rattle.std.proofs.lemmas.Bool.{cases_eq}
+-- Used by BeginAccount, FinishStep, GateStep, ShardStep, 2 more and crates weave_drive, weaver_core and weaver_top.
+use Rattle.std.proofs.Common.{◌≡◌, ℕ, ◌<◌, Bool, true, false, cond, List, [], ◌∷◌, ◌++◌, length, Option, None, Some, refl, sym, ap, ◌∙◌, append_assoc, arith}
 use Rattle.std.proofs.lemmas.List.{append-nil}
 use Rattle.weave_data.specs.declared.name.Name.{Name}
 use Rattle.weave_data.specs.Names.{shard_of}
@@ -31,28 +30,22 @@ use Rattle.step_rules.specs.CoreState.{CoreState, with_gate_deed, with_shard_dee
 use Rattle.step_rules.specs.Entries.{account_with, after_begin, after_deliver, after_hear, after_judge, after_reply, after_send, after_visit, after_work, at_request, judgement_in_flight, notices_with, with_finish}
 use Rattle.step_rules.specs.IsCore.{IsCore, IsStepOf}
 use Rattle.step_rules.specs.Requests.{has_ended, next_vertex}
+use Rattle.step_rules.proofs.SetLogs.{set-log}
+use Rattle.step_rules.proofs.Within.{gate-within, home-within, session-within, shard-within}
 
 -- Beginnings
 
+-- a log begins with itself
 pub same-log : {E : Type 0} (log : List E) → IsBeginningOf log log
 same-log log = ([], sym (append-nil log))
 
-longer-log : {E : Type 0} (log middle last : List E) → IsBeginningOf log middle → IsBeginningOf middle last → IsBeginningOf log last
+-- that a log begins with another is transitive
+pub longer-log : {E : Type 0} (log middle last : List E) → IsBeginningOf log middle → IsBeginningOf middle last → IsBeginningOf log last
 longer-log log middle last (more, is) (further, are) = (more ++ further, are ∙ ap (λ l. l ++ further) is ∙ append_assoc log more further)
-
--- one of the logs has one more entry
-module _ {E : Type 0} (logs : List (List E)) (i : ℕ) (within : i < length logs) (entry : E) where
-  abbrev set-logs : List (List E)
-  set-logs = slice_set logs i (get_or logs i [] ++ entry ∷ [])
-
-  set-log : (j : ℕ) → IsBeginningOf (get_or logs j []) (get_or set-logs j [])
-  set-log j = elim (cases_eq j i) [
-    | inl same ↦ (entry ∷ [], ap (λ n. get_or set-logs n []) same ∙ get_or-set_same logs i (get_or logs i [] ++ entry ∷ []) [] within ∙ ap (λ n. get_or logs n [] ++ entry ∷ []) (sym same))
-    | inr other ↦ ([], get_or-set_other logs i j (get_or logs i [] ++ entry ∷ []) [] other ∙ sym (append-nil (get_or logs j [])))
-  ]
 
 -- Accounts
 
+-- the logs of an account begin with themselves
 pub goes-same : (account : Account) → GoesOn account account
 goes-same account = record {
   gates = λ home. same-log (gate_log account home);
@@ -62,6 +55,7 @@ goes-same account = record {
   sessions = λ session. same-log (session_log account session);
 }
 
+-- that the logs of an account go on is transitive
 pub goes-further : (account middle last : Account) → GoesOn account middle → GoesOn middle last → GoesOn account last
 goes-further account middle last on further = record {
   gates = λ home. longer-log (gate_log account home) (gate_log middle home) (gate_log last home) (on.gates home) (further.gates home);
@@ -71,7 +65,7 @@ goes-further account middle last on further = record {
   sessions = λ session. longer-log (session_log account session) (session_log middle session) (session_log last session) (on.sessions session) (further.sessions session);
 }
 
-with-gate-deed : (account : Account) (home author : ℕ) (deed : GateDeed) → home < length account.gates → GoesOn account (with_gate_deed account home author deed)
+pub with-gate-deed : (account : Account) (home author : ℕ) (deed : GateDeed) → home < length account.gates → GoesOn account (with_gate_deed account home author deed)
 with-gate-deed account home author deed within = record {
   gates = set-log account.gates home within (record { author = author; deed = deed });
   store = same-log account.store;
@@ -89,7 +83,7 @@ with-shard-deed account shard deed within = record {
   sessions = λ session. same-log (session_log account session);
 }
 
-with-session-deed : (account : Account) (session : ℕ) (deed : SessionDeed) → session < length account.sessions → GoesOn account (with_session_deed account session deed)
+pub with-session-deed : (account : Account) (session : ℕ) (deed : SessionDeed) → session < length account.sessions → GoesOn account (with_session_deed account session deed)
 with-session-deed account session deed within = record {
   gates = λ home. same-log (gate_log account home);
   store = same-log account.store;
@@ -122,24 +116,12 @@ module _ (script : Script) (state : CoreState) (limits : IsWithinLimits script) 
   abbrev account : Account
   account = state.account
 
-  gate-within : (home : ℕ) → home < script.gates → home < length account.gates
-  gate-within home inside = let many = core.account.gatekeepers.as_many in omega (arith, inside, many)
-
-  shard-within : (shard : ℕ) → shard < script.shards → shard < length account.shards
-  shard-within shard inside = let many = core.account.shards.as_many in omega (arith, inside, many)
-
-  session-within : (r : ℕ) (request : Request) → request_at script r ≡ Some request → request.session < length account.sessions
-  session-within r request at = let many = core.sessions in let less = limits.sessions r request at in omega (arith, many, less)
-
-  home-within : (r : ℕ) (request : Request) → request_at script r ≡ Some request → request.gate < length account.gates
-  home-within r request at = gate-within request.gate (limits.homes r request at)
-
   shard-there : (v : Name) → shard_of v script.shards < script.shards
   shard-there v = let some = limits.some_shard in omega (arith, some)
 
   begins-on : (r : ℕ) (q : Option Request) → request_at script r ≡ q → GoesOn account (at_request (after_begin account r) account q)
   begins-on r None at = goes-same account
-  begins-on r (Some request) at = goes-further account _ _ (with-gate-deed account request.gate 0 _ (home-within r request at)) (with-session-deed _ request.session _ (session-within r request at))
+  begins-on r (Some request) at = goes-further account _ _ (with-gate-deed account request.gate 0 _ (home-within limits core r request at)) (with-session-deed _ request.session _ (session-within limits core r request at))
 
   judges-on : (flight : Option Begun) → GoesOn account (after_judge script account flight)
   judges-on None = goes-same account
@@ -148,20 +130,20 @@ module _ (script : Script) (state : CoreState) (limits : IsWithinLimits script) 
   sends-on : (home : ℕ) → home < script.gates → (flight : Option Begun) (judged : Option Judgement) → GoesOn account (after_send script account home flight judged)
   sends-on home inside None judged = goes-same account
   sends-on home inside (Some flight) None = goes-same account
-  sends-on home inside (Some flight) (Some judged) = with-gate-deed account home flight.author _ (gate-within home inside)
+  sends-on home inside (Some flight) (Some judged) = with-gate-deed account home flight.author _ (gate-within core.account home inside)
 
   hears-on : (home : ℕ) → home < script.gates → (notice : Option Clock) → GoesOn account (after_hear account home notice)
   hears-on home inside None = goes-same account
-  hears-on home inside (Some notice) = with-gate-deed account home 0 _ (gate-within home inside)
+  hears-on home inside (Some notice) = with-gate-deed account home 0 _ (gate-within core.account home inside)
 
   delivers-on : (home shard number : ℕ) → shard < script.shards → (message : Option Message) → GoesOn account (after_deliver account home shard number message)
   delivers-on home shard number inside None = goes-same account
-  delivers-on home shard number inside (Some message) = with-shard-deed account shard _ (shard-within shard inside)
+  delivers-on home shard number inside (Some message) = with-shard-deed account shard _ (shard-within core.account shard inside)
 
   visits-on : (r : ℕ) (begun : Option Begun) (next : Option Name) → GoesOn account (after_visit script account r begun next)
   visits-on r None next = goes-same account
   visits-on r (Some begun) None = goes-same account
-  visits-on r (Some begun) (Some v) = goes-further account _ _ (with-settled account _) (with-shard-deed _ (shard_of v script.shards) _ (shard-within (shard_of v script.shards) (shard-there v)))
+  visits-on r (Some begun) (Some v) = goes-further account _ _ (with-settled account _) (with-shard-deed _ (shard_of v script.shards) _ (shard-within core.account (shard_of v script.shards) (shard-there v)))
 
   at-visit : (r : ℕ) (q : Option Request) → GoesOn account (at_request (λ request. after_visit script account r (program_begun r (gate_log account request.gate)) (next_vertex account r request.work)) account q)
   at-visit r None = goes-same account
@@ -169,15 +151,15 @@ module _ (script : Script) (state : CoreState) (limits : IsWithinLimits script) 
 
   finishes-on : (r : ℕ) (request : Request) → request_at script r ≡ Some request → (begun : Option Begun)
       → GoesOn account (with_session_deed (with_finish account r request.gate begun) request.session (session.Replied r))
-  finishes-on r request at None = with-session-deed account request.session _ (session-within r request at)
-  finishes-on r request at (Some begun) = goes-further account _ _ (with-gate-deed account request.gate begun.author _ (home-within r request at)) (with-session-deed _ request.session _ (session-within r request at))
+  finishes-on r request at None = with-session-deed account request.session _ (session-within limits core r request at)
+  finishes-on r request at (Some begun) = goes-further account _ _ (with-gate-deed account request.gate begun.author _ (home-within limits core r request at)) (with-session-deed _ request.session _ (session-within limits core r request at))
 
   work-on : (r : ℕ) (request : Request) → request_at script r ≡ Some request → (work : Work) → GoesOn account (with_session_deed (after_work account r request work) request.session (session.Replied r))
-  work-on r request at (Change ops) = with-session-deed account request.session _ (session-within r request at)
+  work-on r request at (Change ops) = with-session-deed account request.session _ (session-within limits core r request at)
   work-on r request at (Look program) = by-end (has_ended account r request)
     where
       by-end : (b : Bool) → GoesOn account (with_session_deed (cond b account (with_finish account r request.gate (program_begun r (gate_log account request.gate)))) request.session (session.Replied r))
-      by-end true = with-session-deed account request.session _ (session-within r request at)
+      by-end true = with-session-deed account request.session _ (session-within limits core r request at)
       by-end false = finishes-on r request at (program_begun r (gate_log account request.gate))
 
   replies-on : (r : ℕ) (q : Option Request) → request_at script r ≡ q → GoesOn account (at_request (after_reply account r) account q)
@@ -190,13 +172,13 @@ module _ (script : Script) (state : CoreState) (limits : IsWithinLimits script) 
   step-goes-on (Send g) range = sends-on g range (flight_of (gate_log account g)) (judgement_in_flight account (flight_of (gate_log account g)))
   step-goes-on (Say g) range = goes-same account
   step-goes-on (Hear g n) range = hears-on g range.0 (sent_as n state.notices)
-  step-goes-on (Nop g s) range = with-gate-deed account g 0 _ (gate-within g range.0)
+  step-goes-on (Nop g s) range = with-gate-deed account g 0 _ (gate-within core.account g range.0)
   step-goes-on (Deliver g s n) range = delivers-on g s n range.1 (sent_as n (channel_of s (gate_log account g)))
-  step-goes-on (Apply s g) range = with-shard-deed account s _ (shard-within s range.0)
+  step-goes-on (Apply s g) range = with-shard-deed account s _ (shard-within core.account s range.0)
   step-goes-on (Visit r) range = at-visit r (request_at script r)
   step-goes-on (Reply r) range = replies-on r (request_at script r) refl
-  step-goes-on (Collect s) range = with-shard-deed account s _ (shard-within s range)
-  step-goes-on (Epoch g epoch) range = with-gate-deed account g 0 _ (gate-within g range.0)
+  step-goes-on (Collect s) range = with-shard-deed account s _ (shard-within core.account s range)
+  step-goes-on (Epoch g epoch) range = with-gate-deed account g 0 _ (gate-within core.account g range.0)
 
 -- Notices
 

@@ -1,4 +1,5 @@
 -- Each step keeps a core, and so do all steps of a list.
+-- Used by `steps_keep_the_core`, `trace_is_a_core`, DoneReplies and FewSteps.
 use Rattle.std.proofs.Common.{◌≡◌, Bool, true, false, cond, List, [], ◌∷◌, refl}
 use Rattle.std.specs.Prelude.{fold}
 use Rattle.program_defs.specs.declared.script.Script.{Script}
@@ -13,7 +14,7 @@ use Rattle.step_rules.specs.Answers.{answer_of}
 use Rattle.step_rules.specs.Entries.{state_with}
 use Rattle.step_rules.specs.Trace.{TraceState, is_ok, state_after, trace_of, trace_start, traced_after}
 use Rattle.step_rules.specs.IsCore.{AreSteps, IsCore, IsSmall, IsSmallIfDone, IsStepOf}
-use Rattle.step_rules.specs.LowerLaws.{LowerLaws, Further}
+use Rattle.step_rules.specs.LowerLaws.{LawsForSteps, Further}
 use Rattle.step_rules.proofs.Basis.{Basis}
 use Rattle.step_rules.proofs.BeginStep.{begin-keeps}
 use Rattle.step_rules.proofs.GateSteps.{epoch-keeps, hear-keeps, say-keeps}
@@ -40,7 +41,7 @@ ok-is Empty e = cc
 ok-is (Waits v) e = cc
 ok-is (Again s g) e = cc
 
-module _ (laws : LowerLaws) (further : Further) (script : Script) (limits : IsWithinLimits script) where
+module _ (laws : LawsForSteps) (further : Further) (script : Script) (limits : IsWithinLimits script) where
   abbrev basis-of : (state : CoreState) → IsCore script state → Basis script state
   basis-of state core = record { laws = laws; further = further; limits = limits; core = core }
 

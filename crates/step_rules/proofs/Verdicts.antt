@@ -1,15 +1,13 @@
 -- The last commits at the vertices that a transaction names, and what the oracle adds for them.
-use Rattle.std.proofs.Common.{◌≡◌, ◌≢◌, ℕ, List, [], ◌∷◌, ◌++◌, map, length, Contains, IsTrue, Option, None, Some, ◌⊎◌, inl, inr, refl, sym, ap, subst, ◌∙◌, get_or}
+-- Used by JudgeStep and VisitStep.
+use Rattle.std.proofs.Common.{◌≡◌, ◌≢◌, ℕ, List, [], ◌∷◌, ◌++◌, map, length, Contains, IsTrue, None, ◌⊎◌, inl, inr, refl, sym, ap, subst, ◌∙◌, get_or}
 use Rattle.std.specs.Prelude.{All}
-use Rattle.std.specs.List.{filter_map, find, cons_option, position_or_len}
-use Rattle.std.specs.Option.{option_map}
+use Rattle.std.specs.List.{find, position_or_len}
 use Rattle.std.proofs.lemmas.Bool.{cases_Bool, cases_lt, and_from, not_from_false, cond-false, le-ltb}
 use Rattle.std.proofs.lemmas.List.{append-nil}
 use Rattle.std.proofs.lemmas.List.Elements.{Contains-get_or}
 use Rattle.std.proofs.lemmas.List.Sums.{passes_at_first}
-use Rattle.proof_base.proofs.Members.{filter_has, find_lacks, has_filter, has_head, has_map, has_none, has_read, has_tail}
-use Rattle.weave_data.specs.declared.name.Name.{Name}
-use Rattle.graph_ops.specs.Mentions.{named_by}
+use Rattle.weave_data.proofs.Members.{filter_has, find_lacks, has_filter, has_map, has_none, has_read}
 use Rattle.graph_ops.specs.declared.op.Op.{Op}
 use Rattle.vector_stamp.specs.declared.clock.Stamp.{Stamp}
 use Rattle.vector_stamp.specs.Order.{id_of, stamp_before, unordered}
@@ -18,22 +16,9 @@ use Rattle.vector_stamp.specs.Settling.{SettledEntry, refused_place, additions_f
 use Rattle.weave_entries.specs.declared.oracle_log.OracleEntry.{OracleEntry}
 use Rattle.weave_entries.specs.OracleReplay.{oracle_entry, pairs_of_log, settled_entry}
 use Rattle.weave_entries.specs.OracleRules.{IsOracleLog, IsRightEntry}
-use Rattle.weave_entries.specs.StoreReplay.{Commit, last_naming}
+use Rattle.weave_entries.specs.StoreReplay.{Commit}
 use Rattle.weave_entries.specs.StoreRule.{LastCommit, asked_of, asked_stamps, entries_of_settling, lasts_of}
-use Rattle.step_rules.specs.LowerLaws.{LowerLaws}
-
--- Lists
-
-filter_map-from : {A B : Type 0} (f : A → Option B) (xs : List A) (y : B) → Contains (filter_map f xs) y → (x : A) × Contains xs x × (f x ≡ Some y)
-filter_map-from f [] y h = absurd (has_none y h)
-filter_map-from {A} {B} f (x ∷ xs) y h = at (f x) refl h (filter_map-from f xs y)
-  where
-    at : (o : Option B) → f x ≡ o → Contains (cons_option o (filter_map f xs)) y → (Contains (filter_map f xs) y → (z : A) × Contains xs z × (f z ≡ Some y)) → (z : A) × Contains (x ∷ xs) z × (f z ≡ Some y)
-    at None e h rest = let r = rest h in (r.0, has_tail x xs r.0 r.1, r.2)
-    at (Some w) e h rest = elim (has_read w (filter_map f xs) y h) [
-      | inl same ↦ (x, has_head x xs, e ∙ ap Some same)
-      | inr more ↦ (let r = rest more in (r.0, has_tail x xs r.0 r.1, r.2))
-    ]
+use Rattle.step_rules.specs.LowerLaws.{LawsForSteps}
 
 -- none of the earlier events is preceded by the later one
 pub none-refused : (pairs : List Given) (events : List Stamp) (later : Stamp) → ((event : Stamp) → Contains events event → ¬ IsTrue (precedes pairs later event)) → refused_place pairs events later ≡ None
@@ -56,43 +41,8 @@ three a b = elim (cases_Bool (stamp_before a b)) [
 
 -- The last commits
 
-abbrev pub last-at : Name → Commit → LastCommit
-last-at v commit = record { vertex = v; commit = commit }
-
 module _ (ops : List Op) (commits : List Commit) where
-  abbrev of-name : Name → Option LastCommit
-  of-name v = option_map (last-at v) (last_naming v commits)
-
-  pub last-is : (last : LastCommit) → Contains (lasts_of ops commits) last → (last_naming last.vertex commits ≡ Some last.commit) × Contains (named_by ops) last.vertex
-  last-is last h = at (last_naming from.0 commits) refl from.2
-    where
-      from : (v : Name) × Contains (named_by ops) v × (of-name v ≡ Some last)
-      from = filter_map-from of-name (named_by ops) last h
-
-      at : (o : Option Commit) → last_naming from.0 commits ≡ o → option_map (last-at from.0) o ≡ Some last → (last_naming last.vertex commits ≡ Some last.commit) × Contains (named_by ops) last.vertex
-      at None e is = cc
-      at (Some commit) e is =
-          let same : last-at from.0 commit ≡ last = cc in
-          (subst (λ (l : LastCommit). last_naming l.vertex commits ≡ Some l.commit) same e, subst (λ (l : LastCommit). Contains (named_by ops) l.vertex) same from.1)
-
-  pub last-there : (v : Name) (commit : Commit) → Contains (named_by ops) v → last_naming v commits ≡ Some commit → Contains (lasts_of ops commits) (last-at v commit)
-  last-there v commit named e = go (named_by ops) named
-    where
-      found : of-name v ≡ Some (last-at v commit)
-      found = ap (option_map (last-at v)) e
-
-      onto : (ns : List Name) (o : Option LastCommit) → Contains (filter_map of-name ns) (last-at v commit) → Contains (cons_option o (filter_map of-name ns)) (last-at v commit)
-      onto ns None k = k
-      onto ns (Some l) k = has_tail l (filter_map of-name ns) _ k
-
-      go : (ns : List Name) → Contains ns v → Contains (filter_map of-name ns) (last-at v commit)
-      go [] h = absurd (has_none v h)
-      go (n ∷ ns) h = elim (has_read n ns v h) [
-        | inl same ↦ subst (λ o. Contains (cons_option o (filter_map of-name ns)) (last-at v commit)) (sym (ap of-name same ∙ found)) (has_head _ (filter_map of-name ns))
-        | inr more ↦ onto ns (of-name n) (go ns more)
-      ]
-
-  module _ (laws : LowerLaws) (stamp : Stamp) where
+  module _ (laws : LawsForSteps) (stamp : Stamp) where
     pub asked-is : (last : LastCommit) → Contains (asked_of stamp (lasts_of ops commits)) last → Contains (lasts_of ops commits) last × IsTrue (unordered last.commit.stamp stamp)
     asked-is last h = filter_has (λ (l : LastCommit). unordered l.commit.stamp stamp) (lasts_of ops commits) last h
 
@@ -116,7 +66,7 @@ pub record IsSettled (author : ℕ) (log : List OracleEntry) (earlier : List Sta
   pub pairs : pairs_of_log (log ++ entries) ≡ pairs_of_log log ++ pairs_of (additions_from 0 (pairs_of_log log) earlier later) later
   pub of_call : (entry : OracleEntry) → Contains entries entry → (settled_entry entry).later ≡ later × ((settled_entry entry).earlier ≡ earlier)
 
-module _ (laws : LowerLaws) (author : ℕ) (log : List OracleEntry) (earlier : List Stamp) (later : Stamp) where
+module _ (laws : LawsForSteps) (author : ℕ) (log : List OracleEntry) (earlier : List Stamp) (later : Stamp) where
   pub settles : IsOracleLog log → All (λ event. id_of event ≢ id_of later) earlier → refused_place (pairs_of_log log) earlier later ≡ None
       → IsSettled author log earlier later (entries_of_settling author (pairs_of_log log) earlier later)
   settles right others permitted = at (places_of (additions_from 0 (pairs_of_log log) earlier later)) refl

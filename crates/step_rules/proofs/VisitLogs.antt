@@ -1,4 +1,5 @@
 -- What one more visit leaves of a shard's log: its updates stay, and there is one more read, and one more mark if the oracle made an entry.
+-- Used by VisitStep and crates weave_phase, weaver_core and workers_account.
 use Rattle.std.proofs.Common.{◌≡◌, ◌≢◌, ℕ, zero, suc, ◌<◌, ◌==◌, Bool, true, false, cond, List, [], ◌∷◌, ◌++◌, map, take, length, Contains, Some, inl, inr, refl, sym, ap, ◌∙◌, arith}
 use Rattle.std.specs.Prelude.{filter, slice_get, ◌&&◌}
 use Rattle.std.specs.List.{filter_map, find, flat_map}
@@ -7,7 +8,7 @@ use Rattle.std.proofs.lemmas.Bool.{eq-eqb, ne_eqb}
 use Rattle.std.proofs.lemmas.List.{append-nil, map-append}
 use Rattle.std.proofs.lemmas.List.Concat.{flat_map-append}
 use Rattle.std.proofs.lemmas.List.Elements.{filter-append}
-use Rattle.proof_base.proofs.Members.{has_none, has_read, has_tail}
+use Rattle.weave_data.proofs.Members.{has_none, has_read, has_tail}
 use Rattle.weave_data.specs.declared.name.Name.{Name}
 use Rattle.graph_ops.specs.Operations.{State}
 use Rattle.vector_stamp.specs.declared.clock.Stamp.{Stamp}

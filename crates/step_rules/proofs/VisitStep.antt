@@ -1,5 +1,7 @@
--- `visit` keeps a core: the program reads what it sees of its next vertex, and the last update that it sees is put before it.
-use Rattle.std.proofs.Common.{◌≡◌, ◌≢◌, ℕ, zero, suc, ◌+◌, ◌-◌, ◌<◌, ◌≤◌, Bool, true, false, cond, not, List, [], ◌∷◌, ◌++◌, map, take, length, AllPairs, Contains, IsTrue, Option, None, Some, inl, inr, refl, sym, ap, subst, ◌∙◌, get_or-set_same, get_or-set_other, arith}
+-- `visit` keeps a core, if the program was begun, the vertex is its next one, and the shard is ready: the program reads
+-- what it sees of the vertex, and the last update that it sees is put before it.
+-- Used by Visiting and crate workers_account.
+use Rattle.std.proofs.Common.{◌≡◌, ◌≢◌, ℕ, zero, suc, ◌+◌, ◌-◌, ◌<◌, ◌≤◌, Bool, true, false, cond, not, List, [], ◌∷◌, ◌++◌, map, take, length, AllPairs, Contains, IsTrue, Option, None, Some, inl, inr, refl, sym, ap, subst, ◌∙◌, arith}
 use Rattle.std.specs.Prelude.{IsSomeAnd, slice_get, ◌&&◌}
 use Rattle.std.specs.List.{flat_map}
 use Rattle.std.specs.Map.{keys_of}
@@ -8,8 +10,7 @@ use Rattle.std.proofs.lemmas.Bool.{and_from, and_parts, both_ways, cases_Bool, c
 use Rattle.std.proofs.lemmas.List.{append-nil, get_or_past, length-map, length-set}
 use Rattle.std.proofs.lemmas.List.Elements.{All-from_recursion, Contains-append_cases, Contains-append_left, Contains-append_right}
 use Rattle.std.proofs.lemmas.Option.{get_or_from_slice_get, slice_get_within}
-use Rattle.proof_base.proofs.Entries.{each_push}
-use Rattle.proof_base.proofs.Members.{cut_at, filter_has, find_has, flat_has, has_head, has_map, has_none, map_has, only}
+use Rattle.weave_data.proofs.Members.{cut_at, filter_has, find_has, flat_has, has_head, has_map, has_none, map_has, only}
 use Rattle.weave_data.specs.declared.name.Name.{Name}
 use Rattle.weave_data.specs.Names.{shard_of}
 use Rattle.graph_ops.specs.Mentions.{is_among}
@@ -24,13 +25,12 @@ use Rattle.program_defs.specs.declared.program.Program.{Program}
 use Rattle.program_defs.specs.declared.script.Request.{Request}
 use Rattle.program_defs.specs.declared.script.Script.{Script}
 use Rattle.program_defs.specs.declared.script.Work.TheVariants.{Change, Look}
-use Rattle.program_defs.specs.Visits.{next_visit}
+use Rattle.program_defs.specs.Visits.{AreFirstVisits, next_visit}
 use Rattle.report_rules.specs.Lookups.{request_at}
 use Rattle.weave_entries.specs.declared.oracle_log.OracleEntry.{OracleEntry}
 use Rattle.weave_entries.specs.declared.shard_log.ShardEntry.{ShardEntry}
 use Rattle.weave_entries.specs.declared.shard_log.ShardDeed.{ShardDeed}
 use Rattle.weave_entries.specs.declared.shard_log.ShardDeed.TheVariants as shard
-use Rattle.weave_entries.specs.Logs.{AtEachEntry}
 use Rattle.weave_entries.specs.GateReplay.{Begun, begun_in, programs_of}
 use Rattle.weave_entries.specs.OracleReplay.{oracle_entry, settled_entry}
 use Rattle.weave_entries.specs.ShardReplay.{Update, Visit, first_unready, reads_in, updates_of, visit_by, visits_of}
@@ -46,7 +46,6 @@ use Rattle.weave_account.specs.Shards.{IsRightVisit, ShardFitsAs, update_at, upd
 use Rattle.step_rules.specs.CoreState.{CoreState, with_shard_deed}
 use Rattle.step_rules.specs.Entries.{made_entry, seen_in, update_stamps}
 use Rattle.step_rules.specs.IsCore.{IsCore}
-use Rattle.step_rules.specs.FurtherLaws.{AreFirstVisits}
 use Rattle.step_rules.proofs.Basis.{Basis}
 use Rattle.step_rules.proofs.Begun.{all-in, inside-log, one-begun, program-begun}
 use Rattle.step_rules.proofs.Commits.{all-from, commit-judged}
@@ -58,8 +57,11 @@ use Rattle.step_rules.proofs.SetLists.{SetMore, flat-more, flat-set}
 use Rattle.step_rules.proofs.StepGoesOn.{goes-further, with-settled, with-shard-deed}
 use Rattle.step_rules.proofs.Verdicts.{IsSettled, none-refused, settles, three}
 use Rattle.step_rules.proofs.VisitLogs as visited
+use Rattle.step_rules.proofs.SetLogs.{each-set, set-here, set-there, shard-entry}
+use Rattle.step_rules.proofs.Within.{shard-within}
 
-not-both : (b : Bool) → IsTrue (not b) → IsTrue b → ⊥
+-- a test and its contrary do not both hold
+pub not-both : (b : Bool) → IsTrue (not b) → IsTrue b → ⊥
 not-both true h g = cc
 not-both false h g = cc
 
@@ -118,7 +120,7 @@ module _ (script : Script) (state : CoreState) (basis : Basis script state) (r :
   deed = shard.Visited r stamp v k (made_entry entries)
 
   abbrev entry : ShardEntry
-  entry = record { author = 0; deed = deed }
+  entry = shard-entry deed
 
   abbrev visit : Visit
   visit = record { author = 0; request = r; stamp = stamp; vertex = v; updates = k; settled = made_entry entries }
@@ -129,20 +131,11 @@ module _ (script : Script) (state : CoreState) (basis : Basis script state) (r :
   inside : s < script.shards
   inside = let some = basis.limits.some_shard in omega (arith, some)
 
-  within : s < length account.shards
-  within = let many = is.shards.as_many in omega (arith, inside, many)
-
   home-inside : request.gate < script.gates
   home-inside = basis.limits.homes r request request-is
 
   on : GoesOn account next
-  on = goes-further account (record account { oracle = account.oracle ++ entries }) next (with-settled account entries) (with-shard-deed (record account { oracle = account.oracle ++ entries }) s deed within)
-
-  log-here : shard_log next s ≡ log ++ entry ∷ []
-  log-here = get_or-set_same account.shards s (log ++ entry ∷ []) [] within
-
-  log-there : (i : ℕ) → i ≢ s → shard_log next i ≡ shard_log account i
-  log-there i other = get_or-set_other account.shards s i (log ++ entry ∷ []) [] other
+  on = goes-further account (record account { oracle = account.oracle ++ entries }) next (with-settled account entries) (with-shard-deed (record account { oracle = account.oracle ++ entries }) s deed (shard-within is s inside))
 
   all-begun : Contains (all_begun account) begun
   all-begun = all-in account request.gate begun (inside-log basis.laws basis.further script account basis.limits is request.gate home-inside) (program-begun (gate_log account request.gate) begun began)
@@ -160,7 +153,7 @@ module _ (script : Script) (state : CoreState) (basis : Basis script state) (r :
   events-of : (j : ℕ) (x : Stamp) → k ≡ j + 1 → slice_get stamps j ≡ Some x → events ≡ x ∷ []
   events-of j x e at = ap (λ n. last_seen n stamps) e ∙ basis.laws.stamps.seen_named stamps x j at
 
-  -- there is one, or it sees none
+  -- the last update that it sees, if it sees one
   record IsOne : Type 0 where
     x : Stamp
     last : IsLast x
@@ -200,7 +193,7 @@ module _ (script : Script) (state : CoreState) (basis : Basis script state) (r :
       change-not None ops work e = absurd work
       change-not (Some other) ops work e = let same : other ≡ request = cc in let clash : Change ops ≡ Look program = sym work ∙ ap (λ (q : Request). q.work) same ∙ look in cc
 
-  -- so has a commit
+  -- the same holds of a commit
   commit-other : (commit : Commit) → Contains (commits_in account) commit → id_of commit.stamp ≢ id_of stamp
   commit-other commit h = let judged = commit-judged account.store commit h in subst (λ (t : Stamp). id_of t ≢ id_of stamp) judged.2 (judged-other judged.0 judged.1)
 
@@ -265,7 +258,7 @@ module _ (script : Script) (state : CoreState) (basis : Basis script state) (r :
   turn =
       let was = is.programs r request program request-is look in
       let read = visited.read-of log r stamp v k (made_entry entries) visit in
-      let set : SetMore (reads_in r) account.shards s (log ++ entry ∷ []) (read ∷ []) = flat-more (reads_in r) account.shards s (log ++ entry ∷ []) (read ∷ []) within (visited.reads-more log r stamp v k (made_entry entries)) in
+      let set : SetMore (reads_in r) account.shards s (log ++ entry ∷ []) (read ∷ []) = flat-more (reads_in r) account.shards s (log ++ entry ∷ []) (read ∷ []) (shard-within is s inside) (visited.reads-more log r stamp v k (made_entry entries)) in
       let after : next_visit (set.front ++ set.back) program ≡ Some v = ap (λ reads. next_visit reads program) (sym set.was) ∙ next-is in
       let distinct : AllPairs (λ (a b : Name × State). a.0 ≢ b.0) (set.front ++ set.back) = subst (AllPairs (λ (a b : Name × State). a.0 ≢ b.0)) set.was was.once in
       let first : AreFirstVisits (set.front ++ set.back) program = subst (λ reads. AreFirstVisits reads program) set.was was.first_ones in
@@ -281,7 +274,7 @@ module _ (script : Script) (state : CoreState) (basis : Basis script state) (r :
 
   programs : ProgramsClause script next
   programs q request' program' there look' = elim (cases_eq q r) [
-    | inr differ ↦ subst (λ reads. ReadsInTurn reads program' (IsTrue (is_ended account q))) (sym (flat-set (reads_in q) account.shards s (log ++ entry ∷ []) within (visited.reads-stay log r stamp v k (made_entry entries) q differ)))
+    | inr differ ↦ subst (λ reads. ReadsInTurn reads program' (IsTrue (is_ended account q))) (sym (flat-set (reads_in q) account.shards s (log ++ entry ∷ []) (shard-within is s inside) (visited.reads-stay log r stamp v k (made_entry entries) q differ)))
         (is.programs q request' program' there look')
     | inl same ↦
         let one : Some request ≡ Some request' = sym request-is ∙ ap (request_at script) (sym same) ∙ there in
@@ -295,10 +288,10 @@ module _ (script : Script) (state : CoreState) (basis : Basis script state) (r :
 
   -- what the visit saw last is that of which the oracle was asked
   saw : seen_last (shard_log next s) visit ≡ events
-  saw = ap (λ l. seen_last l visit) log-here ∙ ap (λ us. last_seen k (map (λ (u : Update). u.stamp) us)) (visited.updates-same log r stamp v k (made_entry entries) v)
+  saw = ap (λ l. seen_last l visit) (set-here account.shards s (shard-within is s inside) entry) ∙ ap (λ us. last_seen k (map (λ (u : Update). u.stamp) us)) (visited.updates-same log r stamp v k (made_entry entries) v)
 
   visits-now : visits_of (shard_log next s) ≡ visits_of log ++ visit ∷ []
-  visits-now = ap visits_of log-here ∙ visited.visits-push log r stamp v k (made_entry entries)
+  visits-now = ap visits_of (set-here account.shards s (shard-within is s inside) entry) ∙ visited.visits-push log r stamp v k (made_entry entries)
 
   asked-now : (e : OracleEntry) → Contains entries e → IsAskedByVisit next (settled_entry e)
   asked-now e h = let of = settled.of_call e h in record {
@@ -321,7 +314,7 @@ module _ (script : Script) (state : CoreState) (basis : Basis script state) (r :
   marked-now : (i : ℕ) (w : Visit) → Contains (visits_of (shard_log next i)) w → IsTrue w.settled → HasItsEntry next (shard_log next i) w
   marked-now i w h marked = elim (cases_eq i s) [
     | inr other ↦
-        let there = subst (λ l. Contains (visits_of l) w) (log-there i other) h in
+        let there = subst (λ l. Contains (visits_of l) w) (set-there account.shards s (shard-within is s inside) entry i other) h in
         basis.laws.accounts.stay_marked script account next basis.limits is on i w there (is.oracle.marked i w there marked)
     | inl same ↦ subst (λ n. HasItsEntry next (shard_log next n) w) (sym same) (here (subst (λ n. Contains (visits_of (shard_log next n)) w) same h))
   ]
@@ -347,7 +340,7 @@ module _ (script : Script) (state : CoreState) (basis : Basis script state) (r :
           let before = there one.x (subst (λ es. Contains es one.x) (sym is-one) (has_head one.x [])) in
           none (ap (λ es. additions_from 0 pairs es stamp) is-one ∙ ap (λ b. cond b [] ((0, one.x) ∷ [])) before)
 
-  -- a marked visit of this program saw another one last
+  -- if this visit adds an entry of the oracle, no marked visit of this program saw the same update last
   fresh-mark : IsTrue (made_entry entries) → (y : ℕ × List Stamp) → Contains (flat_map marked_in account.shards) y → y ≢ (r, events)
   fresh-mark made y h same =
       let at-shard = flat_has marked_in account.shards y h in
@@ -384,9 +377,9 @@ module _ (script : Script) (state : CoreState) (basis : Basis script state) (r :
   once-now = by (made_entry entries) refl (visited.marks-push log r stamp v k (made_entry entries))
     where
       by : (b : Bool) → made_entry entries ≡ b → marked_in (log ++ entry ∷ []) ≡ marked_in log ++ cond b ((r, events) ∷ []) [] → AllPairs (λ (a b : ℕ × List Stamp). a ≢ b) (flat_map marked_in next.shards)
-      by false e push = subst (AllPairs (λ (a b : ℕ × List Stamp). a ≢ b)) (sym (flat-set marked_in account.shards s (log ++ entry ∷ []) within (push ∙ append-nil (marked_in log)))) is.oracle.once
+      by false e push = subst (AllPairs (λ (a b : ℕ × List Stamp). a ≢ b)) (sym (flat-set marked_in account.shards s (log ++ entry ∷ []) (shard-within is s inside) (push ∙ append-nil (marked_in log)))) is.oracle.once
       by true e push =
-          let set : SetMore marked_in account.shards s (log ++ entry ∷ []) ((r, events) ∷ []) = flat-more marked_in account.shards s (log ++ entry ∷ []) ((r, events) ∷ []) within push in
+          let set : SetMore marked_in account.shards s (log ++ entry ∷ []) ((r, events) ∷ []) = flat-more marked_in account.shards s (log ++ entry ∷ []) ((r, events) ∷ []) (shard-within is s inside) push in
           subst (AllPairs (λ (a b : ℕ × List Stamp). a ≢ b)) (sym set.now) (pairs-into (λ (a b : ℕ × List Stamp). a ≢ b) set.front (r, events) set.back (subst (AllPairs (λ (a b : ℕ × List Stamp). a ≢ b)) set.was is.oracle.once)
           (λ y h. fresh-mark e y (subst (λ ys. Contains ys y) (sym set.was) (Contains-append_left set.front set.back y h)))
           (λ y h same. fresh-mark e y (subst (λ ys. Contains ys y) (sym set.was) (Contains-append_right set.front set.back y h)) (sym same)))
@@ -412,11 +405,7 @@ module _ (script : Script) (state : CoreState) (basis : Basis script state) (r :
       channels = sends-stay basis.laws script account next basis.limits is on;
       shards = record {
         as_many = length-set account.shards s (log ++ entry ∷ []) ∙ is.shards.as_many;
-        deeds = λ i. elim (cases_eq i s) [
-          | inl same ↦ subst (λ n. AtEachEntry (ShardRule script next n) (shard_log next n)) (sym same)
-              (subst (AtEachEntry (ShardRule script next s)) (sym log-here) (each_push (ShardRule script next s) log entry (deeds-stay basis.laws script account next basis.limits is on s) fits))
-          | inr other ↦ subst (AtEachEntry (ShardRule script next i)) (sym (log-there i other)) (deeds-stay basis.laws script account next basis.limits is on i)
-        ];
+        deeds = each-set account.shards s (shard-within is s inside) entry (ShardRule script next) (deeds-stay basis.laws script account next basis.limits is on) fits;
       };
       programs = programs;
     };

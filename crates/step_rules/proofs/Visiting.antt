@@ -1,7 +1,8 @@
 -- `visit` keeps a core, by its answer.
+-- Used by Stepping.
 use Rattle.std.proofs.Common.{◌≡◌, ℕ, ◌==◌, Option, None, Some, refl}
 use Rattle.std.proofs.lemmas.Bool.{eqb-true}
-use Rattle.proof_base.proofs.Members.{find_has}
+use Rattle.weave_data.proofs.Members.{find_has}
 use Rattle.weave_data.specs.declared.name.Name.{Name}
 use Rattle.weave_data.specs.Names.{shard_of}
 use Rattle.program_defs.specs.declared.program.Program.{Program}

@@ -40,31 +40,67 @@ use Rattle.weave_account.specs.Shards.{ShardFitsAs, update_of}
 -- What step_rules cites of accounts: the laws of weave_account in one record.
 pub record AccountLaws : Type 0 where
   -- begun_stamps_are_coherent
-  pub stamps_coherent : (script : Script) (account : Account) → IsWithinLimits script → IsAccount script account → AreCoherent (map (λ (begun : Begun). begun.stamp) (all_begun account))
-  pub stamps_acyclic : (script : Script) (account : Account) → IsWithinLimits script → IsAccount script account → IsAcyclic (pairs_in account)
+  pub stamps_coherent : (script : Script) (account : Account) → IsWithinLimits script → IsAccount script account
+      → AreCoherent (map (λ (begun : Begun). begun.stamp) (all_begun account))
+  pub stamps_acyclic : (script : Script) (account : Account) → IsWithinLimits script → IsAccount script account
+      → IsAcyclic (pairs_in account)
   -- clocks_are_known
-  pub known_gatekeepers : (script : Script) (account : Account) → IsWithinLimits script → IsAccount script account → (home : ℕ) → IsKnown account (clock_of home (gate_log account home))
-  pub known_begun : (script : Script) (account : Account) → IsWithinLimits script → IsAccount script account → (begun : Begun) → Contains (all_begun account) begun → IsKnown account begun.stamp.clock
-  pub known_judged : (script : Script) (account : Account) → IsWithinLimits script → IsAccount script account → (judged : Judgement) → Contains (judgements_of account.store) judged → IsKnown account judged.stamp.clock
-  pub known_settled : (script : Script) (account : Account) → IsWithinLimits script → IsAccount script account → (entry : OracleEntry) → Contains account.oracle entry → (stamp : Stamp) → Contains ((settled_entry entry).later ∷ (settled_entry entry).earlier) stamp → IsKnown account stamp.clock
-  pub known_messages : (script : Script) (account : Account) → IsWithinLimits script → IsAccount script account → (shard home number : ℕ) (message : Message) → arrived_at home number (shard_log account shard) ≡ Some message → IsKnown account message.stamp.clock × IsKnown account message.low
-  pub known_visits : (script : Script) (account : Account) → IsWithinLimits script → IsAccount script account → (shard : ℕ) (visit : Visit) → Contains (visits_of (shard_log account shard)) visit → IsKnown account visit.stamp.clock
-  pub known_bounds : (script : Script) (account : Account) → IsWithinLimits script → IsAccount script account → (shard : ℕ) (bound : Clock) → bound_of script.gates (shard_log account shard) ≡ Some bound → IsKnown account bound
-  pub known_heard : (script : Script) (account : Account) → IsWithinLimits script → IsAccount script account → (home : ℕ) → home < 8 → (clock heard : Clock) → IsKnown account clock → IsKnown account heard → IsKnown account (clock_after_hearing home clock heard)
-  pub known_met : (script : Script) (account : Account) → IsWithinLimits script → IsAccount script account → (a b : Clock) → IsKnown account a → IsKnown account b → IsKnown account (meet_of a b)
+  pub known_gatekeepers : (script : Script) (account : Account) → IsWithinLimits script → IsAccount script account
+      → (home : ℕ) → IsKnown account (clock_of home (gate_log account home))
+  pub known_begun : (script : Script) (account : Account) → IsWithinLimits script → IsAccount script account
+      → (begun : Begun) → Contains (all_begun account) begun → IsKnown account begun.stamp.clock
+  pub known_judged : (script : Script) (account : Account) → IsWithinLimits script → IsAccount script account
+      → (judged : Judgement) → Contains (judgements_of account.store) judged → IsKnown account judged.stamp.clock
+  pub known_settled : (script : Script) (account : Account) → IsWithinLimits script → IsAccount script account
+      → (entry : OracleEntry) → Contains account.oracle entry → (stamp : Stamp)
+      → Contains ((settled_entry entry).later ∷ (settled_entry entry).earlier) stamp → IsKnown account stamp.clock
+  pub known_messages : (script : Script) (account : Account) → IsWithinLimits script → IsAccount script account
+      → (shard home number : ℕ) (message : Message) → arrived_at home number (shard_log account shard) ≡ Some message
+      → IsKnown account message.stamp.clock × IsKnown account message.low
+  pub known_visits : (script : Script) (account : Account) → IsWithinLimits script → IsAccount script account
+      → (shard : ℕ) (visit : Visit) → Contains (visits_of (shard_log account shard)) visit
+      → IsKnown account visit.stamp.clock
+  pub known_bounds : (script : Script) (account : Account) → IsWithinLimits script → IsAccount script account
+      → (shard : ℕ) (bound : Clock) → bound_of script.gates (shard_log account shard) ≡ Some bound
+      → IsKnown account bound
+  pub known_heard : (script : Script) (account : Account) → IsWithinLimits script → IsAccount script account
+      → (home : ℕ) → home < 8 → (clock heard : Clock) → IsKnown account clock → IsKnown account heard
+      → IsKnown account (clock_after_hearing home clock heard)
+  pub known_met : (script : Script) (account : Account) → IsWithinLimits script → IsAccount script account
+      → (a b : Clock) → IsKnown account a → IsKnown account b → IsKnown account (meet_of a b)
   -- facts_stay_true
-  pub stay_precedence : (script : Script) (account next : Account) → GoesOn account next → (a b : Stamp) → Precedence account a b → Precedence next a b
-  pub stay_clocks : (script : Script) (account next : Account) → GoesOn account next → (clock : Clock) → IsKnown account clock → IsKnown next clock
-  pub stay_begins : (script : Script) (account next : Account) → IsWithinLimits script → IsAccount script account → GoesOn account next → BeginEachOnce next → (home : ℕ) (before after : List GateEntry) (entry : GateEntry) → gate_log account home ≡ before ++ entry ∷ after → BeginsAs script next home before entry.deed
-  pub stay_judgements : (script : Script) (account next : Account) → GoesOn account next → (before : List StoreEntry) (judged : Judgement) → Judges script account before judged → Judges script next before judged
-  pub stay_sends : (script : Script) (account next : Account) → GoesOn account next → (before : List GateEntry) (author : ℕ) (deed : GateDeed) → SendsAs account script.shards before author deed → SendsAs next script.shards before author deed
-  pub stay_shards : (script : Script) (account next : Account) → GoesOn account next → (shard : ℕ) (before : List ShardEntry) (deed : ShardDeed) → ShardFitsAs script account shard before deed → ShardFitsAs script next shard before deed
-  pub stay_replies : (script : Script) (account next : Account) → GoesOn account next → (deed : SessionDeed) → RepliesAs account deed → RepliesAs next deed
-  pub stay_asked : (script : Script) (account next : Account) → IsWithinLimits script → IsAccount script account → GoesOn account next → (settled : SettledEntry) → IsAskedByCommit account settled ⊎ IsAskedByVisit account settled → IsAskedByCommit next settled ⊎ IsAskedByVisit next settled
-  pub stay_marked : (script : Script) (account next : Account) → IsWithinLimits script → IsAccount script account → GoesOn account next → (shard : ℕ) (visit : Visit) → Contains (visits_of (shard_log account shard)) visit → HasItsEntry account (shard_log account shard) visit → HasItsEntry next (shard_log next shard) visit
-  pub stay_reads : (script : Script) (account next : Account) → IsWithinLimits script → IsAccount script account → GoesOn account next → (r shard : ℕ) → IsBeginningOf (reads_in r (shard_log account shard)) (reads_in r (shard_log next shard))
-  pub stay_pairs : (script : Script) (account next : Account) → GoesOn account next → BeginEachOnce next → (pair : Pair) (given : Given) → IsPairInAccount account pair given → IsPairInAccount next pair given
+  pub stay_precedence : (script : Script) (account next : Account) → GoesOn account next → (a b : Stamp)
+      → Precedence account a b → Precedence next a b
+  pub stay_clocks : (script : Script) (account next : Account) → GoesOn account next → (clock : Clock)
+      → IsKnown account clock → IsKnown next clock
+  pub stay_begins : (script : Script) (account next : Account) → IsWithinLimits script → IsAccount script account
+      → GoesOn account next → BeginEachOnce next → (home : ℕ) (before after : List GateEntry) (entry : GateEntry)
+      → gate_log account home ≡ before ++ entry ∷ after → BeginsAs script next home before entry.deed
+  pub stay_judgements : (script : Script) (account next : Account) → GoesOn account next
+      → (before : List StoreEntry) (judged : Judgement) → Judges script account before judged
+      → Judges script next before judged
+  pub stay_sends : (script : Script) (account next : Account) → GoesOn account next
+      → (before : List GateEntry) (author : ℕ) (deed : GateDeed) → SendsAs account script.shards before author deed
+      → SendsAs next script.shards before author deed
+  pub stay_shards : (script : Script) (account next : Account) → GoesOn account next
+      → (shard : ℕ) (before : List ShardEntry) (deed : ShardDeed) → ShardFitsAs script account shard before deed
+      → ShardFitsAs script next shard before deed
+  pub stay_replies : (script : Script) (account next : Account) → GoesOn account next → (deed : SessionDeed)
+      → RepliesAs account deed → RepliesAs next deed
+  pub stay_asked : (script : Script) (account next : Account) → IsWithinLimits script → IsAccount script account
+      → GoesOn account next → (settled : SettledEntry) → IsAskedByCommit account settled
+      ⊎ IsAskedByVisit account settled → IsAskedByCommit next settled ⊎ IsAskedByVisit next settled
+  pub stay_marked : (script : Script) (account next : Account) → IsWithinLimits script → IsAccount script account
+      → GoesOn account next → (shard : ℕ) (visit : Visit) → Contains (visits_of (shard_log account shard)) visit
+      → HasItsEntry account (shard_log account shard) visit → HasItsEntry next (shard_log next shard) visit
+  pub stay_reads : (script : Script) (account next : Account) → IsWithinLimits script → IsAccount script account
+      → GoesOn account next → (r shard : ℕ)
+      → IsBeginningOf (reads_in r (shard_log account shard)) (reads_in r (shard_log next shard))
+  pub stay_pairs : (script : Script) (account next : Account) → GoesOn account next → BeginEachOnce next
+      → (pair : Pair) (given : Given) → IsPairInAccount account pair given → IsPairInAccount next pair given
   -- updates_are_commits
-  pub updates : (script : Script) (account : Account) → IsWithinLimits script → IsAccount script account → (v : Name) → let log = shard_log account (shard_of v script.shards) in updates_of v log ≡ map (update_of v) (take (length (updates_of v log)) (commits_naming v (commits_in account)))
+  pub updates : (script : Script) (account : Account) → IsWithinLimits script → IsAccount script account → (v : Name)
+      → let log = shard_log account (shard_of v script.shards) in updates_of v log
+      ≡ map (update_of v) (take (length (updates_of v log)) (commits_naming v (commits_in account)))
   -- empty_logs_are_an_account
   pub empty : (script : Script) → IsAccount script (no_logs script)

@@ -20,7 +20,8 @@ use Rattle.step_rules.specs.Requests.{has_begun, has_reply, waits_for_earlier, f
 
 -- Transactions
 
--- `begin R`: `twice` if R has begun, `early` if an earlier request of its session has no reply, `busy` if R is a transaction and one is in flight there
+-- `begin R`: `twice` if R has begun, `early` if an earlier request of its session has no reply, `busy` if R is a
+-- transaction and one is in flight there
 abbrev pub answer_of_begin : Script → Account → ℕ → Request → StepAnswer
 answer_of_begin script account r request =
     if has_begun account r request then Twice
@@ -41,11 +42,13 @@ answer_of_send account (Some flight) = if is_judged account flight.request then 
 -- `reply R`: `idle` if R has not begun, has its reply, is a transaction not yet sent, or a program with a next vertex
 abbrev pub answer_of_reply : Account → ℕ → Request → StepAnswer
 answer_of_reply account r request =
-    if not (has_begun account r request) || has_reply account r request || not (is_answered account r request request.work) then Idle else Ok
+    if not (has_begun account r request) || has_reply account r request || not
+    (is_answered account r request request.work) then Idle else Ok
 
 -- Messages
 
--- `deliver G S N`, by the message of that number as it was sent, and as it arrived: `unknown` if it was not sent, `repeat` if it arrived before
+-- `deliver G S N`, by the message of that number as it was sent, and as it arrived: `unknown` if it was not sent,
+-- `repeat` if it arrived before
 abbrev pub answer_of_deliver : Option Message → Option Message → StepAnswer
 answer_of_deliver None arrived = Unknown
 answer_of_deliver (Some message) (Some earlier) = Repeat
@@ -69,12 +72,14 @@ abbrev pub again_or_ok : ℕ → Option ℕ → StepAnswer
 again_or_ok shard None = Ok
 again_or_ok shard (Some gate) = Again shard gate
 
--- `visit R`, by the program as it was begun and its next vertex: `idle` if R is no begun program or has no next vertex, or `again S G`
+-- `visit R`, by the program as it was begun and its next vertex: `idle` if R is no begun program or has no next vertex,
+-- or `again S G`
 abbrev pub answer_of_visit : Script → Account → Option Begun → Option Name → StepAnswer
 answer_of_visit script account None next = Idle
 answer_of_visit script account (Some begun) None = Idle
 answer_of_visit script account (Some begun) (Some v) =
-    again_or_ok (shard_of v script.shards) (first_unready script.gates begun.stamp (shard_log account (shard_of v script.shards)))
+    again_or_ok (shard_of v script.shards) (first_unready script.gates begun.stamp
+    (shard_log account (shard_of v script.shards)))
 
 -- Each step
 
@@ -92,10 +97,14 @@ answer_of script state (Say gate) = Ok
 answer_of script state (Hear gate notice) = if is_some (sent_as notice state.notices) then Ok else Unknown
 answer_of script state (Nop gate shard) = if is_some (flight_of (gate_log state.account gate)) then Busy else Ok
 answer_of script state (Deliver gate shard number) =
-    answer_of_deliver (sent_as number (channel_of shard (gate_log state.account gate))) (arrived_at gate number (shard_log state.account shard))
-answer_of script state (Apply shard gate) = answer_of_apply state.account shard (head_of gate (shard_log state.account shard))
+    answer_of_deliver (sent_as number (channel_of shard (gate_log state.account gate)))
+    (arrived_at gate number (shard_log state.account shard))
+answer_of script state (Apply shard gate) =
+    answer_of_apply state.account shard (head_of gate (shard_log state.account shard))
 answer_of script state (Visit r) =
-    for_request (λ request. answer_of_visit script state.account (program_begun r (gate_log state.account request.gate)) (next_vertex state.account r request.work)) (request_at script r)
+    for_request (λ request. answer_of_visit script state.account (program_begun r (gate_log state.account request.gate))
+    (next_vertex state.account r request.work)) (request_at script r)
 answer_of script state (Reply r) = for_request (answer_of_reply state.account r) (request_at script r)
 answer_of script state (Collect shard) = Ok
-answer_of script state (Epoch gate epoch) = if nat_lt (clock_of gate (gate_log state.account gate)).epoch epoch then Ok else Old
+answer_of script state (Epoch gate epoch) =
+    if nat_lt (clock_of gate (gate_log state.account gate)).epoch epoch then Ok else Old

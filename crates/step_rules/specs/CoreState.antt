@@ -23,14 +23,23 @@ start_state script = record { account = no_logs script; notices = [] }
 -- a gatekeeper's log gains a deed of this author
 abbrev pub with_gate_deed : Account → ℕ → ℕ → GateDeed → Account
 with_gate_deed account home author deed =
-    record account { gates = slice_set account.gates home (gate_log account home ++ record { author = author; deed = deed } ∷ []) }
+    record account {
+      gates = slice_set account.gates home (gate_log account home
+          ++ record { author = author; deed = deed } ∷ []);
+    }
 
 -- a shard's log gains a deed, of author 0
 abbrev pub with_shard_deed : Account → ℕ → ShardDeed → Account
 with_shard_deed account shard deed =
-    record account { shards = slice_set account.shards shard (shard_log account shard ++ record { author = 0; deed = deed } ∷ []) }
+    record account {
+      shards = slice_set account.shards shard (shard_log account shard
+          ++ record { author = 0; deed = deed } ∷ []);
+    }
 
 -- a session's log gains a deed, whose author is the session's number
 abbrev pub with_session_deed : Account → ℕ → SessionDeed → Account
 with_session_deed account session deed =
-    record account { sessions = slice_set account.sessions session (session_log account session ++ record { author = session; deed = deed } ∷ []) }
+    record account {
+      sessions = slice_set account.sessions session (session_log account session
+          ++ record { author = session; deed = deed } ∷ []);
+    }

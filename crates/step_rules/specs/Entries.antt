@@ -1,6 +1,6 @@
 -- The entries that an atomic step makes when it answers `Ok`: one of its own log; at `judge` and `visit` the oracle's
--- besides, if a pair is added; at `begin` and `reply` the session's. A `reply` to a transaction makes the session's alone,
--- and `say` makes a notice and no entry.
+-- besides, if a pair is added; at `begin` and `reply` the session's. A `reply` to a transaction makes the session's
+-- alone, and `say` makes a notice and no entry.
 use Rattle.std.specs.Prelude.{ℕ, ◌+◌, Bool, true, false, List, [], ◌∷◌, ◌++◌, map, Option, None, Some, if◌then◌else◌}
 use Rattle.weave_data.specs.declared.name.Name.{Name}
 use Rattle.weave_data.specs.Names.{shard_of}
@@ -43,12 +43,15 @@ begin_deed r stamp (Look program) = gate.BeganProgram r stamp
 
 -- the stamp with which a request begins now: that of its session's last begun request is heard before the tick
 abbrev pub stamp_to_begin : Account → Request → Stamp
-stamp_to_begin account request = begun_stamp request.gate (clock_of request.gate (gate_log account request.gate)) (last_begun account request.session)
+stamp_to_begin account request =
+    begun_stamp request.gate (clock_of request.gate (gate_log account request.gate))
+    (last_begun account request.session)
 
 -- the request is begun with this stamp
 abbrev pub with_begin : Account → ℕ → Request → Stamp → Account
 with_begin account r request stamp =
-    with_session_deed (with_gate_deed account request.gate 0 (begin_deed r stamp request.work)) request.session (session.Begun r stamp)
+    with_session_deed (with_gate_deed account request.gate 0 (begin_deed r stamp request.work)) request.session
+    (session.Begun r stamp)
 
 -- `begin R`
 abbrev pub after_begin : Account → ℕ → Request → Account
@@ -62,15 +65,18 @@ lasts_in account ops = lasts_of ops (commits_in account)
 abbrev pub verdict_in : Account → Stamp → List Op → Verdict
 verdict_in account stamp ops = verdict_on (pairs_in account) (commits_in account) stamp ops
 
--- the flight is judged by the rule of the store, in the name of the author of its begin; the oracle puts the last commits of which the store asks before a commit
+-- the flight is judged by the rule of the store, in the name of the author of its begin; the oracle puts the last
+-- commits of which the store asks before a commit
 abbrev pub with_judgement : Account → Begun → List Op → Account
 with_judgement account flight ops = record account {
   store = account.store ++ record {
     author = flight.author;
-    deed = Judged flight.request flight.stamp ops (asked_vertices flight.stamp (lasts_in account ops)) (verdict_in account flight.stamp ops);
+    deed = Judged flight.request flight.stamp ops (asked_vertices flight.stamp (lasts_in account ops))
+        (verdict_in account flight.stamp ops);
   } ∷ [];
   oracle = account.oracle ++ settled_if (verdict_in account flight.stamp ops)
-      (entries_of_settling flight.author (pairs_in account) (asked_stamps flight.stamp (lasts_in account ops)) flight.stamp);
+      (entries_of_settling flight.author (pairs_in account) (asked_stamps flight.stamp (lasts_in account ops))
+      flight.stamp);
 }
 
 -- `judge G`, by the flight there
@@ -86,7 +92,8 @@ judgement_in_flight account (Some flight) = judgement_of flight.request account.
 -- `send G`, by the flight there and its judgement: its messages go out, in the name of the author of its begin
 abbrev pub after_send : Script → Account → ℕ → Option Begun → Option Judgement → Account
 after_send script account home (Some flight) (Some judged) =
-    with_gate_deed account home flight.author (gate.Sent flight.request (messages_of script.shards (gate_log account home) flight judged.ops judged.verdict))
+    with_gate_deed account home flight.author (gate.Sent flight.request
+    (messages_of script.shards (gate_log account home) flight judged.ops judged.verdict))
 after_send script account home _ _ = account
 
 -- Clocks
@@ -101,7 +108,8 @@ after_hear account home (Some notice) = with_gate_deed account home 0 (gate.Hear
 -- an empty message of this stamp goes out
 abbrev pub with_nop : Account → ℕ → ℕ → Stamp → Account
 with_nop account home shard stamp =
-    with_gate_deed account home 0 (gate.Nop shard (next_number shard (gate_log account home)) stamp (low_mark stamp (running_of (gate_log account home))))
+    with_gate_deed account home 0 (gate.Nop shard (next_number shard (gate_log account home)) stamp
+    (low_mark stamp (running_of (gate_log account home))))
 
 -- `deliver G S N`, by the message of that number
 abbrev pub after_deliver : Account → ℕ → ℕ → ℕ → Option Message → Account
@@ -118,13 +126,17 @@ made_entry (entry ∷ entries) = true
 -- the program of this stamp reads the vertex after that many of its updates, and the oracle made these entries
 abbrev pub with_visit : Account → ℕ → ℕ → Stamp → Name → ℕ → List OracleEntry → Account
 with_visit account s r stamp v updates entries =
-    with_shard_deed (record account { oracle = account.oracle ++ entries }) s (shard.Visited r stamp v updates (made_entry entries))
+    with_shard_deed (record account {
+      oracle = account.oracle
+          ++ entries;
+    }) s (shard.Visited r stamp v updates (made_entry entries))
 
 -- after how many of these updates it reads now
 abbrev pub seen_in : Account → Stamp → List Stamp → ℕ
 seen_in account stamp updates = seen_of (pairs_in account) stamp updates
 
--- it reads what it sees of the vertex's updates; the last of these is put before it, unless that one precedes it already
+-- it reads what it sees of the vertex's updates; the last of these is put before it, unless that one precedes it
+-- already
 abbrev pub with_visit_of : Account → ℕ → ℕ → Stamp → Name → List Stamp → Account
 with_visit_of account s r stamp v updates =
     with_visit account s r stamp v (seen_in account stamp updates)
@@ -137,7 +149,8 @@ update_stamps account s v = map (λ (update : Update). update.stamp) (updates_of
 -- `visit R`, by the program as it was begun and its next vertex
 abbrev pub after_visit : Script → Account → ℕ → Option Begun → Option Name → Account
 after_visit script account r (Some begun) (Some v) =
-    with_visit_of account (shard_of v script.shards) r begun.stamp v (update_stamps account (shard_of v script.shards) v)
+    with_visit_of account (shard_of v script.shards) r begun.stamp v
+    (update_stamps account (shard_of v script.shards) v)
 after_visit script account r _ _ = account
 
 -- Replies
@@ -151,11 +164,13 @@ with_finish account r home (Some begun) = with_gate_deed account home begun.auth
 abbrev pub after_work : Account → ℕ → Request → Work → Account
 after_work account r request (Change ops) = account
 after_work account r request (Look program) =
-    if has_ended account r request then account else with_finish account r request.gate (program_begun r (gate_log account request.gate))
+    if has_ended account r request then account else with_finish account r request.gate
+    (program_begun r (gate_log account request.gate))
 
 -- `reply R`
 abbrev pub after_reply : Account → ℕ → Request → Account
-after_reply account r request = with_session_deed (after_work account r request request.work) request.session (session.Replied r)
+after_reply account r request =
+    with_session_deed (after_work account r request request.work) request.session (session.Replied r)
 
 -- Each step
 
@@ -169,16 +184,22 @@ abbrev pub account_with : Script → CoreState → Step → Account
 account_with script state (Begin r) = at_request (after_begin state.account r) state.account (request_at script r)
 account_with script state (Judge home) = after_judge script state.account (flight_of (gate_log state.account home))
 account_with script state (Send home) =
-    after_send script state.account home (flight_of (gate_log state.account home)) (judgement_in_flight state.account (flight_of (gate_log state.account home)))
+    after_send script state.account home (flight_of (gate_log state.account home))
+    (judgement_in_flight state.account (flight_of (gate_log state.account home)))
 account_with script state (Say home) = state.account
 account_with script state (Hear home notice) = after_hear state.account home (sent_as notice state.notices)
-account_with script state (Nop home s) = with_nop state.account home s (next_stamp home (clock_of home (gate_log state.account home)))
-account_with script state (Deliver home s number) = after_deliver state.account home s number (sent_as number (channel_of s (gate_log state.account home)))
-account_with script state (Apply s home) = with_shard_deed state.account s (shard.Applied home (processed_count home (shard_log state.account s) + 1))
+account_with script state (Nop home s) =
+    with_nop state.account home s (next_stamp home (clock_of home (gate_log state.account home)))
+account_with script state (Deliver home s number) =
+    after_deliver state.account home s number (sent_as number (channel_of s (gate_log state.account home)))
+account_with script state (Apply s home) =
+    with_shard_deed state.account s (shard.Applied home (processed_count home (shard_log state.account s) + 1))
 account_with script state (Visit r) =
-    at_request (λ request. after_visit script state.account r (program_begun r (gate_log state.account request.gate)) (next_vertex state.account r request.work)) state.account (request_at script r)
+    at_request (λ request. after_visit script state.account r (program_begun r (gate_log state.account request.gate))
+    (next_vertex state.account r request.work)) state.account (request_at script r)
 account_with script state (Reply r) = at_request (after_reply state.account r) state.account (request_at script r)
-account_with script state (Collect s) = with_shard_deed state.account s (shard.Collected (bound_of script.gates (shard_log state.account s)))
+account_with script state (Collect s) =
+    with_shard_deed state.account s (shard.Collected (bound_of script.gates (shard_log state.account s)))
 account_with script state (Epoch home epoch) = with_gate_deed state.account home 0 (gate.Raised epoch)
 
 -- the notices after a step that is done: `say` adds the gatekeeper's clock

@@ -1,12 +1,11 @@
--- What step_rules cites of accounts besides: laws of weave_account on requests, clocks and reads, and a law of program_defs, each in one record. No public contract cites this.
+-- What step_rules cites of accounts besides: laws of weave_account on requests, clocks and reads, and a law of
+-- program_defs, each in one record. No public contract cites this.
 use Rattle.std.specs.Prelude.{◌≡◌, ◌≢◌, ◌↔◌, ℕ, ◌+◌, ◌<◌, List, [], ◌∷◌, ◌++◌, map, length, take, AllPairs, Contains, IsTrue, Some, IsSomeAnd}
 use Rattle.std.specs.List.{flat_map}
-use Rattle.std.specs.Map.{keys_of}
 use Rattle.weave_data.specs.declared.name.Name.{Name}
-use Rattle.graph_ops.specs.Mentions.{is_among}
 use Rattle.graph_ops.specs.Operations.{State}
 use Rattle.program_defs.specs.declared.program.Program.{Program}
-use Rattle.program_defs.specs.Visits.{next_visit}
+use Rattle.program_defs.specs.Visits.{AreFirstVisits, next_visit}
 use Rattle.vector_stamp.specs.declared.clock.Clock.{Clock}
 use Rattle.vector_stamp.specs.declared.clock.Stamp.{Stamp}
 use Rattle.vector_stamp.specs.Clocks.{clock_after_tick, counts_no_more}
@@ -23,53 +22,51 @@ use Rattle.weave_entries.specs.SessionReplay.{next_request, session_of}
 use Rattle.weave_entries.specs.ShardReplay.{reads_in, visits_of}
 use Rattle.weave_entries.specs.StoreReplay.{Judgement, judgements_of}
 use Rattle.weave_account.specs.declared.account.Account.{Account}
-use Rattle.weave_account.specs.Account.{all_begun, gate_log, reads_of, session_log, shard_log}
+use Rattle.weave_account.specs.Account.{IsBegunStamp, all_begun, gate_log, reads_of, session_log, shard_log}
 use Rattle.weave_account.specs.Clocks.{IsKnown}
 use Rattle.weave_account.specs.Gatekeepers.{last_stamp, request_before}
 use Rattle.weave_account.specs.GoesOn.{GoesOn}
 use Rattle.weave_account.specs.IsAccount.{IsAccount}
 use Rattle.program_defs.specs.Limits.{IsWithinLimits}
 use Rattle.weave_account.specs.Oracle.{marked_in}
-use Rattle.weave_account.specs.Programs.{visits_over}
 use Rattle.weave_account.specs.Sessions.{requests_of_session}
 use Rattle.weave_account.specs.Store.{InTurn}
-
--- the stamp is that of a begun request
-abbrev pub IsBegunStamp : Account → Stamp → Type 0
-IsBegunStamp account stamp = Contains (map (λ (begun : Begun). begun.stamp) (all_begun account)) stamp
 
 -- a list of numbers that rise
 abbrev pub Rise : List ℕ → Type 0
 Rise requests = AllPairs (λ (a b : ℕ). a < b) requests
 
--- what was read are the first ones of the list of visits
-abbrev pub AreFirstVisits : List (Name × State) → Program → Type 0
-AreFirstVisits reads program = (v : Name) → IsTrue (is_among (keys_of reads) v) ↔ IsTrue (is_among (take (length reads) (visits_over reads program)) v)
-
 -- of program_defs
 pub record ProgramLaws : Type 0 where
   -- a program that has read the first of its visits and then reads the next one has again read the first ones
   pub visits_go_on : (program : Program) (front back : List (Name × State)) (v : Name) (state : State)
-      → AreFirstVisits (front ++ back) program → next_visit (front ++ back) program ≡ Some v → AreFirstVisits (front ++ (v, state) ∷ back) program
+      → AreFirstVisits (front ++ back) program → next_visit (front ++ back) program ≡ Some v
+      → AreFirstVisits (front ++ (v, state) ∷ back) program
 
 -- of weave_account
 pub record FurtherAccountLaws : Type 0 where
   -- what is known counts no more of a gatekeeper's events than it made
   pub may_be_heard : (script : Script) (account : Account) → IsWithinLimits script → IsAccount script account
-      → (home : ℕ) (clock : Clock) → home < script.gates → IsKnown account clock → IsTrue (counts_no_more home (clock_of home (gate_log account home)) clock)
+      → (home : ℕ) (clock : Clock) → home < script.gates → IsKnown account clock
+      → IsTrue (counts_no_more home (clock_of home (gate_log account home)) clock)
   -- a tick keeps what is known, once it was made
-  pub ticked : (script : Script) (account next : Account) → IsWithinLimits script → IsAccount script account → GoesOn account next
+  pub ticked : (script : Script) (account next : Account) → IsWithinLimits script → IsAccount script account
+      → GoesOn account next
       → (home : ℕ) → home < script.gates → (clock : Clock) → IsKnown account clock
-      → ticks_of clock.epoch (gate_log next home) ≡ ticks_of clock.epoch (gate_log account home) + 1 → IsKnown next (clock_after_tick home clock)
+      → ticks_of clock.epoch (gate_log next home) ≡ ticks_of clock.epoch (gate_log account home) + 1
+      → IsKnown next (clock_after_tick home clock)
   -- the meet of known stamps is known; it is asked of logs that are still to be shown to be an account
   pub low : (account : Account) (stamp : Stamp) (running : List Begun)
-      → IsKnown account stamp.clock → ((begun : Begun) → Contains running begun → IsKnown account begun.stamp.clock) → IsKnown account (low_mark stamp running)
+      → IsKnown account stamp.clock → ((begun : Begun) → Contains running begun → IsKnown account begun.stamp.clock)
+      → IsKnown account (low_mark stamp running)
   -- the stamp that a session began last is that of a begun request
   pub last : (script : Script) (account : Account) → IsWithinLimits script → IsAccount script account
-      → (session : ℕ) (stamp : Stamp) → (session_of [] (session_log account session)).last ≡ Some stamp → IsBegunStamp account stamp
+      → (session : ℕ) (stamp : Stamp) → (session_of [] (session_log account session)).last ≡ Some stamp
+      → IsBegunStamp account stamp
   -- two begun requests have stamps of different ids
   pub differ : (script : Script) (account : Account) → IsWithinLimits script → IsAccount script account
-      → (a b : Begun) → Contains (all_begun account) a → Contains (all_begun account) b → a.request ≢ b.request → id_of a.stamp ≢ id_of b.stamp
+      → (a b : Begun) → Contains (all_begun account) a → Contains (all_begun account) b → a.request ≢ b.request
+      → id_of a.stamp ≢ id_of b.stamp
   -- what was judged is the transaction of a request, and its verdict counts the vertices that this one names
   pub judged_work : (script : Script) (account : Account) → IsWithinLimits script → IsAccount script account
       → (judged : Judgement) → Contains (judgements_of account.store) judged
@@ -82,28 +79,37 @@ pub record FurtherAccountLaws : Type 0 where
   -- what is in flight is a transaction of a request, at its own gatekeeper
   pub flights : (script : Script) (account : Account) → IsWithinLimits script → IsAccount script account
       → (home : ℕ) (flight : Begun) → flight_of (gate_log account home) ≡ Some flight
-      → IsSomeAnd (request_at script flight.request) (λ (request : Request). (request.gate ≡ home) × IsTrue (is_change request.work))
+      → IsSomeAnd (request_at script flight.request) (λ (request : Request). (request.gate ≡ home)
+      × IsTrue (is_change request.work))
   -- what was judged of a session comes before what is in flight of it
   pub judged_before : (script : Script) (account : Account) → IsWithinLimits script → IsAccount script account
       → (home : ℕ) (flight : Begun) → flight_of (gate_log account home) ≡ Some flight
-      → (judged : Judgement) → Contains (judgements_of account.store) judged → judged.request ≢ flight.request → InTurn script judged.request flight.request
+      → (judged : Judgement) → Contains (judgements_of account.store) judged → judged.request ≢ flight.request
+      → InTurn script judged.request flight.request
   -- a session's next request begins after what the session began last
   pub follows : (script : Script) (account : Account) → IsWithinLimits script → IsAccount script account
       → (r : ℕ) (request : Request) → request_at script r ≡ Some request
-      → next_request (session_of (requests_of_session script request.session) (session_log account request.session)) ≡ Some r
+      → next_request (session_of (requests_of_session script request.session) (session_log account request.session))
+      ≡ Some r
       → last_stamp script account r ≡ (session_of [] (session_log account request.session)).last
   -- the request before it in its session is an earlier one
   pub earlier : (script : Script) (r before : ℕ) → request_before script r ≡ Some before → before < r
   -- the requests of a session rise, and each request is one of its session's
   pub rise : (script : Script) (session : ℕ) → Rise (requests_of_session script session)
-  pub among : (script : Script) (r : ℕ) (request : Request) → request_at script r ≡ Some request → Contains (requests_of_session script request.session) r
+  pub among : (script : Script) (r : ℕ) (request : Request) → request_at script r ≡ Some request
+      → Contains (requests_of_session script request.session) r
   -- at each gatekeeper a request begins once
-  pub each_once : (script : Script) (account : Account) → IsWithinLimits script → IsAccount script account → (home : ℕ) → BeginsEachOnce (gate_log account home)
+  pub each_once : (script : Script) (account : Account) → IsWithinLimits script → IsAccount script account → (home : ℕ)
+      → BeginsEachOnce (gate_log account home)
   -- what marked visits saw last stays, if no program visits anything more
-  pub same_marked : (script : Script) (account next : Account) → IsWithinLimits script → IsAccount script account → GoesOn account next
+  pub same_marked : (script : Script) (account next : Account) → IsWithinLimits script → IsAccount script account
+      → GoesOn account next
       → length next.shards ≡ length account.shards
-      → ((shard : ℕ) → visits_of (shard_log next shard) ≡ visits_of (shard_log account shard)) → flat_map marked_in next.shards ≡ flat_map marked_in account.shards
+      → ((shard : ℕ) → visits_of (shard_log next shard) ≡ visits_of (shard_log account shard))
+      → flat_map marked_in next.shards ≡ flat_map marked_in account.shards
   -- a program that visits nothing more has read the same
-  pub same_reads : (script : Script) (account next : Account) → IsWithinLimits script → IsAccount script account → GoesOn account next
+  pub same_reads : (script : Script) (account next : Account) → IsWithinLimits script → IsAccount script account
+      → GoesOn account next
       → length next.shards ≡ length account.shards → (r : ℕ)
-      → ((shard : ℕ) → length (reads_in r (shard_log next shard)) ≡ length (reads_in r (shard_log account shard))) → reads_of next r ≡ reads_of account r
+      → ((shard : ℕ) → length (reads_in r (shard_log next shard)) ≡ length (reads_in r (shard_log account shard)))
+      → reads_of next r ≡ reads_of account r

@@ -15,9 +15,9 @@ use Rattle.step_rules.specs.Answers.{answer_of}
 use Rattle.step_rules.specs.Entries.{stamp_to_begin}
 use Rattle.step_rules.specs.Trace.{state_after}
 
--- The logs are an account, of 64 sessions, and each notice is a known clock: one of eight counts that counts no events but
--- those that were made, and no epoch but those that were raised. Nothing more is asked: so logs of any account, with
--- authors other than 0, may go on as a core.
+-- The logs are an account, of 64 sessions, and each notice is a known clock: one of eight counts that counts no events
+-- but those that were made, and no epoch but those that were raised. Nothing more is asked: so logs of any account,
+-- with authors other than 0, may go on as a core.
 pub record IsCore (script : Script) (state : CoreState) : Type 0 where
   pub account : IsAccount script state.account
   pub sessions : length state.account.sessions ≡ 64
@@ -42,7 +42,8 @@ IsStepOf script (Epoch gate epoch) = (gate < script.gates) × (1 ≤ epoch) × (
 -- a `begin` that is done gives a stamp whose numbers have 64 bits; of other steps nothing is asked
 abbrev pub IsSmall : Script → CoreState → Step → Type 0
 IsSmall script state (Begin r) =
-    (request : Request) → request_at script r ≡ Some request → IsTrue (has_64_bits (stamp_to_begin state.account request).clock)
+    (request : Request) → request_at script r ≡ Some request
+    → IsTrue (has_64_bits (stamp_to_begin state.account request).clock)
 IsSmall script state step = ⊤
 
 -- if the step is done its stamp is small
@@ -52,4 +53,5 @@ IsSmallIfDone script state step = answer_of script state step ≡ Ok → IsSmall
 -- steps of the script, one after another, each `begin` that is done with a small stamp
 abbrev pub AreSteps : Script → CoreState → List Step → Type 0
 AreSteps script state [] = ⊤
-AreSteps script state (step ∷ steps) = IsStepOf script step × IsSmallIfDone script state step × AreSteps script (state_after script state step) steps
+AreSteps script state (step ∷ steps) = IsStepOf script step × IsSmallIfDone script state step
+    × AreSteps script (state_after script state step) steps

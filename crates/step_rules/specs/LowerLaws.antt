@@ -1,4 +1,4 @@
--- The laws of the crates below that the law of steps stands on, in one. No public contract cites this.
+-- The laws of the crates below that the law of steps relies on, in one record. No public contract cites this.
 use Rattle.std.specs.Prelude.{◌↔◌, List, Contains, IsTrue}
 use Rattle.weave_data.specs.declared.name.Name.{Name}
 use Rattle.graph_ops.specs.Mentions.{is_among}
@@ -13,7 +13,7 @@ pub record Further : Type 0 where
   pub programs : ProgramLaws
 
 -- laws of accounts, of logs, of stamps, and of names
-pub record LowerLaws : Type 0 where
+pub record LawsForSteps : Type 0 where
   pub accounts : AccountLaws
   pub logs : LogLaws
   pub stamps : StampLaws

@@ -34,7 +34,8 @@ waits_before r requests log = list_any (λ earlier. nat_lt earlier r && not (has
 
 -- an earlier request of its session has no reply, whether it has begun or not
 abbrev pub waits_for_earlier : Script → Account → ℕ → Request → Bool
-waits_for_earlier script account r request = waits_before r (requests_of_session script request.session) (session_log account request.session)
+waits_for_earlier script account r request =
+    waits_before r (requests_of_session script request.session) (session_log account request.session)
 
 -- the stamp of the request that was begun last in a session, if one was: the session's requests play no part in it
 abbrev pub last_begun : Account → ℕ → Option Stamp

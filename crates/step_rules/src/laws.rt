@@ -40,7 +40,8 @@ pub fn refused_steps_change_nothing()
         → state_after script state step ≡ state }
 {}
 
-/// A step that is done leaves a core, and any other leaves the state as it was. The logs and the notices begin with those before the step.
+/// A step that is done leaves a core, and any other leaves the state as it was. The logs and the notices begin with
+/// those before the step.
 pub fn steps_keep_the_core()
     ensures done { (script : Script) (state : CoreState) (step : Step) → IsWithinLimits script → IsStepOf script step
         → IsSmall script state step → IsCore script state → answer_of script state step ≡ Ok
@@ -60,7 +61,8 @@ pub fn steps_keep_the_core()
 }
 
 /// The state after a list of steps is that of a core, if the stamp of each `begin` that is done has 64 bits.
-/// Fewer than 2^64 steps need no such premise: each makes at most one entry at a gatekeeper, so no count gets past 64 bits.
+/// Fewer than 2^64 steps need no such premise: each makes at most one entry at a gatekeeper, so no count gets past 64
+/// bits.
 pub fn trace_is_a_core()
     ensures core { (script : Script) (steps : List Step) → IsWithinLimits script
         → AreSteps script (start_state script) steps → IsCore script (trace_of script steps).state }
@@ -80,8 +82,8 @@ pub fn traces_go_on()
         → trace_of script (steps ++ step ∷ []) ≡ traced_after script (trace_of script steps) step }
 {}
 
-/// After a list of steps a request has its reply exactly if a `reply` of it answered `ok`. A program is finished exactly
-/// then: in the logs, and in their report. That the logs are an account is said by `trace_is_a_core`.
+/// After a list of steps a request has its reply exactly if a `reply` of it answered `ok`. A program is finished
+/// exactly then: in the logs, and in their report. That the logs are an account is said by `trace_is_a_core`.
 pub fn replies_finish_programs()
     ensures replied { (script : Script) (steps : List Step) → IsWithinLimits script
         → (r : ℕ) (request : Request) → request_at script r ≡ Some request

@@ -1,5 +1,5 @@
 //! The laws of the crates below, in one.
-ghost use Rattle.step_rules.specs.LowerLaws.{LowerLaws};
+ghost use Rattle.step_rules.specs.LowerLaws.{LawsForSteps};
 ghost use Rattle.step_rules.specs.FurtherLaws.{FurtherAccountLaws, ProgramLaws};
 
 use graph_ops::laws::each_vertex_is_named_once;
@@ -20,9 +20,9 @@ use weave_entries::laws::{
     what_has_not_ended_goes_on,
 };
 
-/// The laws of the crates below that the law of steps stands on.
+/// The laws of the crates below that the law of steps relies on.
 pub(crate) fn the_crates_below_keep_their_laws()
-    ensures { LowerLaws }
+    ensures { LawsForSteps }
 {
     a_log_goes_on();
     an_oracle_log_goes_on();
@@ -50,7 +50,7 @@ pub(crate) fn the_crates_below_keep_their_laws()
     what_has_not_ended_goes_on();
 }
 
-/// The laws of accounts on requests, clocks and reads that the law of steps stands on.
+/// The laws of accounts on requests, clocks and reads that the law of steps relies on.
 pub(crate) fn accounts_keep_their_laws()
     ensures { FurtherAccountLaws }
 {
@@ -64,7 +64,7 @@ pub(crate) fn accounts_keep_their_laws()
     stamps_are_begun();
 }
 
-/// The law of programs that the law of steps stands on.
+/// The law of programs that the law of steps relies on.
 pub(crate) fn programs_keep_their_laws()
     ensures { ProgramLaws }
 {

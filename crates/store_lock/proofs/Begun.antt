@@ -1,9 +1,10 @@
 -- The stamps that the store keeps were begun in what it has seen of the gatekeepers' logs.
-use Rattle.std.proofs.Common.{◌≡◌, ◌≢◌, ℕ, zero, suc, ◌≤◌, List, [], ◌∷◌, ◌++◌, length, get_or, Contains, AllPairs, inl, inr, refl, sym, ap, ◌∙◌, subst}
+-- Used by `commit`, `judge_over`, `own_transactions_are_new`, `pairs_tell_entries` and crate weaver_locks.
+use Rattle.std.proofs.Common.{◌≡◌, ◌≢◌, ℕ, ◌≤◌, List, [], ◌∷◌, length, get_or, Contains, AllPairs, inl, inr, refl, sym, ap, ◌∙◌, subst}
 use Rattle.std.specs.Prelude.{All}
-use Rattle.std.proofs.lemmas.List.Elements.{Contains-append_left, Contains-get_or}
-use Rattle.proof_base.proofs.Members.{cut_at, flat_has, has_flat, has_head, has_map, has_none, has_read, has_tail, map_has, only}
-use Rattle.proof_base.proofs.Ordered.{pairs_cases}
+use Rattle.std.proofs.lemmas.List.Elements.{Contains-get_or}
+use Rattle.weave_data.proofs.Members.{cut_at, has_head, has_map, has_read, map_has, only}
+use Rattle.weave_data.proofs.Ordered.{pairs_cases}
 use Rattle.vector_stamp.specs.declared.clock.Stamp.{Stamp}
 use Rattle.vector_stamp.specs.Order.{id_of}
 use Rattle.weave_entries.specs.GateRules.{IsGateLog}
@@ -12,38 +13,24 @@ use Rattle.weave_entries.specs.declared.oracle_log.OracleDeed.{OracleDeed}
 use Rattle.weave_entries.specs.declared.oracle_log.OracleDeed.TheVariants.{Settled}
 use Rattle.weave_entries.specs.declared.oracle_log.OracleEntry.{OracleEntry}
 use Rattle.weave_entries.specs.declared.store_log.StoreEntry.{StoreEntry}
-use Rattle.weave_entries.specs.GateReplay.{Begun, begun_in, program_by, tx_by, txs_of}
+use Rattle.weave_entries.specs.GateReplay.{Begun, txs_of}
 use Rattle.weave_entries.specs.StoreReplay.{Judgement, commits_of, judged_by, judgements_of}
 use Rattle.weave_entries.specs.StoreRule.{stamps_judged}
 use Rattle.backing_store.specs.Commits.{stamps_kept}
 use Rattle.weave_account.specs.declared.account.Account.{Account}
 use Rattle.weave_account.specs.Account.{IsBegunStamp, all_begun, gate_log}
+use Rattle.weave_account.proofs.Beginning.{all-in, tx-begun}
 use Rattle.seen_logs.specs.References.{OracleRefersAs}
 use Rattle.seen_logs.specs.Seen.{GatesGoOn, StoreRefersWithin}
 use Rattle.oracle_lock.specs.Seen.{of_gates}
 use Rattle.store_lock.specs.Entries.{store_entries, store_pairs}
 use Rattle.store_lock.specs.Seen.{store_seen, StoreIsKept}
 
-tx-begun : (log : List GateEntry) (begun : Begun) → Contains (txs_of log) begun → Contains (begun_in log) begun
-tx-begun log begun h =
-    let from = flat_has (λ (entry : GateEntry). tx_by entry.author entry.deed) log begun h in
-    has_flat (λ (entry : GateEntry). tx_by entry.author entry.deed ++ program_by entry.author entry.deed) log from.0 begun from.1
-    (Contains-append_left (tx_by (from.0).author (from.0).deed) (program_by (from.0).author (from.0).deed) begun from.2)
-
--- what was begun at one gatekeeper was begun
-in-all : (logs : List (List GateEntry)) (home : ℕ) (begun : Begun) → Contains (begun_in (get_or logs home [])) begun
-    → Contains (all_begun (of_gates logs)) begun
-in-all [] home begun h = absurd (has_none begun h)
-in-all (log ∷ logs) zero begun h = has_flat begun_in (log ∷ logs) log begun (has_head log logs) h
-in-all (log ∷ logs) (suc home) begun h =
-    let from = flat_has begun_in logs begun (in-all logs home begun h) in
-    has_flat begun_in (log ∷ logs) from.0 begun (has_tail log logs from.0 from.1) from.2
-
--- so its stamp was begun
+-- the stamp of a transaction was begun
 pub tx-stamp : (logs : List (List GateEntry)) (home : ℕ) (begun : Begun) → Contains (txs_of (gate_log (of_gates logs) home)) begun
     → IsBegunStamp (of_gates logs) begun.stamp
 tx-stamp logs home begun h =
-    has_map (λ (b : Begun). b.stamp) (all_begun (of_gates logs)) begun (in-all logs home begun (tx-begun (get_or logs home []) begun h))
+    has_map (λ (b : Begun). b.stamp) (all_begun (of_gates logs)) begun (all-in (of_gates logs) home begun (tx-begun (get_or logs home []) begun h))
 
 -- the stamp of a judgement was begun
 judged-stamp : (gates : List (List GateEntry)) (oracle : List OracleEntry) (log : List StoreEntry) → StoreRefersWithin (store_seen gates oracle log)
@@ -70,11 +57,17 @@ stamp-stays stays logs more on event h =
 abbrev pub kept_in : List StoreEntry → List Stamp
 kept_in log = stamps_kept (commits_of log)
 
+-- a transaction of this author was begun with this stamp, in what these logs show
+abbrev pub IsBegunTx : List (List GateEntry) → ℕ → ℕ → Stamp → Type 0
+IsBegunTx gates author request stamp =
+    (home : ℕ) × Contains (txs_of (gate_log (of_gates gates) home))
+    (record { author = author; request = request; stamp = stamp })
+
 -- what the store keeps, and a stamp that was begun, were begun in what is seen by now
 pub kept-begun : StampsStay → ((log : List StoreEntry) (one : Stamp) → Contains (kept_in log) one → Contains (stamps_judged log) one)
     → (gates more : List (List GateEntry)) (oracle : List OracleEntry) (log : List StoreEntry) (author request : ℕ) (stamp : Stamp)
     → StoreRefersWithin (store_seen gates oracle log) → GatesGoOn (of_gates gates) (of_gates more)
-    → ((home : ℕ) × Contains (txs_of (gate_log (of_gates gates) home)) (record { author = author; request = request; stamp = stamp }))
+    → IsBegunTx gates author request stamp
     → (event : Stamp) → Contains (stamp ∷ kept_in log) event → IsBegunStamp (of_gates more) event
 kept-begun stays judged gates more oracle log author request stamp refers on begun event h =
     stamp-stays stays gates more on event
@@ -86,40 +79,42 @@ kept-begun stays judged gates more oracle log author request stamp refers on beg
 
 -- New stamps
 
-abbrev OtherIds : Begun → Begun → Type 0
+-- of two begins, that their stamps have two ids
+abbrev pub OtherIds : Begun → Begun → Type 0
 OtherIds a b = id_of a.stamp ≢ id_of b.stamp
 
--- a transaction whose request its author hasn't had judged has a new stamp
-pub own-new : ((shards : ℕ) (seen : Account) → length seen.gates ≤ 8 → ((home : ℕ) → IsGateLog home shards (gate_log seen home))
-    → AllPairs (λ (a b : Begun). id_of a.stamp ≢ id_of b.stamp) (all_begun seen))
-    → (shards : ℕ) (gates : List (List GateEntry)) (oracle : List OracleEntry) (log : List StoreEntry) (author request : ℕ) (stamp : Stamp)
-    → StoreIsKept shards gates oracle log → length gates ≤ 8
-    → ((home : ℕ) × Contains (txs_of (gate_log (of_gates gates) home)) (record { author = author; request = request; stamp = stamp }))
-    → ((judged : Judgement) → Contains (judgements_of log) judged → judged.author ≡ author → judged.request ≢ request)
-    → All (λ (judged : Stamp). id_of judged ≢ id_of stamp) (stamps_judged log)
-own-new ids shards gates oracle log author request stamp kept few begun others =
-    λ k d low. fact (get_or (stamps_judged log) k d) (Contains-get_or (stamps_judged log) k d low)
-  where
-    fact : (one : Stamp) → Contains (stamps_judged log) one → id_of one ≢ id_of stamp
-    fact one h same =
-        let judged = map_has (λ (j : Judgement). j.stamp) (judgements_of log) one h in
-        let entry = map_has (λ (e : StoreEntry). judged_by e.author e.deed) log judged.0 judged.1 in
-        let cut = cut_at log entry.0 entry.1 in
-        let as_seen = kept.refers cut.before entry.0 cut.after cut.is in
-        let its : Judgement = judged_by (entry.0).author (entry.0).deed in
-        let first : Begun = record { author = its.author; request = its.request; stamp = its.stamp } in
-        let second : Begun = record { author = author; request = request; stamp = stamp } in
-        let one_id : id_of first.stamp ≡ id_of second.stamp = ap id_of (ap (λ (j : Judgement). j.stamp) entry.2 ∙ judged.2) ∙ same in
-        elim (pairs_cases OtherIds (all_begun (of_gates gates)) (ids shards (of_gates gates) few kept.legal.gate_logs) first second
-        (in-all gates as_seen.home first (tx-begun (get_or gates as_seen.home []) first as_seen.begun))
-        (in-all gates begun.0 second (tx-begun (get_or gates begun.0 []) second begun.1))) [
-          | inl is ↦ others judged.0 judged.1 (ap (λ (j : Judgement). j.author) (sym entry.2) ∙ ap (λ (b : Begun). b.author) is)
-              (ap (λ (j : Judgement). j.request) (sym entry.2) ∙ ap (λ (b : Begun). b.request) is)
-          | inr (inl differ) ↦ differ one_id
-          | inr (inr differ) ↦ differ (sym one_id)
-        ]
+module _ (ids : (shards : ℕ) (seen : Account) → length seen.gates ≤ 8
+    → ((home : ℕ) → IsGateLog home shards (gate_log seen home))
+    → AllPairs (λ (a b : Begun). id_of a.stamp ≢ id_of b.stamp) (all_begun seen)) where
+  -- a transaction whose request its author hasn't had judged has a new stamp
+  pub own-new : (shards : ℕ) (gates : List (List GateEntry)) (oracle : List OracleEntry) (log : List StoreEntry)
+      (author request : ℕ)
+      (stamp : Stamp) → StoreIsKept shards gates oracle log → length gates ≤ 8 → IsBegunTx gates author request stamp
+      → ((judged : Judgement) → Contains (judgements_of log) judged → judged.author ≡ author → judged.request ≢ request)
+      → All (λ (judged : Stamp). id_of judged ≢ id_of stamp) (stamps_judged log)
+  own-new shards gates oracle log author request stamp kept few begun others =
+      λ k d low. fact (get_or (stamps_judged log) k d) (Contains-get_or (stamps_judged log) k d low)
+    where
+      fact : (one : Stamp) → Contains (stamps_judged log) one → id_of one ≢ id_of stamp
+      fact one h same =
+          let judged = map_has (λ (j : Judgement). j.stamp) (judgements_of log) one h in
+          let entry = map_has (λ (e : StoreEntry). judged_by e.author e.deed) log judged.0 judged.1 in
+          let cut = cut_at log entry.0 entry.1 in
+          let as_seen = kept.refers cut.before entry.0 cut.after cut.is in
+          let its : Judgement = judged_by (entry.0).author (entry.0).deed in
+          let first : Begun = record { author = its.author; request = its.request; stamp = its.stamp } in
+          let second : Begun = record { author = author; request = request; stamp = stamp } in
+          let one_id : id_of first.stamp ≡ id_of second.stamp = ap id_of (ap (λ (j : Judgement). j.stamp) entry.2 ∙ judged.2) ∙ same in
+          elim (pairs_cases OtherIds (all_begun (of_gates gates)) (ids shards (of_gates gates) few kept.legal.gate_logs) first second
+          (all-in (of_gates gates) as_seen.home first (tx-begun (get_or gates as_seen.home []) first as_seen.begun))
+          (all-in (of_gates gates) begun.0 second (tx-begun (get_or gates begun.0 []) second begun.1))) [
+            | inl is ↦ others judged.0 judged.1 (ap (λ (j : Judgement). j.author) (sym entry.2) ∙ ap (λ (b : Begun). b.author) is)
+                (ap (λ (j : Judgement). j.request) (sym entry.2) ∙ ap (λ (b : Begun). b.request) is)
+            | inr (inl differ) ↦ differ one_id
+            | inr (inr differ) ↦ differ (sym one_id)
+          ]
 
--- a log that went behind its lock and came back
+-- the entries come back from the pairs that the lock has
 pub pairs-back : (log : List StoreEntry) → store_entries (store_pairs log) ≡ log
 pairs-back [] = refl
 pairs-back (entry ∷ log) = ap (λ (l : List StoreEntry). entry ∷ l) (pairs-back log)

@@ -1,14 +1,14 @@
 -- A judgement under both locks: the logs go on, and what the store's judgements refer to is still seen.
-use Rattle.std.proofs.Common.{◌≡◌, ℕ, List, [], ◌∷◌, ◌++◌, map, Contains, sym, ap, ◌∙◌, subst, append_assoc, append-nil}
-use Rattle.std.specs.Prelude.{Result, Ok, Err, IfOk, OnErr, All}
+-- Used by `commit` and `judge_over`.
+use Rattle.std.proofs.Common.{◌≡◌, ℕ, List, [], ◌++◌, map, Contains, sym, ap, ◌∙◌, subst, append-nil}
+use Rattle.std.specs.Prelude.{Result, Ok, Err, IfOk, OnErr}
 use Rattle.std.proofs.lemmas.List.{map-append}
-use Rattle.std.proofs.lemmas.List.Elements.{All-nil, All-cons}
 use mathlib.Core.List.{IsPrefix}
-use Rattle.proof_base.proofs.Entries.{each_push}
+use Rattle.weave_data.proofs.Entries.{each_push}
 use Rattle.graph_ops.specs.declared.op.Op.{Op}
 use Rattle.vector_stamp.specs.declared.clock.Stamp.{Stamp}
 use Rattle.vector_stamp.specs.Precedence.{Given}
-use Rattle.vector_stamp.specs.Settling.{additions_from, entries_of_call, places_of}
+use Rattle.vector_stamp.specs.Settling.{additions_from, places_of}
 use Rattle.weave_entries.specs.declared.gate_log.GateEntry.{GateEntry}
 use Rattle.weave_entries.specs.declared.oracle_log.OracleDeed.{OracleDeed}
 use Rattle.weave_entries.specs.declared.oracle_log.OracleEntry.{OracleEntry}
@@ -27,8 +27,11 @@ use Rattle.weave_account.specs.GoesOn.{IsBeginningOf}
 use Rattle.seen_logs.specs.References.{StoreRefersAs}
 use Rattle.seen_logs.specs.Seen.{GatesGoOn, StoreRefersWithin}
 use Rattle.chronicle.specs.Logs.{Log, Follows}
+use Rattle.chronicle.proofs.Logs.{prefix_trans}
+use Rattle.lock_row.proofs.Lists.{mapped_on}
 use Rattle.oracle_lock.specs.Entries.{oracle_entries, oracle_pair, oracle_pairs, paired_entry}
 use Rattle.oracle_lock.specs.Seen.{of_gates}
+use Rattle.oracle_lock.proofs.CallEntries.{AllBy, call-by, none-by}
 use Rattle.store_lock.specs.Judged.{JudgesOver}
 use Rattle.store_lock.specs.Seen.{store_seen, StoreIsKept}
 use Rattle.store_lock.specs.VerdictLaws.{VerdictLaws}
@@ -36,20 +39,6 @@ use Rattle.store_lock.proofs.Keeping.{Stays}
 use Rattle.store_lock.proofs.Verdicts.{right-verdict}
 
 -- The oracle's log in its hold
-
--- these are all of one author
-abbrev AllBy : ℕ → Log OracleDeed → Type 0
-AllBy number log = All (λ e. e.0 ≡ number) log
-
-none-by : (number : ℕ) → AllBy number []
-none-by number = All-nil (λ (e : ℕ × OracleDeed). e.0 ≡ number)
-
-call-by : (number author : ℕ) (asked : List Stamp) (stamp : Stamp) (places : List ℕ) → author ≡ number
-    → AllBy number (oracle_pairs (map oracle_entry (entries_of_call author asked stamp places)))
-call-by number author asked stamp [] same = none-by number
-call-by number author asked stamp (place ∷ places) same =
-    All-cons (λ (e : ℕ × OracleDeed). e.0 ≡ number)
-    (oracle_pair (oracle_entry (record { author = author; earlier = asked; later = stamp; places = place ∷ places }))) [] same (none-by number)
 
 added-by : (number author : ℕ) (verdict : Verdict) (pairs : List Given) (asked : List Stamp) (stamp : Stamp) → author ≡ number
     → AllBy number (oracle_pairs (map oracle_entry (entries_added verdict author pairs asked stamp)))
@@ -78,11 +67,8 @@ follows number author entered before after pairs asked stamp (Err fault) same is
 
 -- Lists that go on
 
-then-on : {A : Type 0} (a b c : List A) → IsPrefix a b → IsPrefix b c → IsPrefix a c
-then-on a b c p q = (p.0 ++ q.0, sym (append_assoc a p.0 q.0) ∙ (ap (λ l. l ++ q.0) p.1 ∙ q.1))
-
 begins : (a b : Log OracleDeed) → IsPrefix a b → IsBeginningOf (oracle_entries a) (oracle_entries b)
-begins a b p = (oracle_entries p.0, sym (ap (λ (l : Log OracleDeed). oracle_entries l) p.1) ∙ map-append paired_entry a p.0)
+begins = mapped_on paired_entry
 
 module _ (E : Type 0) (author request : ℕ) (stamp : Stamp) (ops : List Op) (old new : List StoreEntry) (had own has : Log OracleDeed)
     (before : List OracleEntry) where
@@ -100,7 +86,7 @@ module _ (E : Type 0) (author request : ℕ) (stamp : Stamp) (ops : List Op) (ol
       → JudgesOver number request stamp ops was new first mine last before result
   judges-since result number was first mine last author_is old_is on own_is has_is judges =
       let moved : JudgesOver author request stamp ops old new first own has before result = record {
-        begins = then-on first had (oracle_pairs before) on judges.begins;
+        begins = prefix_trans first had (oracle_pairs before) on judges.begins;
         own_then = judges.own_then;
         verdict = judges.verdict;
         entry = judges.entry;
@@ -130,7 +116,8 @@ module _ (E : Type 0) (author request : ℕ) (stamp : Stamp) (ops : List Op) (ol
     -- what the older judgements refer to is still seen
     older : IsPrefix (oracle_pairs before) has → IsPrefix had (oracle_pairs before) → AtEachEntry Refers old
     older more first front entry rest at =
-        stays seen next gates-on (begins noted has (then-on noted (oracle_pairs before) has (then-on noted had (oracle_pairs before) on first) more))
+        stays seen next gates-on (begins noted has
+        (prefix_trans noted (oracle_pairs before) has (prefix_trans noted had (oracle_pairs before) on first) more))
         front entry.author entry.deed (kept.refers front entry rest at)
 
     refers : (result : Result Verdict E) → JudgesOver author request stamp ops old new had own has before result → StoreRefersWithin next

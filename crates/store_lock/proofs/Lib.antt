@@ -2,4 +2,3 @@ pub mod Keeping
 pub mod Begun
 pub mod Verdicts
 pub mod Committing
-pub mod Crossing

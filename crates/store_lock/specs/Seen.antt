@@ -21,6 +21,7 @@ pub record StoreView : Type 0 where
   pub oracle : Note OracleDeed
 
 -- all that the store's entries refer to was seen, and each list that was seen is legal
-pub record StoreIsKept (shards : ℕ) (gates : List (List GateEntry)) (oracle : List OracleEntry) (log : List StoreEntry) : Type 0 where
+pub record StoreIsKept (shards : ℕ) (gates : List (List GateEntry)) (oracle : List OracleEntry)
+    (log : List StoreEntry) : Type 0 where
   pub refers : StoreRefersWithin (store_seen gates oracle log)
   pub legal : AreLegal (length gates) shards (store_seen gates oracle log)

@@ -1,4 +1,4 @@
--- The laws of the crates below that a right verdict stands on, in one. No public contract cites this.
+-- The laws of the crates below that a right verdict relies on, in one record. No public contract cites this.
 use Rattle.std.specs.Prelude.{◌≡◌, ◌↔◌, ℕ, ◌+◌, List, ◌++◌, length, Contains, IsTrue, Ok, Err}
 use Rattle.weave_data.specs.declared.name.Name.{Name}
 use Rattle.graph_ops.specs.Mentions.{is_among}
@@ -19,21 +19,31 @@ use Rattle.backing_store.specs.Commits.{asked_at, lasts_at, pairs_added, verdict
 pub record VerdictLaws : Type 0 where
   pub tested : (pairs : List Given) (a b : Stamp) → Precedes pairs a b ↔ IsTrue (precedes pairs a b)
   pub among : (names : List Name) (v : Name) → IsTrue (is_among names v) ↔ Contains names v
-  pub number : (pairs : List Given) (commits : List Commit) (stamp : Stamp) (ops : List Op) (number : ℕ) (answers : List Got)
-      (counts : List Counted) → verdict_on pairs commits stamp ops ≡ Committed number answers counts → number ≡ length commits + 1
-  pub counts : (pairs : List Given) (commits : List Commit) (stamp : Stamp) (ops : List Op) (number : ℕ) (answers : List Got)
-      (counts : List Counted) → verdict_on pairs commits stamp ops ≡ Committed number answers counts → counts ≡ counts_of ops commits
-  pub conflict : (pairs : List Given) (commits : List Commit) (stamp : Stamp) (ops : List Op) (vertex : Name) (newer : ℕ)
+  pub number : (pairs : List Given) (commits : List Commit) (stamp : Stamp) (ops : List Op) (number : ℕ)
+      (answers : List Got)
+      (counts : List Counted) → verdict_on pairs commits stamp ops ≡ Committed number answers counts
+      → number ≡ length commits + 1
+  pub counts : (pairs : List Given) (commits : List Commit) (stamp : Stamp) (ops : List Op) (number : ℕ)
+      (answers : List Got)
+      (counts : List Counted) → verdict_on pairs commits stamp ops ≡ Committed number answers counts
+      → counts ≡ counts_of ops commits
+  pub conflict : (pairs : List Given) (commits : List Commit) (stamp : Stamp) (ops : List Op) (vertex : Name)
+      (newer : ℕ)
       → verdict_on pairs commits stamp ops ≡ Conflict vertex newer
       → (last : LastCommit) × (last.vertex ≡ vertex) × (last.commit.request ≡ newer)
       × Contains (lasts_of ops commits) last × IsTrue (precedes pairs stamp last.commit.stamp)
-  pub passes : (pairs : List Given) (commits : List Commit) (stamp : Stamp) (ops : List Op) (number : ℕ) (answers : List Got)
+  pub passes : (pairs : List Given) (commits : List Commit) (stamp : Stamp) (ops : List Op) (number : ℕ)
+      (answers : List Got)
       (counts : List Counted) → verdict_on pairs commits stamp ops ≡ Committed number answers counts
-      → (graph : PlainGraph) × (transaction ops (graph_committed commits) ≡ Ok (record { graph = graph; gots = answers }))
-  pub refused : (pairs : List Given) (commits : List Commit) (stamp : Stamp) (ops : List Op) (op : ℕ) (reason : Reason) (at : ℕ)
+      → (graph : PlainGraph) × (transaction ops (graph_committed commits)
+      ≡ Ok (record { graph = graph; gots = answers }))
+  pub refused : (pairs : List Given) (commits : List Commit) (stamp : Stamp) (ops : List Op) (op : ℕ) (reason : Reason)
+      (at : ℕ)
       → verdict_on pairs commits stamp ops ≡ Refused op reason at
       → (at ≡ length commits) × (transaction ops (graph_committed commits) ≡ Err (record { op = op; reason = reason }))
-  pub after : (pairs : List Given) (log : List StoreEntry) (stamp : Stamp) (ops : List Op) (number : ℕ) (answers : List Got)
+  pub after : (pairs : List Given) (log : List StoreEntry) (stamp : Stamp) (ops : List Op) (number : ℕ)
+      (answers : List Got)
       (counts : List Counted) → verdict_at pairs log stamp ops ≡ Committed number answers counts
       → (last : LastCommit) → Contains (lasts_at log ops) last → IsTrue (precedes
-      (pairs ++ pairs_added (Committed number answers counts) pairs (asked_at log stamp ops) stamp) last.commit.stamp stamp)
+      (pairs ++ pairs_added (Committed number answers counts) pairs (asked_at log stamp ops) stamp) last.commit.stamp
+      stamp)

@@ -1,7 +1,7 @@
 //! What the store's lock begins with.
 ghost use Rattle.std.specs.Prelude.{◌≡◌, [], ◌∷◌, All, map, vec_len};
 ghost use Rattle.std.specs.List.{range_with_len};
-ghost use Rattle.chronicle.specs.Locks.{lock_of, name_of, BeginsAs, IsVacant};
+ghost use Rattle.chronicle.specs.Locks.{lock_of, name_of, LockStartsWith, IsVacant};
 ghost use Rattle.chronicle.specs.Passes.{IsReady, IsUnopened, number_of, seen};
 ghost use Rattle.lock_row.specs.Rows.{names_of};
 ghost use Rattle.store_lock.specs.Entries.{store_pairs};
@@ -47,7 +47,7 @@ pub fn open_store<G: Machine<Entry = GateDeed>>(
 ) -> (Vec<Pass<StoreDeed>>, Vacant<NotedStore>)
     requires { IsUnopened (lock_of lock.old) part }
     ensures name { name_of (lock_of lock.new) ≡ name_of (lock_of lock.old) }
-    ensures lock { BeginsAs (lock_of lock.new) (lock_of lock.old).passes
+    ensures lock { LockStartsWith (lock_of lock.new) (lock_of lock.old).passes
         ((shards ∷ []) ∷ name_of (lock_of oracle.value) ∷ names_of gates.value.items) (store_pairs store.now) }
     ensures count { vec_len result.0 ≡ (lock_of lock.old).passes }
     ensures numbers { map number_of result.0.items ≡ range_with_len 0 (lock_of lock.old).passes }

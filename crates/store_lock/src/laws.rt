@@ -29,7 +29,7 @@ pub fn own_transactions_are_new()
     begun_stamps_are_coherent();
 }
 
-/// The store's log as its lock has it tells the entries.
+/// The store's entries come back from the pairs that its lock has.
 pub fn pairs_tell_entries()
     ensures { (log : List StoreEntry) → store_entries (store_pairs log) ≡ log }
 {}

@@ -6,7 +6,7 @@ use graph_ops::laws::each_vertex_is_named_once;
 use vector_stamp::laws::precedence_is_decided;
 use weave_entries::laws::verdicts_say_what_was_judged;
 
-/// The laws that a right verdict stands on.
+/// The laws that a right verdict relies on.
 pub(crate) fn verdicts_are_right()
     ensures { VerdictLaws }
 {

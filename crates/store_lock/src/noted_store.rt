@@ -183,7 +183,8 @@ impl NotedStore {
         ensures passes_on { GatesGoOn (of_gates (gates_seen passes.old)) (of_gates (gates_seen passes.new)) }
         ensures legal { AreGateLogs self.old.shards (gates_seen passes.new) }
         ensures oracle_kept { OracleIsKept self.old.shards (gates_seen passes.new) (oracle_entries (seen pass.new)) }
-        ensures met { (notes : List (Note GateDeed)) × (later : List (Note GateDeed)) × (length notes ≡ length gates.now)
+        ensures met { (notes : List (Note GateDeed)) × (later : List (Note GateDeed))
+            × (length notes ≡ length gates.now)
             × AllMet gates.now passes.old passes.new notes later (length gates.now) }
         ensures answer { (before : List OracleEntry) × JudgesOver (number_of pass.old) request stamp ops.now
             self.old.store self.new.store (seen pass.old) (own pass.old) (seen pass.new) before result }

@@ -1,21 +1,22 @@
 -- What is among the stamps of a row, before and after a call.
+-- Used by `try_commit`.
 use Rattle.std.proofs.Common.{◌≡◌, ℕ, List, [], ◌∷◌, ◌++◌, Contains, ◌⊎◌, inl, inr, Result, Ok, Err, IfOk, OnErr, refl, sym, ap, subst, ◌∙◌}
 use Rattle.std.proofs.lemmas.List.Elements.{Contains-append_left, Contains-append_cases, Contains-push}
-use Rattle.proof_base.proofs.Members.{has_none, has_read}
+use Rattle.weave_data.proofs.Members.{has_none, has_read}
 use Rattle.vector_stamp.specs.declared.clock.Stamp.{Stamp}
 use Rattle.graph_ops.specs.declared.op.Op.{Op}
 use Rattle.weave_entries.specs.declared.store_log.StoreEntry.{StoreEntry}
 use Rattle.weave_entries.specs.declared.verdict.Verdict.{Verdict}
 use Rattle.weave_entries.specs.StoreReplay.{judged_by, commits_of}
 use Rattle.backing_store.specs.Commits.{stamps_judged, stamps_kept, asked_at, judged_entry}
-use Rattle.store_rows.specs.Covers.{Covers}
+use Rattle.store_rows.specs.Covers.{HasAllStamps}
 
 -- the stamp of one more entry is the last one
 judged_push : (log : List StoreEntry) (entry : StoreEntry) → stamps_judged (log ++ entry ∷ []) ≡ stamps_judged log ++ (judged_by entry.author entry.deed).stamp ∷ []
 judged_push [] entry = refl
 judged_push (first ∷ rest) entry = ap (λ (stamps : List Stamp). (judged_by first.author first.deed).stamp ∷ stamps) (judged_push rest entry)
 
-module _ (stamps grown : List Stamp) (log : List StoreEntry) (learnt : List Stamp) (stamp : Stamp) (more : grown ≡ stamps ++ stamp ∷ []) (covers : Covers stamps log learnt) where
+module _ (stamps grown : List Stamp) (log : List StoreEntry) (learnt : List Stamp) (stamp : Stamp) (more : grown ≡ stamps ++ stamp ∷ []) (covers : HasAllStamps stamps log learnt) where
   has_stamp : Contains grown stamp
   has_stamp = subst (λ (all : List Stamp). Contains all stamp) (sym more) (Contains-push stamps stamp)
 

@@ -9,6 +9,6 @@ abbrev pub IsAmong : List Stamp → List Stamp → Type 0
 IsAmong few all = (one : Stamp) → Contains few one → Contains all one
 
 -- among the stamps are all that the store has judged and all that the judge knows
-pub record Covers (stamps : List Stamp) (log : List StoreEntry) (known : List Stamp) : Type 0 where
+pub record HasAllStamps (stamps : List Stamp) (log : List StoreEntry) (known : List Stamp) : Type 0 where
   pub of_store : IsAmong (stamps_judged log) stamps
   pub of_judge : IsAmong known stamps

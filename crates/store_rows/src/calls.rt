@@ -4,7 +4,7 @@ ghost use Rattle.vector_stamp.specs.declared.clock.Stamp.{Stamp};
 ghost use Rattle.vector_stamp.specs.Order.{id_of};
 ghost use Rattle.weave_entries.specs.StoreReplay.{judged_by};
 ghost use Rattle.backing_store.specs.Commits.{stamps_judged};
-ghost use Rattle.store_rows.specs.Covers.{Covers};
+ghost use Rattle.store_rows.specs.Covers.{HasAllStamps};
 
 use backing_store::Store;
 use backing_store::laws::what_is_asked_is_kept;
@@ -72,8 +72,8 @@ pub fn try_commit<J: Judge>(
     stamp: Stamp,
     ops: &[Op],
 ) -> Result<Verdict, AllocError>
-    requires { Covers stamps.old.items store.old (J.known judge.old) }
-    ensures { Covers stamps.new.items store.new (J.known judge.new) }
+    requires { HasAllStamps stamps.old.items store.old (J.known judge.old) }
+    ensures { HasAllStamps stamps.new.items store.new (J.known judge.new) }
 {
     parts_and_unions_are_coherent();
     what_is_asked_is_kept();

@@ -8,7 +8,8 @@ use std::marker::Model;
 use vector_stamp::{Judge, Refusal, Settled, Stamp};
 use weave_data::Items;
 
-/// It has the pairs that it is made with, and looks for paths as the definition does. If it would have to add a pair it is out of memory.
+/// It has the pairs that it is made with, and looks for paths as the definition does. If it would have to add a pair it
+/// is out of memory.
 #[derive(Drop)]
 pub struct FixedJudge {
     pairs: Vec<(Stamp, Stamp)>,

@@ -67,7 +67,8 @@ fn not_called(rt: HostRuntime) {
     was_called(&rt, &row, 0);
 }
 
-// The judge is out of memory: nothing is judged. One that is refused asks for no pair, and is judged. Over the oracle the transaction then commits as if it were the first try.
+// The judge is out of memory: nothing is judged. One that is refused asks for no pair, and is judged. Over the oracle
+// the transaction then commits as if it were the first try.
 #[test]
 fn out_of_memory(rt: HostRuntime) {
     let (v, k) = (name(&rt, "v"), name(&rt, "k"));

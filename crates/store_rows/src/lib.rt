@@ -1,4 +1,5 @@
-//! The tests of the store: worked rows over the timeline oracle, each verdict and the oracle's log compared whole, and commits over a judge that adds nothing. There is nothing but tests here.
+//! The tests of the store: worked rows over the timeline oracle, each verdict and the oracle's log compared whole, and
+//! commits over a judge that adds nothing. There is nothing but tests here.
 #![tactic(auto)]
 
 #[cfg(test)]

@@ -32,13 +32,13 @@ pub struct Row<J: Judge> {
 impl<J: Judge> Model for Row<J> {
     ghost use Rattle.std.specs.Prelude.{List};
     ghost use Rattle.vector_stamp.specs.declared.clock.Stamp.{Stamp};
-    ghost use Rattle.store_rows.specs.Covers.{Covers};
+    ghost use Rattle.store_rows.specs.Covers.{HasAllStamps};
 
     ghost Value = { List Stamp };
 
     ghost view = { λ r. r.stamps.items };
 
-    ghost invariant = { λ r. Covers r.stamps.items r.store (J.known r.judge) };
+    ghost invariant = { λ r. HasAllStamps r.stamps.items r.store (J.known r.judge) };
 }
 
 /// A store that has judged nothing, over this judge, which knows none but these stamps.
@@ -101,7 +101,8 @@ impl<J: Judge + Drop> Row<J> {
         verdict
     }
 
-    /// The transaction is the commit of this number, with these counts, and its `get`s read records with that many properties, or none.
+    /// The transaction is the commit of this number, with these counts, and its `get`s read records with that many
+    /// properties, or none.
     pub fn commits(
         &mut self,
         rt: &impl Abort,
@@ -225,7 +226,8 @@ impl<J: Judge + Drop> Row<J> {
         }
     }
 
-    /// The verdict of this request was a commit, whose first `get` is the operation of this number and read this record.
+    /// The verdict of this request was a commit, whose first `get` is the operation of this number and read this
+    /// record.
     pub fn was_read(&self, rt: &impl Abort, request: u32, op: u32, whole: &Record) {
         let Some(verdict) = self.store.verdict_of(request) else {
             panic!(rt; "no verdict");
@@ -280,7 +282,8 @@ impl<J: Judge + Drop> Row<J> {
     }
 }
 
-/// The oracle's log has this many entries. The last one is of a call by this author, which put these events before this one, and added pairs at these places.
+/// The oracle's log has this many entries. The last one is of a call by this author, which put these events before this
+/// one, and added pairs at these places.
 pub fn put_last(
     rt: &impl Abort,
     row: &Row<Oracle>,

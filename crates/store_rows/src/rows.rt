@@ -118,7 +118,8 @@ fn one_last_transaction(rt: HostRuntime) {
     put(&rt, &row, 7, &[t1, t1], t2, &[0]);
 }
 
-// Two asked vertices have last transactions of their own, and a third one that of the second: two pairs, at the first two.
+// Two asked vertices have last transactions of their own, and a third one that of the second: two pairs, at the first
+// two.
 #[test]
 fn two_last_transactions(rt: HostRuntime) {
     let (u, v, w) = (name(&rt, "u"), name(&rt, "v"), name(&rt, "w"));
@@ -133,7 +134,8 @@ fn two_last_transactions(rt: HostRuntime) {
     put(&rt, &row, 10, &[b, a, a], c, &[0, 1]);
 }
 
-// Of two last commits the first is ordered before the transaction, and the second unordered: the oracle is asked of the second alone.
+// Of two last commits the first is ordered before the transaction, and the second unordered: the oracle is asked of the
+// second alone.
 #[test]
 fn one_ordered_one_unordered(rt: HostRuntime) {
     let (u, v) = (name(&rt, "u"), name(&rt, "v"));
@@ -172,7 +174,8 @@ fn takes(v: Name, edge: Name, key: Name) -> [Op; 4] {
     ]
 }
 
-// Each thing of a record is put, and taken away by an unordered transaction. The gatekeepers are the sixth and the last of eight, in epoch 2. A stamp of epoch 1 is before both.
+// Each thing of a record is put, and taken away by an unordered transaction. The gatekeepers are the sixth and the last
+// of eight, in epoch 2. A stamp of epoch 1 is before both.
 #[test]
 fn put_and_taken_away(rt: HostRuntime) {
     let (v, edge, key) = (name(&rt, "v"), name(&rt, "e"), name(&rt, "k"));

@@ -5,7 +5,8 @@ use vector_stamp::Stamp;
 use weave_data::Name;
 use weave_entries::{Counted, OracleDeed, OracleEntry, StoreDeed, StoreEntry, Verdict};
 
-/// It is the commit of this number, with these counts, and these of its `get`s read records with that many properties, or none.
+/// It is the commit of this number, with these counts, and these of its `get`s read records with that many properties,
+/// or none.
 pub fn is_committed(
     verdict: &Verdict,
     number: u64,
@@ -98,7 +99,8 @@ pub fn is_last_by(log: &[StoreEntry], author: u32) -> bool {
     entry.author == author
 }
 
-/// The last entry of the oracle is of a call by this author, which put these events before this one, and added pairs at these places.
+/// The last entry of the oracle is of a call by this author, which put these events before this one, and added pairs at
+/// these places.
 pub fn is_last_settled(
     log: &[OracleEntry],
     author: u32,

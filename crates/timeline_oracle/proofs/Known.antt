@@ -1,21 +1,18 @@
 -- Which stamps are known after some pairs were added.
-use Rattle.std.proofs.Common.{◌≡◌, ◌≢◌, ℕ, false, List, [], ◌∷◌, ◌++◌, All, ap, take, Contains, IsTrue, ◌⊎◌, inl, inr, sym, subst, ◌∙◌, arith, length-take}
+-- Used by `first_refused`, `put_before`, `put_one` and `settle`.
+use Rattle.std.proofs.Common.{◌≡◌, ◌≢◌, ℕ, false, List, [], ◌∷◌, ◌++◌, All, ap, take, Contains, IsTrue, ◌⊎◌, inl, inr, sym, subst, ◌∙◌}
 use Rattle.std.proofs.lemmas.Bool.{and_from, both_ways, false_from_ne_true, not_from_false}
-use Rattle.std.proofs.lemmas.List.{get_or-take}
 use Rattle.std.proofs.lemmas.List.Elements.{All-contains, Contains-append_left, Contains-append_right, Contains-append_cases}
 use Rattle.vector_stamp.specs.declared.clock.Stamp.{Stamp}
 use Rattle.vector_stamp.specs.Order.{id_of, stamp_before, unordered}
 use Rattle.vector_stamp.specs.Precedence.{Given, IsClosed, precedes}
 use Rattle.vector_stamp.specs.Settling.{additions_from, pairs_of}
-use Rattle.order_graph.specs.Building.{ends_of}
-use Rattle.proof_base.proofs.Members.{has_read, has_head, has_tail}
+use Rattle.order_graph.specs.Building.{ends_of, EndsRead}
+use Rattle.weave_data.proofs.Members.{has_read, has_head, has_tail, take_has}
 
 -- the laws on the stamps of pairs
 abbrev pub EndsAppend : Type 0
 EndsAppend = (pairs others : List Given) → ends_of (pairs ++ others) ≡ ends_of pairs ++ ends_of others
-
-abbrev pub EndsRead : Type 0
-EndsRead = (pairs : List Given) (stamp : Stamp) → Contains (ends_of pairs) stamp → (pair : Given) × Contains pairs pair × ((pair.0 ≡ stamp) ⊎ (pair.1 ≡ stamp))
 
 abbrev pub OfEarlier : Type 0
 OfEarlier = (pairs : List Given) (earlier : List Stamp) (later a b : Stamp) → Contains (pairs_of (additions_from 0 pairs earlier later) later) (a, b) → Contains earlier a × (b ≡ later)
@@ -23,11 +20,6 @@ OfEarlier = (pairs : List Given) (earlier : List Stamp) (later a b : Stamp) → 
 -- events with other ids than the later one are others
 pub others_than : (earlier : List Stamp) (later : Stamp) → All (λ event. id_of event ≢ id_of later) earlier → (event : Stamp) → Contains earlier event → event ≢ later
 others_than earlier later others event h same = All-contains (λ x. id_of x ≢ id_of later) earlier event others h (ap id_of same)
-
-pub of_first : {X : Type 0} (xs : List X) (n : ℕ) (x : X) → Contains (take n xs) x → Contains xs x
-of_first xs n x (k, below, here) =
-    let long = length-take n xs in
-    (k, omega arith, sym (get_or-take n xs k x (omega arith)) ∙ here)
 
 -- only stamps that are handed in become known
 pub ends_after : EndsAppend → EndsRead → OfEarlier → (pairs : List Given) (earlier : List Stamp) (later stamp : Stamp) → Contains (ends_of (pairs ++ pairs_of (additions_from 0 pairs earlier later) later)) stamp → Contains (ends_of pairs) stamp ⊎ Contains (later ∷ earlier) stamp
@@ -60,7 +52,7 @@ among_handed appended read of_earlier pairs earlier n event later has stamp h =
           | inl before ↦ Contains-append_right (later ∷ earlier) (ends_of pairs) stamp before
           | inr new ↦ handed (elim (has_read later (take n earlier) stamp new) [
             | inl same ↦ subst (λ (x : Stamp). Contains (later ∷ earlier) x) same (has_head later earlier)
-            | inr part ↦ has_tail later earlier stamp (of_first earlier n stamp part)
+            | inr part ↦ has_tail later earlier stamp (take_has n earlier stamp part)
           ])
         ]
       ]
@@ -80,7 +72,7 @@ among_asked pairs earlier event later has stamp h =
       ]
     ]
 
--- where neither event precedes the other, their stamps leave them unordered
+-- if neither event precedes the other, their stamps leave them unordered
 pub left_open : (pairs : List Given) → IsClosed pairs (precedes pairs) → (a b : Stamp) → precedes pairs a b ≡ false → ¬ IsTrue (precedes pairs b a) → IsTrue (unordered a b)
 left_open pairs closed a b not_there not_back =
     and_from _ _ (not_from_false (stamp_before a b) (false_from_ne_true (stamp_before a b) (λ h. both_ways (precedes pairs a b) not_there (closed.has_stamps a b h)))) (not_from_false (stamp_before b a) (false_from_ne_true (stamp_before b a) (λ h. not_back (closed.has_stamps b a h))))

@@ -1,4 +1,5 @@
 -- The first refused place.
+-- Used by `first_refused` and `put_before`.
 use Rattle.std.proofs.Common.{◌≡◌, ℕ, ◌<◌, ◌≤◌, Bool, true, false, List, length, take, get_or, Some, None, inl, inr, sym, ◌∙◌, subst, ap, arith, length-take}
 use Rattle.std.specs.Prelude.{position, Contains, IsTrue, nat_lt}
 use Rattle.std.specs.List.{position_or_len}
@@ -21,7 +22,7 @@ module _ {X : Type 0} (p : X → Bool) where
         | inr over ↦ cond-false (nat_lt (position_or_len p xs) (length xs)) _ _ (elim (cases_Bool (nat_lt (position_or_len p xs) (length xs))) [ inl lt ↦ absurd (let k = ltb-true (position_or_len p xs) (length xs) lt in omega arith) | inr h ↦ h ])
       ]
 
-  -- where no place is the first, the test fails at each
+  -- if no place is the first, the test fails at each
   pub none_passes : (xs : List X) → position p xs ≡ None → (k : ℕ) (d : X) → k < length xs → p (get_or xs k d) ≡ false
   none_passes xs none k d below =
       elim (cases_lt (position_or_len p xs) (length xs)) [

@@ -1,6 +1,8 @@
-//! The timeline oracle: decides which of two events comes first, where their stamps leave it open, and logs what it decided (Kronos, EuroSys 2014).
+//! The timeline oracle: decides which of two events comes first, if their stamps leave it open, and logs what it
+//! decided (Kronos, EuroSys 2014).
 //!
-//! It is a judge of events, exactly, all or none. Contracts see it as its log, which tells its pairs. No pair is dropped or reversed, and no event precedes itself.
+//! It is a judge of events, exactly, all or none. Contracts see it as its log, which has its pairs. No pair is dropped
+//! or reversed, and no event precedes itself.
 #![tactic(auto)]
 
 mod oracle;

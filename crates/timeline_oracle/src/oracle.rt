@@ -55,7 +55,8 @@ impl Oracle {
     }
 }
 
-/// A call asks the graph at most twice for each earlier event, which takes no memory. It takes the memory for all that it may add before it adds anything.
+/// A call asks the graph at most twice for each earlier event, which takes no memory. It takes the memory for all that
+/// it may add before it adds anything.
 impl Judge for Oracle {
     ghost use Rattle.std.specs.Prelude.{map, true};
     ghost use Rattle.order_graph.specs.Building.{ends_of};

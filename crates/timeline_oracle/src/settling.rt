@@ -34,7 +34,8 @@ pub(crate) fn first_refused(graph: &OrderGraph, earlier: &[Stamp], later: &Stamp
     None
 }
 
-/// Adds a pair for each earlier event that does not yet precede the later one, in their order, and adds their places. There is room for all.
+/// Adds a pair for each earlier event that does not yet precede the later one, in their order, and adds their places.
+/// There is room for all.
 pub(crate) fn put_before(
     graph: &mut OrderGraph,
     earlier: &[Stamp],
@@ -63,7 +64,7 @@ pub(crate) fn put_before(
     }
 }
 
-// Adds a pair where the earlier event does not yet precede the later one. Reports whether it did.
+// Adds a pair if the earlier event does not yet precede the later one. Reports whether it did.
 fn put_one(graph: &mut OrderGraph, earlier: Stamp, later: Stamp) -> bool
     requires other_id { id_of earlier ≢ id_of later }
     requires coherent { AreCoherent (earlier ∷ later ∷ ends_of graph.old.pairs) }
@@ -127,7 +128,8 @@ pub(crate) fn entry_of(
     later: Stamp,
     places: Vec<u32>,
 ) -> OracleEntry
-    ensures { settled_entry result ≡ record { author = author; earlier = earlier.items; later = later; places = places.items } }
+    ensures { settled_entry result
+        ≡ record { author = author; earlier = earlier.items; later = later; places = places.items } }
 {
     OracleEntry {
         author,

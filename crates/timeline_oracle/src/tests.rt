@@ -49,7 +49,8 @@ fn settle(
     keep: bool,
 ) -> Result<Settled, Refusal>
     requires few { length earlier.now < 2 ^ 32 }
-    requires known { (stamp : Stamp) → Contains (ends_of (pairs_of_log oracle.old)) stamp → Contains kept.old.items stamp }
+    requires known { (stamp : Stamp) → Contains (ends_of (pairs_of_log oracle.old)) stamp
+        → Contains kept.old.items stamp }
     ensures { (stamp : Stamp) → Contains (ends_of (pairs_of_log oracle.new)) stamp → Contains kept.new.items stamp }
 {
     parts_and_unions_are_coherent();
@@ -130,7 +131,8 @@ fn settles(rt: HostRuntime) -> Result<(), Fail> {
     Ok(())
 }
 
-// The home of an event: the first and the last one are alone at their gatekeepers, and those between take turns at the six others.
+// The home of an event: the first and the last one are alone at their gatekeepers, and those between take turns at the
+// six others.
 fn home_of(place: usize, last: usize) -> usize
     ensures { result < 8 }
 {
@@ -363,7 +365,8 @@ fn settles_at_each_gatekeeper(rt: HostRuntime) {
     }
 }
 
-// The later event was put before one of the earlier ones: the call is refused there, whether pairs are to be kept or not.
+// The later event was put before one of the earlier ones: the call is refused there, whether pairs are to be kept or
+// not.
 fn refuse(rt: &impl Abort, alloc: Global, all: &[Stamp], later: Stamp, put: Stamp, place: u32)
     requires { length all.now < 2 ^ 32 }
 {

@@ -1,4 +1,5 @@
 -- The test of precedence is the least transitive relation that has the order of stamps and the pairs.
+-- Used by `one_pair_joins_its_ends`, `precedence_is_decided`, Events, Pairs and Settle.
 use Rattle.std.proofs.Common.{◌≡◌, zero, suc, Bool, ◌||◌, List, [], ◌∷◌, Contains, IsTrue, ◌⊎◌, inl, inr, refl, sym, subst, arith}
 use Rattle.std.proofs.lemmas.Bool.{and_from, or_cases, or_left, or_right}
 use Rattle.vector_stamp.specs.declared.clock.Stamp.{Stamp}

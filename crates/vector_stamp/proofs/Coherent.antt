@@ -1,4 +1,5 @@
 -- The test of coherence is what it says.
+-- Used by `coherence_is_decided` and `equality_is_decided`.
 use Rattle.std.proofs.Common.{◌≡◌, Bool, true, false, ◌&&◌, ◌||◌, not, nat_lt, ◌==◌, ◌<◌, List, IsTrue, Contains, ◌⊎◌, inl, inr, refl, sym, ap, subst, arith}
 use Rattle.std.specs.List.{list_all}
 use Rattle.std.proofs.lemmas.Bool.{cases_Bool, eqb-true, eq-eqb, ltb-true, lt-ltb, not_from_false, and_from}
@@ -21,7 +22,7 @@ pub from_each_two : (r : Stamp → Stamp → Bool) (stamps : List Stamp) → ((a
 from_each_two r stamps each =
     list_all-from_AllPass (λ x. list_all (r x) stamps) stamps (All-weaker (Contains stamps) (λ x. list_all (r x) stamps ≡ true) (λ x in_x. list_all-from_AllPass (r x) stamps (All-weaker (Contains stamps) (λ y. r x y ≡ true) (λ y in_y. each x y in_x in_y) stamps (All-contains_itself stamps))) stamps (All-contains_itself stamps))
 
--- one of two tests passes where the other does
+-- one of two tests passes if the other does
 implied : (p q : Bool) → IsTrue (not p || q) → IsTrue p → IsTrue q
 implied true q h g = h
 implied false q h g = absurd (cc)
@@ -30,7 +31,7 @@ implies : (p q : Bool) → (IsTrue p → IsTrue q) → IsTrue (not p || q)
 implies true q h = h refl
 implies false q h = refl
 
--- the test of one id
+-- the test of the same id
 pub same_id-from : (a b : Stamp) → id_of a ≡ id_of b → IsTrue (same_id a b)
 same_id-from a b e =
     and_from _ _ (and_from _ _ (eq-eqb a.home b.home (ap (λ (i : EventId). i.home) e)) (eq-eqb a.clock.epoch b.clock.epoch (ap (λ (i : EventId). i.epoch) e))) (eq-eqb (own_count a) (own_count b) (ap (λ (i : EventId). i.count) e))

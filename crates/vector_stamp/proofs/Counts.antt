@@ -1,4 +1,5 @@
 -- The counts of two clocks, side by side.
+-- Used by `at_most_each`, `clocks_keep_the_laws`, `compare`, `counts_one_by_one` and 6 more.
 use Rattle.std.proofs.Common.{◌≡◌, ℕ, zero, suc, slice_index, ◌≤◌, ◌&&◌, IsTrue, List, [], ◌∷◌, length, nat_le, refl, ap, arith, rules}
 use Rattle.std.proofs.lemmas.Bool.{leb-true, le-leb, and_from}
 use Rattle.std.specs.Cmp.Lexicographic.{bytes_decides, as_long}

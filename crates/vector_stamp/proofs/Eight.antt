@@ -1,15 +1,20 @@
 -- Lists of eight counts, made gatekeeper by gatekeeper.
+-- Used by `greater_of`, `lesser_of`, Hearing and Meeting.
 use Rattle.std.proofs.Common.{◌≡◌, ℕ, ◌+◌, ◌<◌, ◌≤◌, List, length, map, slice_index, slice_set, sym, ap, ◌∙◌, subst, arith}
 use Rattle.std.specs.List.{zip}
-use Rattle.std.proofs.lemmas.List.{get_or-map, length-map, length-set}
+use Rattle.std.proofs.lemmas.List.{get_or-map, get_or_past, length-map, length-set}
 use Rattle.std.proofs.lemmas.List.Edits.{fill_by_more}
 use Rattle.std.proofs.lemmas.List.FromFn.{fill_by_all}
 use Rattle.std.proofs.lemmas.Slice.Zip.{length-zip, get_or-zip}
 
--- up to a gatekeeper each of the eight counts is picked of the two that stand there
+-- up to a gatekeeper each of the eight counts is picked of the two in its place
 pub record IsPickedBelow (pick : ℕ → ℕ → ℕ) (gate : ℕ) (counts others made : List ℕ) : Type 0 where
   pub eight : length made ≡ 8
   pub each : (k : ℕ) → k < gate → slice_index made k ≡ pick (slice_index counts k) (slice_index others k)
+
+-- past the eighth all counts are 0
+pub past-eighth : (counts : List ℕ) (k : ℕ) → length counts ≡ 8 → 8 ≤ k → slice_index counts k ≡ 0
+past-eighth counts k e over = get_or_past counts k 0 (omega arith)
 
 module _ (pick : ℕ → ℕ → ℕ) where
   -- the whole list of them

@@ -1,4 +1,5 @@
 -- Between events that the pairs join, no other stamp is needed on the way.
+-- Used by `other_stamps_change_nothing`.
 use Rattle.std.proofs.Common.{List, [], ◌∷◌, Contains, IsTrue, ◌⊎◌, inl, inr, sym, subst}
 use Rattle.std.proofs.lemmas.Bool.{or_cases}
 use Rattle.vector_stamp.specs.declared.clock.Stamp.{Stamp}

@@ -1,12 +1,13 @@
 -- A gatekeeper hears a clock.
-use Rattle.std.proofs.Common.{◌≡◌, ℕ, ◌<◌, ◌≤◌, IsTrue, inl, inr, List, length, max, slice_index, slice_set, refl, sym, ◌∙◌, subst, arith}
+-- Used by `clocks_keep_the_laws`, `counts_one_by_one`, `hearing_brings_order` and NonePast.
+use Rattle.std.proofs.Common.{◌≡◌, ℕ, ◌<◌, ◌≤◌, IsTrue, inl, inr, length, max, slice_index, slice_set, refl, sym, ◌∙◌, subst, arith}
 use Rattle.std.proofs.lemmas.Bool.{cases_lt, cases_order, lt-ltb, le-ltb, leb-true, eqb-true, cond-true, cond-false}
-use Rattle.std.proofs.lemmas.List.{get_or_past, length-set}
+use Rattle.std.proofs.lemmas.List.{length-set}
 use Rattle.vector_stamp.specs.declared.clock.Clock.{Clock}
 use Rattle.vector_stamp.specs.Order.{count_of, HasEightCounts, is_before, is_at_most}
 use Rattle.vector_stamp.specs.Clocks.{clock_after_tick, clock_after_hearing, counts_no_more, greater_counts}
 use Rattle.vector_stamp.proofs.Counts.{at_most-by}
-use Rattle.vector_stamp.proofs.Eight.{length-picked, picked-at}
+use Rattle.vector_stamp.proofs.Eight.{length-picked, past-eighth, picked-at}
 use Rattle.vector_stamp.proofs.Orders.{at_most_write, at_most_clock-refl, at_most-before}
 use Rattle.vector_stamp.proofs.Ticks.{own-set, other-set, below_set, tick-before}
 
@@ -47,18 +48,14 @@ module _ (home : ℕ) (clock heard : Clock) where
           | inr (inr higher) ↦ rw (hearing-higher higher) (length-set _ _ _ ∙ eight_heard)
         ]
 
-    -- past the eighth all counts are 0
-    past : (counts : List ℕ) (k : ℕ) → length counts ≡ 8 → 8 ≤ k → slice_index counts k ≡ 0
-    past counts k e over = get_or_past counts k 0 (omega arith)
-
     pub greater-at : (k : ℕ) → slice_index (greater_counts clock.counts heard.counts) k ≡ max (count_of k clock) (count_of k heard)
     greater-at k =
         elim (cases_lt k 8) [
           | inl within ↦ picked-at max clock.counts heard.counts k eight eight_heard within
           | inr over ↦
-              let a = past (greater_counts clock.counts heard.counts) k greater-eight over in
-              let b = past clock.counts k eight over in
-              let d = past heard.counts k eight_heard over in
+              let a = past-eighth (greater_counts clock.counts heard.counts) k greater-eight over in
+              let b = past-eighth clock.counts k eight over in
+              let d = past-eighth heard.counts k eight_heard over in
               omega arith
         ]
 
@@ -85,7 +82,7 @@ module _ (home : ℕ) (clock heard : Clock) where
           | inr (inr higher) ↦ subst (λ (x : Clock). IsTrue (is_at_most clock x)) (sym (hearing-higher higher)) (at_most_write clock of_higher (inl higher))
         ]
 
-    -- and is not behind the heard one
+    -- and the heard one is at most it
     pub heard_at_most-hearing : IsTrue (counts_no_more home clock heard) → IsTrue (is_at_most heard (clock_after_hearing home clock heard))
     heard_at_most-hearing h =
         elim (cases_order heard.epoch clock.epoch) [

@@ -14,3 +14,4 @@ pub mod Meets
 pub mod NonePast
 pub mod Together
 pub mod Seen
+pub mod LastPlaces

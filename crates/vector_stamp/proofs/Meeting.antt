@@ -1,12 +1,12 @@
 -- The meet of two clocks.
-use Rattle.std.proofs.Common.{◌≡◌, ℕ, ◌<◌, ◌≤◌, IsTrue, inl, inr, List, length, min, slice_index, refl, sym, ◌∙◌, subst, arith}
+-- Used by `counts_one_by_one`, `meet_is_greatest_below`, Meets and NonePast.
+use Rattle.std.proofs.Common.{◌≡◌, ℕ, ◌<◌, ◌≤◌, IsTrue, inl, inr, length, min, slice_index, refl, sym, ◌∙◌, subst, arith}
 use Rattle.std.proofs.lemmas.Bool.{cases_lt, cases_order, lt-ltb, le-ltb, cond-true, cond-false}
-use Rattle.std.proofs.lemmas.List.{get_or_past}
 use Rattle.vector_stamp.specs.declared.clock.Clock.{Clock}
-use Rattle.vector_stamp.specs.Order.{count_of, HasEightCounts, counts_at_most, is_at_most}
+use Rattle.vector_stamp.specs.Order.{count_of, HasEightCounts, is_at_most}
 use Rattle.vector_stamp.specs.Clocks.{lesser_counts, meet_of}
 use Rattle.vector_stamp.proofs.Counts.{at_most-by, at_most-at, at_most-long}
-use Rattle.vector_stamp.proofs.Eight.{length-picked, picked-at}
+use Rattle.vector_stamp.proofs.Eight.{length-picked, past-eighth, picked-at}
 use Rattle.vector_stamp.proofs.Orders.{at_most_read, at_most_write, at_most_clock-refl}
 
 module _ (a b : Clock) where
@@ -35,18 +35,14 @@ module _ (a b : Clock) where
           | inr (inr less) ↦ rw (meet-second less) eight_b
         ]
 
-    -- past the eighth all counts are 0
-    past : (counts : List ℕ) (k : ℕ) → length counts ≡ 8 → 8 ≤ k → slice_index counts k ≡ 0
-    past counts k e over = get_or_past counts k 0 (omega arith)
-
     pub lesser-at : (k : ℕ) → slice_index (lesser_counts a.counts b.counts) k ≡ min (count_of k a) (count_of k b)
     lesser-at k =
         elim (cases_lt k 8) [
           | inl within ↦ picked-at min a.counts b.counts k eight_a eight_b within
           | inr over ↦
-              let x = past (lesser_counts a.counts b.counts) k lesser-eight over in
-              let y = past a.counts k eight_a over in
-              let z = past b.counts k eight_b over in
+              let x = past-eighth (lesser_counts a.counts b.counts) k lesser-eight over in
+              let y = past-eighth a.counts k eight_a over in
+              let z = past-eighth b.counts k eight_b over in
               omega arith
         ]
 

@@ -1,8 +1,9 @@
 -- Meets of clocks, in any order, and of lists of clocks.
+-- Used by `clocks_keep_the_laws`, `meet_of_a_list_is_greatest_below` and `meets_commute`.
 use Rattle.std.proofs.Common.{◌≡◌, ℕ, ◌↔◌, List, [], ◌∷◌, Contains, IsTrue, min, inl, inr, refl, sym, ap, subst, ◌∙◌, arith}
 use Rattle.std.proofs.Math.Nat.{min_comm}
 use Rattle.std.proofs.lemmas.Bool.{cases_order}
-use Rattle.proof_base.proofs.Members.{has_read, has_head, has_tail, has_none}
+use Rattle.weave_data.proofs.Members.{has_read, has_head, has_tail, has_none}
 use Rattle.vector_stamp.specs.declared.clock.Clock.{Clock}
 use Rattle.vector_stamp.specs.Order.{HasEightCounts, HaveEightCounts, is_at_most}
 use Rattle.vector_stamp.specs.Clocks.{lesser_counts, meet_of, meet_with}

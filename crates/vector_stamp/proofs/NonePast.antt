@@ -1,8 +1,9 @@
 -- Counts past the number of gatekeepers stay 0.
+-- Used by `clocks_keep_the_laws` and `counts_past_the_gatekeepers_stay_0`.
 use Rattle.std.proofs.Common.{◌≡◌, ◌≢◌, ℕ, zero, suc, ◌+◌, ◌<◌, ◌≤◌, List, [], ◌∷◌, length, max, min, slice_index, slice_set, Contains, inl, inr, sym, ap, subst, ◌∙◌, arith}
 use Rattle.std.proofs.lemmas.Bool.{cases_eq, cases_lt, cases_order}
 use Rattle.std.proofs.lemmas.List.{get_or_past, get_or-set_same, get_or-set_other, length-set}
-use Rattle.proof_base.proofs.Members.{has_read, has_head, has_tail}
+use Rattle.weave_data.proofs.Members.{has_read, has_head, has_tail}
 use Rattle.vector_stamp.specs.declared.clock.Clock.{Clock}
 use Rattle.vector_stamp.specs.Order.{count_of, CountsNonePast}
 use Rattle.vector_stamp.specs.Clocks.{clock_after_tick, clock_after_hearing, greater_counts, lesser_counts, meet_of, meet_with}

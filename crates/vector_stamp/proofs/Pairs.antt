@@ -1,4 +1,5 @@
 -- Precedence with more pairs, and cycles.
+-- Used by `more_pairs_more_precedence`, `no_cycle_arises` and Settle.
 use Rattle.std.proofs.Common.{◌≡◌, Bool, true, ◌||◌, List, [], ◌∷◌, ◌++◌, Contains, IsTrue, ◌⊎◌, inl, inr, refl, sym, subst, ◌∙◌}
 use Rattle.std.proofs.lemmas.Bool.{or_cases}
 use Rattle.std.proofs.lemmas.Bool.Decides.{same_from_decides}

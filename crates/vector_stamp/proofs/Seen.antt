@@ -1,5 +1,6 @@
 -- How many of a vertex's updates a program sees.
-use Rattle.std.proofs.Common.{◌≡◌, ℕ, zero, suc, ◌+◌, ◌≤◌, Bool, true, false, List, [], ◌∷◌, length, slice_get, IsTrue, Some, refl, sym, ap, subst, ◌∙◌, add-one, arith}
+-- Used by `the_last_update_read_is_seen` and crates shard_lock, shard_node, version_chain and weaver_core.
+use Rattle.std.proofs.Common.{◌≡◌, ℕ, zero, suc, ◌+◌, ◌≤◌, Bool, true, false, List, [], ◌∷◌, length, slice_get, IsTrue, Some, ◌⊎◌, inl, inr, refl, sym, ap, subst, ◌∙◌, add-one, arith}
 use Rattle.vector_stamp.specs.declared.clock.Stamp.{Stamp}
 use Rattle.vector_stamp.specs.Seeing.{with_front, last_place, last_seen}
 
@@ -9,6 +10,7 @@ module _ {A : Type 0} (test : A → Bool) where
   front-within false zero many h = omega arith
   front-within b (suc place) many h = omega arith
 
+  -- the place is in the list
   pub place-within : (xs : List A) → last_place test xs ≤ length xs
   place-within [] = omega arith
   place-within (x ∷ xs) = let h = front-within (test x) (last_place test xs) (length xs) (place-within xs) in omega arith
@@ -39,8 +41,15 @@ module _ {A : Type 0} (test : A → Bool) where
       from (suc seen) b e rest zero past at b_is = absurd (omega (arith, past))
       from (suc seen) b e rest (suc place) past at b_is = rest place (omega (arith, e, past)) at
 
--- the last of the first so many
+-- the last of the first n + 1 updates
 pub last-is : (n : ℕ) (updates : List Stamp) (update : Stamp) → slice_get updates n ≡ Some update → last_seen (suc n) updates ≡ update ∷ []
 last-is n [] update at = absurd (cc)
 last-is zero (first ∷ updates) update at = let same : first ≡ update = cc in ap (λ (s : Stamp). s ∷ []) same
 last-is (suc n) (first ∷ updates) update at = last-is n updates update at
+
+-- what was seen last is one update, or none
+pub last-cases : (n : ℕ) (updates : List Stamp) → (last_seen n updates ≡ []) ⊎ ((update : Stamp) × (last_seen n updates ≡ update ∷ []))
+last-cases zero updates = inl refl
+last-cases (suc n) [] = inl refl
+last-cases (suc zero) (update ∷ updates) = inr (update, refl)
+last-cases (suc (suc n)) (update ∷ updates) = last-cases (suc n) updates

@@ -1,4 +1,5 @@
 -- Earlier events are put before a later one.
+-- Used by `no_cycle_arises` and `settling_puts_all_before`.
 use Rattle.std.proofs.Common.{◌≡◌, ℕ, zero, suc, ◌+◌, ◌<◌, ◌≤◌, Bool, true, false, cond, nat_lt, List, [], ◌∷◌, ◌++◌, length, map, Contains, IsTrue, ◌⊎◌, inl, inr, refl, sym, ap, subst, ◌∙◌, add-zero, None, Some, slice_get, slice_index, arith}
 use Rattle.std.proofs.lemmas.Bool.{cases_Bool, cases_lt, both_ways, lt-ltb, cond-true, cond-false, and_from, not_from_false, false_from_ne_true}
 use Rattle.std.proofs.lemmas.List.{append_assoc, append-nil}
@@ -34,7 +35,7 @@ module _ (place : ℕ) (pairs : List Given) (event : Stamp) (events : List Stamp
       ap (λ (es : List (ℕ × Stamp)). pairs ++ pairs_of es later) (additions-put h)
       ∙ sym (append_assoc pairs ((event, later) ∷ []) (pairs_of (additions_from (suc place) (pairs ++ (event, later) ∷ []) events later) later))
 
--- one more event: it is put where it doesn't precede by the pairs, those of the events before it included
+-- one more event: it is put if it doesn't precede by the pairs, those of the events before it included
 pub additions-push : (place : ℕ) (pairs : List Given) (events : List Stamp) (event later : Stamp) → additions_from place pairs (events ++ event ∷ []) later ≡ additions_from place pairs events later ++ additions_from (place + length events) (pairs_after place pairs events later) (event ∷ []) later
 additions-push place pairs [] event later = rw (add-zero, append-nil) refl
 additions-push place pairs (first ∷ events) event later =
@@ -70,7 +71,7 @@ after_precedes place pairs (first ∷ events) later event h =
       ])
     ]
 
--- and no cycle arises where the later one precedes none of them
+-- and no cycle arises if the later one precedes none of them
 abbrev pub IsPermitted : List Given → List Stamp → Stamp → Type 0
 IsPermitted pairs events later = (event : Stamp) → Contains events event → ((event ≡ later → ⊥) × ¬ IsTrue (precedes pairs later event))
 
@@ -112,7 +113,7 @@ permitted_none pairs events later none event h back =
       | inr over ↦ both_ways (precedes pairs later event) (subst (λ x. precedes pairs later x ≡ false) h.2 (fails_before_first (precedes pairs later) events h.0 event (omega (arith, h.1)))) back
     ]
 
--- what is put stands at its place
+-- each addition is an event of the list, with its place
 pub additions_read : (place : ℕ) (pairs : List Given) (events : List Stamp) (later : Stamp) (put : ℕ × Stamp) → Contains (additions_from place pairs events later) put → (k : ℕ) × (put.0 ≡ place + k) × (slice_get events k ≡ Some put.1)
 additions_read place pairs [] later put h = absurd (omega (arith, h.1))
 additions_read place pairs (first ∷ events) later put h =

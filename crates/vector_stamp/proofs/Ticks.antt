@@ -1,4 +1,5 @@
 -- A count is set, and a clock ticks.
+-- Used by `clocks_keep_the_laws`, `counts_one_by_one`, `ticks_rise` and Hearing.
 use Rattle.std.proofs.Common.{◌≡◌, ℕ, ◌+◌, ◌<◌, ◌≤◌, IsTrue, inl, inr, List, length, slice_index, slice_set, refl, sym, ap, subst, arith}
 use Rattle.std.proofs.lemmas.Bool.{cases_eq}
 use Rattle.std.proofs.lemmas.List.{length-set, get_or-set_same, get_or-set_other}

@@ -1,4 +1,5 @@
 -- Coherence of a part of a list, and of lists together.
+-- Used by `coherent_stamps_have_ids` and `parts_and_unions_are_coherent`.
 use Rattle.std.proofs.Common.{◌≡◌, ◌≢◌, ℕ, List, ◌++◌, Contains, IsTrue, ◌⊎◌, inl, inr, ap, subst, sym, arith}
 use Rattle.std.proofs.lemmas.Bool.{cases_order, or_left, or_right, and_from, eq-eqb, lt-ltb}
 use Rattle.std.proofs.lemmas.List.Elements.{Contains-append_cases}

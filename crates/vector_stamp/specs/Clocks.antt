@@ -24,14 +24,17 @@ greater_counts xs ys = map (λ (pair : ℕ × ℕ). max pair.0 pair.1) (zip xs y
 abbrev pub lesser_counts : List ℕ → List ℕ → List ℕ
 lesser_counts xs ys = map (λ (pair : ℕ × ℕ). min pair.0 pair.1) (zip xs ys)
 
--- The gatekeeper's clock after it heard another one. One of a lower epoch changes nothing. Of one of a higher epoch it takes over the epoch and all counts but its own, which becomes 0. Of one of its epoch it takes each count but its own where that is greater.
+-- The gatekeeper's clock after it heard another one. One of a lower epoch changes nothing. Of one of a higher epoch it
+-- takes over the epoch and all counts but its own, which becomes 0. Of one of its epoch it takes each count but its own
+-- where that is greater.
 abbrev pub clock_after_hearing : ℕ → Clock → Clock → Clock
 clock_after_hearing home clock heard =
     if nat_lt heard.epoch clock.epoch then clock
     else if nat_lt clock.epoch heard.epoch then record heard { counts = slice_set heard.counts home 0 }
     else record clock { counts = slice_set (greater_counts clock.counts heard.counts) home (count_of home clock) }
 
--- The heard clock counts no more events of the gatekeeper than it made itself: within its epoch at most its own count, and none in a higher epoch. Of a lower epoch nothing is asked.
+-- The heard clock counts no more events of the gatekeeper than it made itself: within its epoch at most its own count,
+-- and none in a higher epoch. Of a lower epoch nothing is asked.
 abbrev pub counts_no_more : ℕ → Clock → Clock → Bool
 counts_no_more home clock heard =
     if nat_lt heard.epoch clock.epoch then true

@@ -1,4 +1,5 @@
--- The order of stamps: refinable timestamps of Weaver (PVLDB 9(11) 2016), which are vector clocks (Fidge and Mattern 1988) under an epoch.
+-- The order of stamps: refinable timestamps of Weaver (PVLDB 9(11) 2016), which are vector clocks (Fidge and Mattern
+-- 1988) under an epoch.
 use Rattle.std.specs.Prelude.{◌≡◌, ℕ, ◌≤◌, ◌^◌, Bool, ◌&&◌, ◌||◌, not, nat_eq, nat_lt, nat_le, ◌==◌, List, length, slice_index, AllPairs, Contains, IsTrue}
 use Rattle.std.specs.Cmp.Lexicographic.{pointwise}
 use Rattle.std.specs.List.{list_all}
@@ -8,7 +9,7 @@ use Rattle.vector_stamp.specs.declared.clock.EventId.{EventId}
 
 -- Clocks
 
--- every count of the first list is at most that of the second; lists of different lengths never are so
+-- every count of the first list is at most that of the second; false for lists of different lengths
 abbrev pub counts_at_most : List ℕ → List ℕ → Bool
 counts_at_most = pointwise nat_le
 
@@ -16,7 +17,8 @@ counts_at_most = pointwise nat_le
 abbrev pub same_counts : List ℕ → List ℕ → Bool
 same_counts = pointwise nat_eq
 
--- clock a is before clock b: its epoch is less, or the epochs are equal, every count of a is at most that of b, and the counts differ
+-- clock a is before clock b: its epoch is less, or the epochs are equal, every count of a is at most that of b, and the
+-- counts differ
 abbrev pub is_before : Clock → Clock → Bool
 is_before a b =
     nat_lt a.epoch b.epoch
@@ -82,11 +84,11 @@ own_count s = count_of s.home s.clock
 abbrev pub id_of : Stamp → EventId
 id_of s = record { home = s.home; epoch = s.clock.epoch; count = own_count s }
 
--- the stamps have one id
+-- the stamps have the same id
 abbrev pub same_id : Stamp → Stamp → Bool
 same_id a b = (a.home == b.home) && (a.clock.epoch == b.clock.epoch) && (own_count a == own_count b)
 
--- a's epoch, then its own count, is below b's: so a home tells which of two of its events came first
+-- a's epoch, then its own count, is below b's: of two events of one home, this shows which came first
 abbrev pub id_before : Stamp → Stamp → Bool
 id_before a b =
     nat_lt a.clock.epoch b.clock.epoch

@@ -1,4 +1,5 @@
--- Precedence: what the order of stamps and the oracle's pairs imply together (timeline oracle of Kronos, EuroSys 2014; Weaver, PVLDB 9(11) 2016).
+-- Precedence: what the order of stamps and the oracle's pairs imply together (timeline oracle of Kronos, EuroSys 2014;
+-- Weaver, PVLDB 9(11) 2016).
 use Rattle.std.specs.Prelude.{Bool, ◌||◌, ◌&&◌, List, [], ◌∷◌, IsTrue, Contains}
 use Rattle.vector_stamp.specs.declared.clock.Stamp.{Stamp}
 use Rattle.vector_stamp.specs.Order.{stamp_before, same_stamp}
@@ -8,13 +9,16 @@ abbrev pub Given : Type 0
 Given = Stamp × Stamp
 
 -- The least transitive relation that has the order of stamps and the pairs.
--- It is over all stamps. Between events that the pairs join it is the same as over these events alone: another stamp on a way stands between two steps by the order of stamps, which are one step. (`PrecedesAmong` and the law `other_stamps_change_nothing`.)
+-- It is over all stamps. Between events that the pairs join it is the same as over these alone: any other stamp on the
+-- way is between two steps by the order of stamps, which are one step. (`PrecedesAmong` and the law
+-- `other_stamps_change_nothing`.)
 pub data Precedes (pairs : List Given) : Stamp → Stamp → Type 0 where
   ByStamps : (a b : Stamp) → IsTrue (stamp_before a b) → Precedes pairs a b
   ByPair : (a b : Stamp) → Contains pairs (a, b) → Precedes pairs a b
   Through : (a b c : Stamp) → Precedes pairs a b → Precedes pairs b c → Precedes pairs a c
 
--- The same, as a test. With one more pair, a precedes b where it did, or where a is or precedes the pair's earlier stamp and its later stamp is or precedes b.
+-- The same, as a test. With one more pair, a precedes b if it did, or if a is or precedes the pair's earlier stamp and
+-- its later stamp is or precedes b.
 abbrev pub precedes : List Given → Stamp → Stamp → Bool
 precedes [] a b = stamp_before a b
 precedes (pair ∷ pairs) a b =
@@ -29,7 +33,7 @@ AreAmong pairs others = (a b : Stamp) → Contains pairs (a, b) → Contains oth
 abbrev pub IsAcyclic : List Given → Type 0
 IsAcyclic pairs = (s : Stamp) → ¬ IsTrue (precedes pairs s s)
 
--- a relation, told by a test, that has the order of stamps, the pairs, and with two steps the whole way
+-- a relation, given as a test, that has the order of stamps and the pairs and is transitive
 pub record IsClosed (pairs : List Given) (leads : Stamp → Stamp → Bool) : Type 0 where
   pub has_stamps : (a b : Stamp) → IsTrue (stamp_before a b) → IsTrue (leads a b)
   pub has_pairs : (a b : Stamp) → Contains pairs (a, b) → IsTrue (leads a b)
@@ -41,6 +45,9 @@ JoinsEvents events pairs = (a b : Stamp) → Contains pairs (a, b) → Contains 
 
 -- the least transitive relation over these events alone that has the order of their stamps and the pairs
 pub data PrecedesAmong (events : List Stamp) (pairs : List Given) : Stamp → Stamp → Type 0 where
-  AmongByStamps : (a b : Stamp) → Contains events a → Contains events b → IsTrue (stamp_before a b) → PrecedesAmong events pairs a b
-  AmongByPair : (a b : Stamp) → Contains events a → Contains events b → Contains pairs (a, b) → PrecedesAmong events pairs a b
-  AmongThrough : (a b c : Stamp) → PrecedesAmong events pairs a b → PrecedesAmong events pairs b c → PrecedesAmong events pairs a c
+  AmongByStamps : (a b : Stamp) → Contains events a → Contains events b → IsTrue (stamp_before a b)
+      → PrecedesAmong events pairs a b
+  AmongByPair : (a b : Stamp) → Contains events a → Contains events b → Contains pairs (a, b)
+      → PrecedesAmong events pairs a b
+  AmongThrough : (a b c : Stamp) → PrecedesAmong events pairs a b → PrecedesAmong events pairs b c
+      → PrecedesAmong events pairs a c

@@ -4,7 +4,8 @@ use Rattle.vector_stamp.specs.declared.clock.Stamp.{Stamp}
 use Rattle.vector_stamp.specs.Order.{stamp_before, unordered}
 use Rattle.vector_stamp.specs.Precedence.{Given, precedes}
 
--- the place of the last element that passes, with one more element in front: all later places are one more, and the new element has place 1 if it passes and no later one does
+-- the place of the last element that passes, with one more element in front: all later places are one more, and the new
+-- element has place 1 if it passes and no later one does
 abbrev pub with_front : Bool → ℕ → ℕ
 with_front true zero = 1
 with_front false zero = 0
@@ -18,9 +19,11 @@ module _ {A : Type 0} where
 
 -- a program sees an update that is before it, and an unordered one that it doesn't precede
 abbrev pub is_seen : List Given → Stamp → Stamp → Bool
-is_seen pairs program update = stamp_before update program || (unordered update program && not (precedes pairs program update))
+is_seen pairs program update =
+    stamp_before update program || (unordered update program && not (precedes pairs program update))
 
--- after how many of a vertex's updates, given by their stamps, a program reads its state: all up to the last one that it sees
+-- after how many of a vertex's updates, given by their stamps, a program reads its state: all up to the last one that
+-- it sees
 abbrev pub seen_of : List Given → Stamp → List Stamp → ℕ
 seen_of pairs program updates = last_place (is_seen pairs program) updates
 

@@ -1,4 +1,5 @@
--- What a judge does when it is asked to put earlier events before a later one (timeline oracle of Kronos, EuroSys 2014).
+-- What a judge does when it is asked to put earlier events before a later one (timeline oracle of Kronos, EuroSys
+-- 2014).
 use Rattle.std.specs.Prelude.{◌≡◌, ℕ, suc, Bool, List, [], ◌∷◌, ◌++◌, map, position, Option, Some, ⊤, if◌then◌else◌}
 use Rattle.vector_stamp.specs.declared.clock.Stamp.{Stamp}
 use Rattle.vector_stamp.specs.declared.judge.Refusal.{Refusal}
@@ -14,14 +15,15 @@ abbrev pub IsRightRefusal : List Given → List Stamp → Stamp → Refusal → 
 IsRightRefusal pairs earlier later (refusal.Precedes place) = refused_place pairs earlier later ≡ Some place
 IsRightRefusal pairs earlier later refusal.Memory = ⊤
 
--- The earlier events for which a pair is added, each with its place, counted on from this one: those that do not yet precede the later one, where the pairs added for the places before count.
+-- The earlier events for which a pair is added, each with its place, counted on from this one: those that do not yet
+-- precede the later one, by the pairs and those added for places before.
 abbrev pub additions_from : ℕ → List Given → List Stamp → Stamp → List (ℕ × Stamp)
 additions_from place pairs [] later = []
 additions_from place pairs (event ∷ events) later =
     if precedes pairs event later then additions_from (suc place) pairs events later
     else (place, event) ∷ additions_from (suc place) (pairs ++ (event, later) ∷ []) events later
 
--- the same from place 0, and none where no pairs are to be kept
+-- the same from place 0, and none if no pairs are to be kept
 abbrev pub additions : Bool → List Given → List Stamp → Stamp → List (ℕ × Stamp)
 additions keep pairs earlier later = if keep then additions_from 0 pairs earlier later else []
 
@@ -40,7 +42,8 @@ pub record SettledEntry : Type 0 where
   pub later : Stamp
   pub places : List ℕ
 
--- what a call adds to the log: an entry where it added at least one pair
+-- what a call adds to the log: an entry if it added at least one pair
 abbrev pub entries_of_call : ℕ → List Stamp → Stamp → List ℕ → List SettledEntry
 entries_of_call author earlier later [] = []
-entries_of_call author earlier later (place ∷ places) = record { author = author; earlier = earlier; later = later; places = place ∷ places } ∷ []
+entries_of_call author earlier later (place ∷ places) =
+    record { author = author; earlier = earlier; later = later; places = place ∷ places } ∷ []

@@ -120,7 +120,8 @@ impl Clock {
         }
     }
 
-    /// Takes in a clock that the gatekeeper at home hears: nothing of a lower epoch, each greater count of its own one, the epoch and all counts of a higher one.
+    /// Takes in a clock that the gatekeeper at home hears: nothing of a lower epoch, each greater count of its own one,
+    /// the epoch and all counts of a higher one.
     /// Its own count rises by its own events alone, so it stays within an epoch and is 0 in a higher one.
     pub fn hear(&mut self, home: u32, other: &Clock)
         requires { home < 8 }
@@ -140,7 +141,8 @@ impl Clock {
         }
     }
 
-    /// Its epoch and its counts have 64 bits. The call does nothing: the type says it, and contracts see it by this clause.
+    /// Its epoch and its counts have 64 bits. The call does nothing: the type says it, and contracts see it by this
+    /// clause.
     pub fn shows_64_bits(self)
         ensures { IsTrue (has_64_bits self) }
     {

@@ -7,7 +7,8 @@ ghost use Rattle.vector_stamp.specs.Coherence.{AreCoherent, all_coherent, two_co
 use crate::clock::Stamp;
 use crate::laws::coherence_is_decided;
 
-/// Whether the stamps are coherent: each home is below 8, those of one id are equal, and two different ones of one home are ordered as their epochs, then their own counts. It compares each two of them.
+/// Whether the stamps are coherent: each home is below 8, those of one id are equal, and two different ones of one home
+/// are ordered as their epochs, then their own counts. It compares each two of them.
 pub fn are_coherent(stamps: &[Stamp]) -> bool
     ensures { IsTrue result ↔ AreCoherent stamps.now }
 {

@@ -43,7 +43,7 @@ impl From<AllocError> for Refusal {
     }
 }
 
-/// What decides which of two events comes first, where their stamps leave it open.
+/// What decides which of two events comes first, if their stamps leave it open.
 pub trait Judge {
     ghost use Rattle.vector_stamp.specs.Settling.{refused_place, IsRightRefusal, additions, places_of, pairs_of, SettledEntry, entries_of_call};
 
@@ -56,12 +56,13 @@ pub trait Judge {
     /// Whether it keeps a log.
     ghost keeps_log: { Bool };
 
-    /// Its log, where it keeps one.
+    /// Its log, if it keeps one.
     ghost log_of: { Self → List SettledEntry };
 
     /// Puts each of the earlier events before the later one, unless the later one precedes one of them.
-    /// With `keep` it adds a pair for each earlier event that does not yet precede the later one, in their order; without, it adds none.
-    /// Where it keeps a log, each call that added a pair has an entry there, with its author.
+    /// With `keep` it adds a pair for each earlier event that does not yet precede the later one, in their order;
+    /// without, it adds none.
+    /// If it keeps a log, each call that added a pair has an entry there, with its author.
     fn settle(
         &mut self,
         alloc: Global,

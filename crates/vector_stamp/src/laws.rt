@@ -20,7 +20,7 @@ pub fn stamps_are_ordered()
     ensures equal_clocks { (a b : Stamp) → a.clock ≡ b.clock → IsTrue (unordered a b) }
 {}
 
-/// To be at most another clock is a partial order, and `before` composes with it on either side.
+/// `is_at_most` is a partial order on clocks, and `is_before` composes with it on either side.
 pub fn clocks_are_ordered()
     ensures reflexive { (a : Clock) → IsTrue (is_at_most a a) }
     ensures antisymmetric { (a b : Clock) → IsTrue (is_at_most a b) → IsTrue (is_at_most b a) → a ≡ b }
@@ -32,7 +32,7 @@ pub fn clocks_are_ordered()
         → IsTrue (is_before a c) }
 {}
 
-/// Within an epoch a clock is at most another exactly where each gatekeeper's count is.
+/// Within an epoch a clock is at most another exactly if each gatekeeper's count is.
 pub fn order_gate_by_gate()
     ensures { (a b : Clock) → HasEightCounts a → HasEightCounts b → a.epoch ≡ b.epoch
         → IsTrue (is_at_most a b) ↔ ((gate : ℕ) → gate < 8 → count_of gate a ≤ count_of gate b) }
@@ -45,7 +45,8 @@ pub fn ticks_rise()
 {}
 
 /// A gatekeeper that hears a clock never goes back, and hears nothing of a lower epoch.
-/// It is then at least that clock, and its next event is after it, if that clock counts no more of the gatekeeper's events than it made:
+/// It is then at least that clock, and its next event is after it, if that clock counts no more of the gatekeeper's
+/// events than it made:
 /// within its epoch at most its own count, and none in a higher epoch.
 pub fn hearing_brings_order()
     ensures of_lower { (home : ℕ) (clock heard : Clock) → heard.epoch < clock.epoch
@@ -152,14 +153,16 @@ pub fn equality_is_decided()
     ensures ids { (a b : Stamp) → IsTrue (same_id a b) ↔ (id_of a ≡ id_of b) }
 {}
 
-/// Whether stamps are coherent is decided by a test of each two of them. Two different ones have different ids, and those of one home are ordered as their ids say.
+/// Whether stamps are coherent is decided by a test of each two of them. Two different ones have different ids, and
+/// those of one home are ordered as their ids say.
 pub fn coherence_is_decided()
     ensures tested { (stamps : List Stamp) → AreCoherent stamps ↔ IsTrue (all_coherent stamps) }
     ensures apart { (stamps : List Stamp) (a b : Stamp) → AreCoherent stamps → Contains stamps a → Contains stamps b
         → a ≢ b → IsTrue (are_apart a b) }
 {}
 
-/// A part of coherent stamps is coherent. So are two coherent lists together if their homes differ, and all stamps if those of each home are.
+/// A part of coherent stamps is coherent. So are two coherent lists together if their homes differ, and all stamps if
+/// those of each home are.
 pub fn parts_and_unions_are_coherent()
     ensures part { (stamps others : List Stamp) → AreCoherent others
         → ((stamp : Stamp) → Contains stamps stamp → Contains others stamp) → AreCoherent stamps }
@@ -191,7 +194,8 @@ pub fn precedence_is_decided()
         → (a b : Stamp) → IsTrue (precedes pairs a b) → IsTrue (leads a b) }
 {}
 
-/// Between events that the pairs join, precedence is that over these events alone: no other stamp leads from one to another.
+/// Between events that the pairs join, precedence is that over these events alone: no other stamp leads from one to
+/// another.
 pub fn other_stamps_change_nothing()
     ensures { (events : List Stamp) (pairs : List Given) → JoinsEvents events pairs
         → (a b : Stamp) → Contains events a → Contains events b
@@ -206,7 +210,7 @@ pub fn more_pairs_more_precedence()
         → precedes (pairs ++ pair ∷ []) a b ≡ precedes (pair ∷ pairs) a b }
 {}
 
-/// With one more pair a precedes b only if it did so before, or through that pair.
+/// With one more pair a precedes b only if it did before, or through that pair.
 pub fn one_pair_joins_its_ends()
     ensures { (pair : Given) (pairs : List Given) (a b : Stamp) → IsTrue (precedes (pair ∷ pairs) a b)
         → IsTrue (precedes pairs a b)
@@ -227,7 +231,9 @@ pub fn the_last_update_read_is_seen()
         → slice_get updates before ≡ Some update → last_seen (before + 1) updates ≡ update ∷ [] }
 {}
 
-/// What a judge adds puts all the earlier events before the later one. It adds nothing for an event that already precedes it, also by the pairs added for the places before. The later event then precedes none that it did not precede.
+/// What a judge adds puts all the earlier events before the later one. It adds nothing for an event that already
+/// precedes it, also by the pairs added for the places before. The later event then precedes none that it did not
+/// precede.
 pub fn settling_puts_all_before()
     ensures all_precede { (pairs : List Given) (earlier : List Stamp) (later event : Stamp) → Contains earlier event
         → IsTrue (precedes (pairs ++ pairs_of (additions_from 0 pairs earlier later) later) event later) }
@@ -251,7 +257,8 @@ pub fn settling_puts_all_before()
         → Contains (pairs_of (additions_from 0 pairs earlier later) later) (a, b) → IsTrue (unordered a b) }
 {}
 
-/// A judge's pairs never make a cycle: nothing precedes itself, since a pair is added only where its later event does not precede its earlier one.
+/// A judge's pairs never make a cycle: nothing precedes itself, since a pair is added only if its later event does not
+/// precede its earlier one.
 pub fn no_cycle_arises()
     ensures at_first { IsAcyclic [] }
     ensures one_pair { (pairs : List Given) (a b : Stamp) → IsAcyclic pairs → a ≢ b → ¬ IsTrue (precedes pairs b a)

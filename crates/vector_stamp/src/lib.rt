@@ -1,6 +1,7 @@
 //! Clocks and stamps (Weaver's refinable timestamps), precedence, and the interface of a judge of events.
 //!
-//! A gatekeeper's clock gives each event a stamp. Stamps are partially ordered. Precedence is what their order and a judge's pairs imply together. No call on clocks and stamps takes memory. `laws` says what can be relied on.
+//! A gatekeeper's clock gives each event a stamp. Stamps are partially ordered. Precedence is what their order and a
+//! judge's pairs imply together. No call on clocks and stamps takes memory. `laws` says what can be relied on.
 #![tactic(auto)]
 
 mod clock;
@@ -8,8 +9,6 @@ mod coherence;
 mod judge;
 pub mod laws;
 mod stamped;
-#[cfg(test)]
-mod tests;
 
 pub use clock::{Clock, EventId, Relation, Stamp};
 pub use coherence::are_coherent;

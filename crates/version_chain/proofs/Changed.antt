@@ -1,4 +1,5 @@
 -- A chain's invariant, and its versions, after each change.
+-- Used by `apply_update`, `drop_older`, `parts` and `take_back`.
 use Rattle.std.proofs.Common.{◌≡◌, ◌≤◌, ◌<◌, ◌+◌, ◌-◌, ◌^◌, ◌==◌, ℕ, zero, suc, Bool, true, false, ◌&&◌, cond, List, [], ◌∷◌, ◌++◌, take, drop, length, Option, Some, None, IsSome, Result, Ok, Err, OnErr, IsTrue, refl, sym, ap, subst, ◌∙◌, arith}
 use Rattle.std.specs.Prelude.{nat_le, pred}
 use Rattle.std.specs.Option.{option_to_list}
@@ -13,7 +14,7 @@ use Rattle.vector_stamp.specs.Order.{is_before}
 use Rattle.vector_stamp.specs.Seeing.{last_place}
 use Rattle.version_parts.specs.declared.lists.Lists.{Lists}
 use Rattle.version_parts.specs.Counts.{count_updates, count_of, changes, size_of}
-use Rattle.version_parts.specs.Placed.{IsWithin}
+use Rattle.version_parts.specs.Placed.{AreUpTo}
 use Rattle.version_parts.specs.States.{no_items, state_at}
 use Rattle.version_chain.specs.declared.version.Version.{Version}
 use Rattle.version_chain.specs.Chains.{ChainView, update_count, newest_state, next_version}
@@ -72,11 +73,11 @@ module _ (dropped before : ℕ) (was now : Lists) (stamps : List Stamp) (kept : 
       have_on dropped dropped base was now kept.history.updates (λ update after within. earlier update (omega (arith, within, whole, count)))
       (λ update after within. let same = counts update (omega (arith, within, whole, count)) in (omega (arith, same), λ none. (none, same))) kept.history.parts
 
-  pub refused_kept : IsWithin before now → ((test : ℕ → Bool) → count_updates test now ≡ count_updates test was) → IsKept dropped now stamps
+  pub refused_kept : AreUpTo before now → ((test : ℕ → Bool) → count_updates test now ≡ count_updates test was) → IsKept dropped now stamps
   refused_kept within counts = record {
     small = kept.small;
     one = kept.one;
-    within = subst (λ (n : ℕ). IsWithin n now) count within;
+    within = subst (λ (n : ℕ). AreUpTo n now) count within;
     start = same_start;
     history = record {
       updates = kept.history.updates;
@@ -86,7 +87,7 @@ module _ (dropped before : ℕ) (was now : Lists) (stamps : List Stamp) (kept : 
     };
   }
 
-  module _ (stamp : Stamp) (ops : List Op) (small : before < 2 ^ 64 - 1) (passes : IsTrue (none_refused ops (state_at before was))) (state : state_at (before + 1) now ≡ state_after ops (state_at before was)) (within : IsWithin (before + 1) now)
+  module _ (stamp : Stamp) (ops : List Op) (small : before < 2 ^ 64 - 1) (passes : IsTrue (none_refused ops (state_at before was))) (state : state_at (before + 1) now ≡ state_after ops (state_at before was)) (within : AreUpTo (before + 1) now)
       (counts : (test : ℕ → Bool) → count_updates test now ≡ count_updates test was + cond (test (before + 1)) (changes ops) 0) (none_later : items_of was (before + 1) ≡ 0) where
     longer : length (stamps ++ stamp ∷ []) ≡ length stamps + 1
     longer = length-append stamps (stamp ∷ [])
@@ -107,7 +108,7 @@ module _ (dropped before : ℕ) (was now : Lists) (stamps : List Stamp) (kept : 
     applied_kept = record {
       small = omega (arith, longer, count, small);
       one = λ some. omega (arith, longer);
-      within = (let same : before + 1 ≡ dropped + length (stamps ++ stamp ∷ []) = omega (arith, longer, count) in subst (λ (n : ℕ). IsWithin n now) same within);
+      within = (let same : before + 1 ≡ dropped + length (stamps ++ stamp ∷ []) = omega (arith, longer, count) in subst (λ (n : ℕ). AreUpTo n now) same within);
       start = same_start;
       history = record {
         updates = kept.history.updates ++ ops ∷ [];
@@ -156,7 +157,7 @@ module _ (dropped newest : ℕ) (was now : Lists) (stamps rest gone : List Stamp
       (sym (kept_append was dropped rest gone) ∙ ap (kept_from dropped was) (sym is) ∙ before)
       (kept_length was (dropped + length rest) gone ∙ one)
 
-  module _ (within : IsWithin newest now) (counts : (test : ℕ → Bool) → count_updates test now ≡ count_updates (λ update. test update && nat_le update newest) was) where
+  module _ (within : AreUpTo newest now) (counts : (test : ℕ → Bool) → count_updates test now ≡ count_updates (λ update. test update && nat_le update newest) was) where
     abbrev left : List (List Op)
     left = take (length kept.history.updates - 1) kept.history.updates
 
@@ -176,7 +177,7 @@ module _ (dropped newest : ℕ) (was now : Lists) (stamps rest gone : List Stamp
     taken_kept = record {
       small = (let small = kept.small in omega (arith, small, one_less));
       one = some_left;
-      within = subst (λ (n : ℕ). IsWithin n now) count within;
+      within = subst (λ (n : ℕ). AreUpTo n now) count within;
       start = λ none. states 0 (omega arith) ∙ kept.start none;
       history = record {
         updates = left;
@@ -206,7 +207,7 @@ module _ (dropped older : ℕ) (was now : Lists) (stamps : List Stamp) (kept : I
   pub collected_versions : kept_from gone now (drop older stamps) ≡ drop older (kept_from dropped was stamps)
   collected_versions = kept_same now was gone (drop older stamps) (λ update after within. states update (omega (arith, after))) ∙ kept_drop was dropped older stamps
 
-  module _ (within : IsWithin (dropped + length stamps) now) (counts : (test : ℕ → Bool) → count_updates test now ≤ count_updates test was)
+  module _ (within : AreUpTo (dropped + length stamps) now) (counts : (test : ℕ → Bool) → count_updates test now ≤ count_updates test was)
       (oldest : count_updates (λ update. nat_le update (gone + 1)) now ≤ size_of (state_at (gone + 1) was)) where
     abbrev past : ℕ
     past = gone + 1 - base_of dropped
@@ -234,7 +235,7 @@ module _ (dropped older : ℕ) (was now : Lists) (stamps : List Stamp) (kept : I
     collected_kept = record {
       small = (let small = kept.small in omega (arith, small, left_length, inside));
       one = λ any. omega (arith, left_length, inside);
-      within = (let same : dropped + length stamps ≡ gone + length (drop older stamps) = omega (arith, left_length, inside) in subst (λ (n : ℕ). IsWithin n now) same within);
+      within = (let same : dropped + length stamps ≡ gone + length (drop older stamps) = omega (arith, left_length, inside) in subst (λ (n : ℕ). AreUpTo n now) same within);
       start = λ none. absurd (omega (arith, none, some));
       history = record {
         updates = drop past kept.history.updates;
@@ -252,7 +253,7 @@ module _ (dropped older : ℕ) (was now : Lists) (stamps : List Stamp) (kept : I
 -- The number of parts
 
 module _ (dropped : ℕ) (lists : Lists) (stamps : List Stamp) (kept : IsKept dropped lists stamps) (parts : ℕ) (is : parts ≡ count_of lists)
-    (counted : (newest : ℕ) → IsWithin newest lists → count_updates (λ update. nat_le update newest) lists ≡ count_of lists)
+    (counted : (newest : ℕ) → AreUpTo newest lists → count_updates (λ update. nat_le update newest) lists ≡ count_of lists)
     (one_more : (update : ℕ) → count_updates (λ other. nat_le other (update + 1)) lists ≡ count_updates (λ other. nat_le other update) lists + items_of lists (update + 1)) where
   abbrev first_base : ℕ
   first_base = base_of dropped

@@ -1,4 +1,5 @@
 -- What a collection leaves: no view changes for a program whose clock the bound is at most.
+-- Used by `collections_leave_views` and Changed.
 use Rattle.std.proofs.Common.{◌≡◌, ℕ, zero, suc, ◌+◌, ◌-◌, ◌<◌, ◌≤◌, Bool, true, false, not, List, [], ◌∷◌, ◌++◌, take, drop, length, slice_get, IsTrue, ◌⊎◌, inl, inr, Option, None, Some, refl, sym, ap, subst, ◌∙◌, arith}
 use Rattle.std.specs.Prelude.{pred, fold}
 use Rattle.std.specs.List.{list_any}
@@ -12,6 +13,8 @@ use Rattle.vector_stamp.specs.declared.clock.Stamp.{Stamp}
 use Rattle.vector_stamp.specs.Order.{is_before, is_at_most, stamp_before}
 use Rattle.vector_stamp.specs.Precedence.{Given, precedes}
 use Rattle.vector_stamp.specs.Seeing.{with_front, last_place, is_seen, seen_of, last_seen}
+use Rattle.vector_stamp.proofs.LastPlaces.{front-first, last-dropped, place-drop}
+use Rattle.vector_stamp.proofs.Seen.{place-within}
 use Rattle.version_chain.specs.declared.version.Version.{Version}
 use Rattle.version_chain.specs.Chains.{ChainView, update_count, stamps_of, newest_state}
 use Rattle.version_chain.specs.Views.{kept_seen, view_of, ReachesBack}
@@ -19,38 +22,12 @@ use Rattle.version_chain.specs.Collection.{older_versions, collected}
 
 -- The last element that passes a test
 
-front-within : (front : Bool) (place n : ℕ) → place ≤ n → with_front front place ≤ suc n
-front-within true zero n within = omega arith
-front-within false zero n within = omega arith
-front-within front (suc place) n within = omega (arith, within)
-
-front-less : (front : Bool) (place n : ℕ) → place - n ≡ with_front front place - suc n
-front-less true zero n = omega arith
-front-less false zero n = omega arith
-front-less front (suc place) n = omega arith
-
-front-first : (front : Bool) (place : ℕ) → front ≡ true → 0 < with_front front place
-front-first true zero is = omega arith
-front-first true (suc place) is = omega arith
-front-first false place is = absurd cc
-
 front-past : (front : Bool) (place k : ℕ) → k < place → suc k < with_front front place
 front-past front zero k below = absurd (omega (arith, below))
 front-past front (suc place) k below = omega (arith, below)
 
 module _ {A : Type 0} (test : A → Bool) where
-  -- it is in the list
-  pub place-within : (xs : List A) → last_place test xs ≤ length xs
-  place-within [] = omega arith
-  place-within (x ∷ xs) = front-within (test x) (last_place test xs) (length xs) (place-within xs)
-
-  -- its place is nearer the front if some are dropped there
-  pub place-drop : (n : ℕ) (xs : List A) → last_place test (drop n xs) ≡ last_place test xs - n
-  place-drop zero xs = omega arith
-  place-drop (suc n) [] = omega arith
-  place-drop (suc n) (x ∷ xs) = place-drop n xs ∙ front-less (test x) (last_place test xs) n
-
-  -- it passes
+  -- its place has one that passes
   pub place-passes : (xs : List A) (n : ℕ) → last_place test xs ≡ suc n → IsSomeAnd (slice_get xs n) (λ x. IsTrue (test x))
   place-passes [] n e = absurd (omega (arith, e))
   place-passes (x ∷ xs) n e = at (last_place test xs) (test x) refl (λ k is. place-passes xs k is) n e
@@ -67,20 +44,8 @@ module _ {A : Type 0} (test : A → Bool) where
   -- and none that passes is past it
   pub place-past : (xs : List A) (k : ℕ) → IsSomeAnd (slice_get xs k) (λ x. IsTrue (test x)) → k < last_place test xs
   place-past [] k passes = absurd passes
-  place-past (x ∷ xs) zero passes = front-first (test x) (last_place test xs) passes
+  place-past (x ∷ xs) zero passes = omega (arith, front-first (test x) (last_place test xs) passes)
   place-past (x ∷ xs) (suc k) passes = front-past (test x) (last_place test xs) k (place-past xs k passes)
-
-last-of-none : (n : ℕ) → last_seen n [] ≡ []
-last-of-none zero = refl
-last-of-none (suc n) = refl
-
--- the last of the first ones, if some before it are dropped
-last-dropped : (n place all : ℕ) (updates : List Stamp) → all ≡ n + place → 1 ≤ place → last_seen all updates ≡ last_seen place (drop n updates)
-last-dropped zero place all updates is some = let same : all ≡ place = omega (arith, is) in ap (λ (m : ℕ). last_seen m updates) same
-last-dropped (suc n) place all [] is some = last-of-none all ∙ sym (last-of-none place)
-last-dropped (suc n) place zero (update ∷ updates) is some = absurd (omega (arith, is, some))
-last-dropped (suc n) place (suc zero) (update ∷ updates) is some = absurd (omega (arith, is, some))
-last-dropped (suc n) place (suc (suc all)) (update ∷ updates) is some = last-dropped n place (suc all) updates (omega (arith, is)) some
 
 -- the newest state of some versions, whatever was before them
 newest-some : (state : State) (versions : List Version) → 1 ≤ length versions → fold (λ (before : State) (version : Version). version.state) state versions ≡ newest_state versions

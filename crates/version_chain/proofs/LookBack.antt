@@ -1,4 +1,5 @@
--- Looking back from the newest version: what was passed over is not seen, and the first one that is seen is the last one of the view.
+-- Looking back from the newest version: what was skipped isn't seen; the first version seen is the last of the view.
+-- Used by `ask`, `look_back`, `older_versions`, `view_at` and Changed.
 use Rattle.std.proofs.Common.{◌≡◌, ℕ, zero, suc, ◌+◌, Bool, true, false, cond, not, List, [], ◌∷◌, ◌++◌, take, length, Contains, IsTrue, inl, inr, Option, Some, None, refl, sym, ap, subst, ◌∙◌, append_assoc, arith}
 use Rattle.std.specs.List.{list_any}
 use Rattle.std.proofs.Math.Bool.{or-false}
@@ -9,7 +10,7 @@ use Rattle.std.specs.Option.{IsSomeAnd}
 use Rattle.std.specs.declared.alloc.AllocError.{AllocError}
 use Rattle.std.proofs.lemmas.List.Sums.{fold-append}
 use Rattle.std.proofs.lemmas.List.Elements.{Contains-append_left, Contains-append_right}
-use Rattle.proof_base.proofs.Members.{has_none, has_read, has_head, has_tail, has_last, has_map, any_from}
+use Rattle.weave_data.proofs.Members.{has_none, has_read, has_head, has_tail, has_last, has_map, any_from}
 use Rattle.vector_stamp.specs.declared.clock.Stamp.{Stamp}
 use Rattle.vector_stamp.specs.Order.{stamp_before, unordered}
 use Rattle.vector_stamp.specs.Coherence.{AreCoherent}
@@ -147,7 +148,7 @@ pub seen_on : (pairs others : List Given) (program : Stamp) (newest : Version) �
 seen_on pairs others program newest same seen result is says =
     sym is ∙ says ∙ ap (λ (ps : List Given). cond (is_seen ps program newest.stamp) (Some (record { state = newest.state; settled = not (precedes ps newest.stamp program) })) None) same
 
--- what the judge gained by the look that saw, told of the whole view
+-- what the judge gained by the look that saw, said of the whole view
 pub pairs_seen : (result : Option Seen) (seen : Seen) (update program : Stamp) (read : List Stamp) (old mid new : List Given) → result ≡ Some seen → read ≡ update ∷ [] → mid ≡ old
     → new ≡ mid ++ pairs_of (additions_from 0 mid (read_of result update) program) program → new ≡ old ++ pairs_of (additions_from 0 old read program) program
 pairs_seen (Some other) seen update program read old mid new is read_is same gained =

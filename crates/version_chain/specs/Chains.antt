@@ -39,7 +39,8 @@ with_version newest chain = record chain { kept = chain.kept ++ newest ∷ [] }
 abbrev pub with_update : Stamp → List Op → ChainView → ChainView
 with_update stamp ops chain = with_version (next_version stamp ops chain.kept) chain
 
--- an update is the chain's next: `before` updates were applied, a number of 64 bits holds one more, and its operations pass on the newest state
+-- an update is the chain's next: `before` updates were applied, a number of 64 bits holds one more, and its operations
+-- pass on the newest state
 pub record IsNextUpdate (chain : ChainView) (before : ℕ) (ops : List Op) : Type 0 where
   pub count : before ≡ update_count chain
   pub small : before < 2 ^ 64 - 1

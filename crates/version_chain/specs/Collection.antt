@@ -6,7 +6,8 @@ use Rattle.vector_stamp.specs.Seeing.{last_place}
 use Rattle.version_chain.specs.declared.version.Version.{Version}
 use Rattle.version_chain.specs.Chains.{ChainView}
 
--- how many of these versions are older than the newest one whose clock is before the bound; 0 if there is no such version
+-- how many of these versions are older than the newest one whose clock is before the bound; 0 if there is no such
+-- version
 abbrev pub older_versions : Clock → List Version → ℕ
 older_versions bound versions = pred (last_place (λ (version : Version). is_before version.stamp.clock bound) versions)
 

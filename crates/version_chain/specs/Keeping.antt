@@ -5,20 +5,21 @@ use Rattle.graph_ops.specs.VertexOps.{state_after, none_refused}
 use Rattle.vector_stamp.specs.declared.clock.Stamp.{Stamp}
 use Rattle.version_parts.specs.declared.lists.Lists.{Lists}
 use Rattle.version_parts.specs.Counts.{count_updates, changes, size_of}
-use Rattle.version_parts.specs.Placed.{IsWithin}
+use Rattle.version_parts.specs.Placed.{AreUpTo}
 use Rattle.version_parts.specs.States.{state_at}
 use Rattle.version_chain.specs.declared.version.Version.{Version}
 
 -- the versions of updates with these stamps, before which that many were applied
 abbrev pub kept_from : ℕ → Lists → List Stamp → List Version
 kept_from before lists [] = []
-kept_from before lists (stamp ∷ stamps) = record { stamp = stamp; state = state_at (before + 1) lists } ∷ kept_from (before + 1) lists stamps
+kept_from before lists (stamp ∷ stamps) =
+    record { stamp = stamp; state = state_at (before + 1) lists } ∷ kept_from (before + 1) lists stamps
 
 -- after how many updates the first state is known: from the start, or after the oldest one that is kept
 abbrev pub base_of : ℕ → ℕ
 base_of dropped = cond (dropped == 0) 0 (dropped + 1)
 
--- as many items as operations that change something; not more, if versions were dropped
+-- no more items than operations that change something, and the same number if no version was dropped
 pub record IsCounted (dropped items operations : ℕ) : Type 0 where
   pub most : items ≤ operations
   pub exact : dropped ≡ 0 → items ≡ operations
@@ -37,12 +38,13 @@ pub record HasHistory (dropped : ℕ) (lists : Lists) (kept : ℕ) : Type 0 wher
   pub updates : List (List Op)
   pub count : base_of dropped + length updates ≡ dropped + kept
   pub parts : HaveParts dropped (base_of dropped) lists updates
-  pub older : count_updates (λ update. nat_le update (base_of dropped)) lists ≤ size_of (state_at (base_of dropped) lists)
+  pub older : count_updates (λ update. nat_le update (base_of dropped)) lists ≤ size_of
+      (state_at (base_of dropped) lists)
 
 -- what a chain keeps
 pub record IsKept (dropped : ℕ) (lists : Lists) (stamps : List Stamp) : Type 0 where
   pub small : dropped + length stamps < 2 ^ 64
   pub one : 1 ≤ dropped → 1 ≤ length stamps
-  pub within : IsWithin (dropped + length stamps) lists
+  pub within : AreUpTo (dropped + length stamps) lists
   pub start : dropped ≡ 0 → state_at 0 lists ≡ None
   pub history : HasHistory dropped lists (length stamps)

@@ -11,7 +11,8 @@ use Rattle.version_chain.specs.Chains.{ChainView}
 abbrev pub ResultFrom : State → List (List Op) → List Version → Type 0
 ResultFrom state [] [] = Unit {0}
 ResultFrom state (ops ∷ updates) (version ∷ versions) =
-    IsTrue (none_refused ops state) × (version.state ≡ state_after ops state) × ResultFrom version.state updates versions
+    IsTrue (none_refused ops state) × (version.state ≡ state_after ops state)
+    × ResultFrom version.state updates versions
 ResultFrom state _ _ = ⊥
 
 -- the versions after the oldest one result from it
@@ -31,8 +32,10 @@ all_changes (ops ∷ updates) = changes ops + all_changes updates
 
 -- if nothing was dropped, there are as many parts as operations other than `get` in all updates
 abbrev pub IsPartCount : ChainView → ℕ → Type 0
-IsPartCount chain parts = (updates : List (List Op)) × ResultFrom None updates chain.kept × (parts ≡ all_changes updates)
+IsPartCount chain parts = (updates : List (List Op)) × ResultFrom None updates chain.kept
+    × (parts ≡ all_changes updates)
 
--- else no more than in the updates after the oldest version, and parts of its state
+-- otherwise no more than in the updates after the oldest version, and parts of its state
 abbrev pub IsPartBound : ChainView → ℕ → Type 0
-IsPartBound chain parts = (updates : List (List Op)) × ResultFromOldest updates chain.kept × (parts ≤ all_changes updates + size_of (oldest_state chain.kept))
+IsPartBound chain parts = (updates : List (List Op)) × ResultFromOldest updates chain.kept
+    × (parts ≤ all_changes updates + size_of (oldest_state chain.kept))

@@ -1,4 +1,5 @@
--- What a program sees of a vertex: the rule of visits over the versions that are kept (refinable timestamps of Weaver, PVLDB 9(11) 2016).
+-- What a program sees of a vertex: the rule of visits over the versions that are kept (refinable timestamps of Weaver,
+-- PVLDB 9(11) 2016).
 use Rattle.std.specs.Prelude.{ℕ, ◌+◌, ◌≤◌, Bool, not, List, take, IsTrue}
 use Rattle.std.specs.List.{list_any, slice_get}
 use Rattle.std.specs.Option.{IsSomeAnd}
@@ -22,7 +23,8 @@ kept_seen pairs program chain = seen_of pairs program (stamps_of chain.kept)
 abbrev pub read_update : List Given → Stamp → ChainView → List Stamp
 read_update pairs program chain = last_seen (kept_seen pairs program chain) (stamps_of chain.kept)
 
--- what it sees: the state after that version, after how many updates, and whether that version has still to be put before it
+-- what it sees: the state after that version, after how many updates, and whether that version has still to be put
+-- before it
 abbrev pub view_of : List Given → Stamp → ChainView → View
 view_of pairs program chain = record {
   state = newest_state (take (kept_seen pairs program chain) chain.kept);
@@ -36,8 +38,10 @@ put_before pairs program chain = additions_from 0 pairs (read_update pairs progr
 
 -- what is kept reaches back far enough: if versions were dropped, the oldest kept one is before the program
 abbrev pub ReachesBack : Stamp → ChainView → Type 0
-ReachesBack program chain = 1 ≤ chain.dropped → IsSomeAnd (slice_get (stamps_of chain.kept) 0) (λ oldest. IsTrue (stamp_before oldest program))
+ReachesBack program chain = 1 ≤ chain.dropped
+    → IsSomeAnd (slice_get (stamps_of chain.kept) 0) (λ oldest. IsTrue (stamp_before oldest program))
 
 -- what the judge's log gains: an entry if a pair was added
 abbrev pub entries_for : List Given → ℕ → Stamp → ChainView → List SettledEntry
-entries_for pairs author program chain = entries_of_call author (read_update pairs program chain) program (places_of (put_before pairs program chain))
+entries_for pairs author program chain =
+    entries_of_call author (read_update pairs program chain) program (places_of (put_before pairs program chain))

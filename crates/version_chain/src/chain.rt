@@ -21,7 +21,8 @@ use vector_stamp::{Clock, Judge, Stamp};
 use version_parts::Parts;
 use version_parts::laws::items_are_placed;
 
-/// The updates of a vertex. Contracts see how many of the oldest versions were dropped, and of each one that is kept its stamp and the state after it.
+/// The updates of a vertex. Contracts see how many of the oldest versions were dropped, and of each one that is kept
+/// its stamp and the state after it.
 #[derive(Drop)]
 pub struct Chain {
     pub(crate) dropped: u64,
@@ -67,7 +68,8 @@ impl Chain {
         self.stamps.len()
     }
 
-    /// A copy of the state after the newest update: the operations of the next one have to pass on it. It is absent if there is no update. The one error is out of memory.
+    /// A copy of the state after the newest update: the operations of the next one have to pass on it. It is absent if
+    /// there is no update. The one error is out of memory.
     pub fn newest(&self, alloc: Global) -> Result<Option<Record>, AllocError>
         ensures { IfOk result (λ state. state ≡ newest_state self.now.kept) }
     {
@@ -84,7 +86,8 @@ impl Chain {
         self.parts.count()
     }
 
-    /// Applies an update: the operations of a transaction of this stamp, before which that many updates were applied. The one error is out of memory.
+    /// Applies an update: the operations of a transaction of this stamp, before which that many updates were applied.
+    /// The one error is out of memory.
     pub fn apply_update(
         &mut self,
         alloc: Global,
@@ -156,8 +159,11 @@ impl Chain {
         oldest.is_before(stamp)
     }
 
-    /// What a program sees. From the newest version: one whose stamp is after the program's is skipped, one whose stamp is before it is seen, and for an unordered one the judge is asked to put it before the program: it is skipped if the judge refuses, and seen if not.
-    /// The one error is out of memory. It takes the time of the versions that it skips, and copies no record but the one that it answers.
+    /// What a program sees. From the newest version: one whose stamp is after the program's is skipped, one whose stamp
+    /// is before it is seen, and for an unordered one the judge is asked to put it before the program: it is skipped if
+    /// the judge refuses, and seen if not.
+    /// The one error is out of memory. It takes the time of the versions that it skips, and copies no record but the
+    /// one that it answers.
     pub fn view_at<J: Judge>(
         &self,
         alloc: Global,

@@ -17,7 +17,8 @@ use std::test::Fail;
 use vector_stamp::{Clock, Judge, Refusal, Settled, Stamp, are_coherent};
 use weave_data::{Copied, Items};
 
-// A judge for calls with one earlier event. It looks for paths as the definition does, and is out of memory once `is_full` is set.
+// A judge for calls with one earlier event. It looks for paths as the definition does, and is out of memory once
+// `is_full` is set.
 #[derive(Drop)]
 struct TestJudge {
     pairs: Vec<(Stamp, Stamp)>,
@@ -256,7 +257,8 @@ fn judge_of(rt: &impl Abort, alloc: Global, pairs: &[(Stamp, Stamp)]) -> TestJud
     }
 }
 
-// Of a vertex with one update before the program, one unordered with it and one after it the program sees two, and the second is put before it. The second view adds nothing.
+// Of a vertex with one update before the program, one unordered with it and one after it the program sees two, and the
+// second is put before it. The second view adds nothing.
 #[test]
 fn an_unordered_update_is_seen(rt: HostRuntime) {
     let alloc = rt.alloc();
@@ -289,7 +291,8 @@ fn a_refused_update_is_skipped(rt: HostRuntime) {
     assert_eq!(rt; refuses.pairs.len(), 2);
 }
 
-// A vertex without updates is absent, and so is one whose updates are all after the program. Out of memory leaves the judge as it was.
+// A vertex without updates is absent, and so is one whose updates are all after the program. Out of memory leaves the
+// judge as it was.
 #[test]
 fn nothing_is_seen(rt: HostRuntime) {
     let alloc = rt.alloc();
@@ -503,7 +506,8 @@ fn a_property_written_again(rt: &impl Abort, alloc: Global) -> Chain {
 }
 
 // Each update adds what it changes: 64 parts, and 101 more.
-// `take_back` takes one away, and a collection leaves the 65 parts of the oldest kept state and one of the update after it.
+// `take_back` takes one away, and a collection leaves the 65 parts of the oldest kept state and one of the update after
+// it.
 #[test]
 fn parts_are_what_changed(rt: HostRuntime) {
     let alloc = rt.alloc();
@@ -541,7 +545,8 @@ fn has_bare_edge(state: &Option<Record>, edge: Name) -> bool {
     }
 }
 
-// A vertex that is made again has none of the properties and edges that it had, and an edge that is linked again none of its tags.
+// A vertex that is made again has none of the properties and edges that it had, and an edge that is linked again none
+// of its tags.
 #[test]
 fn what_was_deleted_stays_hidden(rt: HostRuntime) {
     let alloc = rt.alloc();

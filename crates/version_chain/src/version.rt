@@ -5,7 +5,8 @@ use std::alloc::{AllocError, Global};
 use vector_stamp::Stamp;
 use weave_data::Copied;
 
-/// The state of a vertex after an update, with the stamp of the update's transaction. Contracts see a chain's versions; no chain keeps whole states.
+/// The state of a vertex after an update, with the stamp of the update's transaction. Contracts see a chain's versions;
+/// no chain keeps whole states.
 #[derive(Drop)]
 pub struct Version {
     pub stamp: Stamp,

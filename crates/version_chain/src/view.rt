@@ -47,7 +47,8 @@ pub(crate) struct Seen {
     pub settled: bool,
 }
 
-/// Looks at one version, of the update of this number: the state if the program sees it, and `None` if it is skipped. An unordered one is seen unless the judge refuses to put it before the program.
+/// Looks at one version, of the update of this number: the state if the program sees it, and `None` if it is skipped.
+/// An unordered one is seen unless the judge refuses to put it before the program.
 pub(crate) fn look<J: Judge>(
     alloc: Global,
     author: u32,
@@ -88,7 +89,8 @@ pub(crate) fn look<J: Judge>(
     }
 }
 
-// Asks the judge to put an unordered version before the program. The state is copied once the judge doesn't refuse, and before it adds the pair: nothing can fail after that.
+// Asks the judge to put an unordered version before the program. The state is copied once the judge doesn't refuse, and
+// before it adds the pair: nothing can fail after that.
 fn ask<J: Judge>(
     alloc: Global,
     author: u32,
@@ -158,7 +160,8 @@ fn is_refused<J: Judge>(
     }
 }
 
-/// Looks back from the newest update to the first one that the program sees. `dropped` versions are gone before those given.
+/// Looks back from the newest update to the first one that the program sees. `dropped` versions are gone before those
+/// given.
 pub(crate) fn look_back<J: Judge>(
     alloc: Global,
     author: u32,

@@ -1,14 +1,12 @@
 -- Chains in a table: what it has at each vertex, after a part was applied or taken back.
+-- Used by `apply_all`, `apply_parts`, `chain`, `make_place`, `new`, `take_all_back`, `update` and Collecting.
 use Rattle.std.proofs.Common.{◌≡◌, ◌≢◌, ℕ, suc, ◌+◌, ◌<◌, Bool, true, false, cond, List, [], ◌∷◌, ◌++◌, length, take, get_or, All, Option, None, Some, is_some, inl, inr, refl, sym, ap, subst, ◌∙◌, arith}
 use Rattle.std.specs.Prelude.{◌==◌, AllPairs, Result, Ok, Err, OnOk, OnErr}
 use Rattle.std.specs.FinMap as map
 use Rattle.std.specs.FinMap.{nat_cmp-IsAntisymmetric, slice_cmp-IsAntisymmetric, same_map, get-insert, get-remove, get-empty}
 use Rattle.std.specs.Cmp.Lexicographic.{nat_list_cmp_total}
-use Rattle.std.specs.declared.cmp.Ordering.{Ordering}
-use Rattle.std.specs.declared.cmp.Ordering.TheVariants.{Less, Equal, Greater}
-use Rattle.std.specs.Ordering.{is_eq, ordering_reverse}
 use Rattle.std.proofs.lemmas.List.Elements.{All-push, All-contains}
-use Rattle.proof_base.proofs.Members.{has_last}
+use Rattle.weave_data.proofs.Members.{has_last}
 use Rattle.std.specs.Map.{lookup}
 use Rattle.std.proofs.lemmas.Bool.Decides.{eqb_tells}
 use Rattle.std.proofs.lemmas.Bool.{ne_eqb, eq-eqb, cases_Bool}
@@ -17,19 +15,13 @@ use Rattle.std.proofs.lemmas.List.Sums.{fold-append}
 use Rattle.weave_data.specs.Names.{name_cmp, same_name, one_name}
 use Rattle.weave_data.specs.declared.name.Name.{Name}
 use Rattle.graph_ops.specs.declared.part.Part.{Part}
+use Rattle.graph_ops.proofs.States.{here_or_else}
+use Rattle.graph_ops.proofs.Vertices.{itself}
 use Rattle.vector_stamp.specs.declared.clock.Stamp.{Stamp}
 use Rattle.version_chain.specs.declared.version.Version.{Version}
 use Rattle.version_chain.specs.Chains.{ChainView, no_updates, update_count, with_version, with_update, next_version, IsNextUpdate, KeepsOne}
 use Rattle.version_graph.specs.Graphs.{Chains, chain_of, chain_or_new, after_part, after_parts}
 use Rattle.version_graph.specs.Tables.{with_updates, chain_at, with_chain, held, at_vertex, HasNewest, WereApplied}
-
--- what holds at a name, where the names are one, and at every name, where they are two
-here_or_else : (v : Name) (P : Name → Bool → Type 0) → P v true → ((q : Name) → P q false) → (q : Name) → P q (same_name v q)
-here_or_else v P here other q =
-    elim (same_name v q) as (λ b. same_name v q ≡ b → P q b) [
-      | true ↦ λ same. subst (λ k. P k true) (one_name v q same) here
-      | false ↦ λ _. other q
-    ] refl
 
 -- Chains with and without updates
 
@@ -156,14 +148,6 @@ pub one_more : (stamp : Stamp) (v : Name) (chain : Option ChainView) (parts : Li
 one_more stamp v chain parts n d below =
     ap (after_parts stamp v chain) (take_more parts n d below) ∙ fold-append (after_part stamp v) chain (take n parts) (get_or parts n d ∷ [])
 
-tied : (o : Ordering) → o ≡ ordering_reverse o → is_eq o ≡ true
-tied Less e = absurd cc
-tied Equal e = refl
-tied Greater e = absurd cc
-
-pub same_itself : (v : Name) → same_name v v ≡ true
-same_itself v = tied (name_cmp v v) (nat_list_cmp_total.antisymm v v)
-
 All-last : {A : Type 0} (P : A → Type 0) (xs : List A) (x : A) → All P (xs ++ x ∷ []) → P x
 All-last P xs x all = All-contains P (xs ++ x ∷ []) x all (has_last xs x)
 
@@ -190,7 +174,10 @@ module _ (stamp : Stamp) (rest earlier : List Part) (last : Part) (before now : 
   base_last = All-last (λ (part : Part). KeepsOne (chain_or_new (chain_at part.vertex before))) earlier last (subst (All (λ (part : Part). KeepsOne (chain_or_new (chain_at part.vertex before)))) split were.base)
 
   pub last_is : chain_at last.vertex now ≡ Some (with_update stamp last.ops (chain_or_new (after_parts stamp last.vertex (chain_at last.vertex before) earlier)))
-  last_is = applied_last last.vertex ∙ ap (λ (b : Bool). cond b (Some (with_update stamp last.ops (chain_or_new (after_parts stamp last.vertex (chain_at last.vertex before) earlier)))) (after_parts stamp last.vertex (chain_at last.vertex before) earlier)) (same_itself last.vertex)
+  last_is = applied_last last.vertex ∙ ap
+      (λ (b : Bool). cond b (Some (with_update stamp last.ops
+      (chain_or_new (after_parts stamp last.vertex (chain_at last.vertex before) earlier))))
+      (after_parts stamp last.vertex (chain_at last.vertex before) earlier)) (itself last.vertex)
 
   pub last_newest : HasNewest (chain_at last.vertex now)
   last_newest = subst HasNewest (sym last_is) (newest_of (next_version stamp last.ops (chain_or_new (after_parts stamp last.vertex (chain_at last.vertex before) earlier)).kept) (chain_or_new (after_parts stamp last.vertex (chain_at last.vertex before) earlier)) (base_parts stamp last.vertex (chain_at last.vertex before) earlier base_last))
@@ -232,7 +219,7 @@ get_held (slot ∷ rest) q =
 pub seen_at : (table : List (Name × ChainView)) (chains : Chains) → held table ≡ chains → (v : Name) → chain_at v table ≡ chain_of chains v
 seen_at table chains view v = sym (get_held table v) ∙ ap (λ (c : Chains). chain_of c v) view
 
--- tables with the same chains are one graph
+-- tables with the same chains give the same graph
 pub unchanged : (table others : List (Name × ChainView)) (chains : Chains) → held others ≡ chains → ((v : Name) → chain_at v table ≡ chain_at v others) → held table ≡ chains
 unchanged table others chains view same =
     same_map nat_list_cmp_total (slice_cmp-IsAntisymmetric nat_cmp-IsAntisymmetric) _ _ (λ q. get_held table q ∙ same q ∙ sym (get_held others q)) ∙ view
@@ -272,7 +259,7 @@ pub one_on : (stamp : Stamp) (parts : List Part) (n : ℕ) (part : Part) (before
 one_on stamp parts n part before now next is below apart were more base =
     applied_on stamp parts n part before now next below were (λ v. more v ∙ ap (after_part stamp v (chain_at v now)) is) (base_here stamp parts n part before now is below apart were base)
 
--- if a part found no memory the chains are as before it
+-- if a part ran out of memory, the chains are as before it
 pub were_same : (stamp : Stamp) (parts : List Part) (before now next : List (Name × ChainView)) → WereApplied stamp parts before now → ((v : Name) → chain_at v next ≡ chain_at v now) → WereApplied stamp parts before next
 were_same stamp parts before now next were same = record { applied = λ v. same v ∙ were.applied v; base = were.base }
 

@@ -1,4 +1,5 @@
 -- Chains in a table of which each was collected.
+-- Used by `collect_all` and `collect_each`.
 use Rattle.std.proofs.Common.{◌≡◌, ℕ, Bool, true, false, cond, List, map, Option, None, Some, refl, sym, ap, ◌∙◌}
 use Rattle.std.specs.Prelude.{◌==◌}
 use Rattle.std.specs.Map.{lookup}

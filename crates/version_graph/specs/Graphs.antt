@@ -42,10 +42,18 @@ pub record AreNextUpdates (chains : Chains) (parts : List Part) : Type 0 where
 -- By which values chains are told apart
 
 abbrev pub coded_stamp : Coded Stamp
-coded_stamp = code_by (ℕ × (ℕ × List ℕ)) (coded× coded_ℕ (coded× coded_ℕ (coded_list coded_ℕ))) (λ s. (s.home, (s.clock.epoch, s.clock.counts))) (λ p. record { home = p.0; clock = record { epoch = p.1.0; counts = p.1.1 } }) (λ _. refl)
+coded_stamp =
+    code_by (ℕ × (ℕ
+    × List ℕ)) (coded× coded_ℕ (coded× coded_ℕ (coded_list coded_ℕ))) (λ s. (s.home, (s.clock.epoch, s.clock.counts)))
+    (λ p. record { home = p.0; clock = record { epoch = p.1.0; counts = p.1.1 } }) (λ _. refl)
 
 abbrev pub coded_version : Coded Version
-coded_version = code_by (Stamp × Option Record) (coded× coded_stamp (coded_option coded_record)) (λ v. (v.stamp, v.state)) (λ p. record { stamp = p.0; state = p.1 }) (λ _. refl)
+coded_version =
+    code_by (Stamp
+    × Option Record) (coded× coded_stamp (coded_option coded_record)) (λ v. (v.stamp, v.state))
+    (λ p. record { stamp = p.0; state = p.1 }) (λ _. refl)
 
 abbrev pub coded_chain : Coded ChainView
-coded_chain = code_by (ℕ × List Version) (coded× coded_ℕ (coded_list coded_version)) (λ c. (c.dropped, c.kept)) (λ p. record { dropped = p.0; kept = p.1 }) (λ _. refl)
+coded_chain =
+    code_by (ℕ × List Version) (coded× coded_ℕ (coded_list coded_version)) (λ c. (c.dropped, c.kept))
+    (λ p. record { dropped = p.0; kept = p.1 }) (λ _. refl)

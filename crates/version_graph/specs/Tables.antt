@@ -1,4 +1,5 @@
--- The table in which a graph keeps its chains: a chain may be left there without updates, if a part was taken back. No public contract cites this.
+-- The table in which a graph keeps its chains: a chain may be left there without updates, if a part was taken back. No
+-- public contract cites this.
 use Rattle.std.specs.Prelude.{◌≡◌, All, ◌≤◌, ◌==◌, length, List, [], ◌∷◌, Option, None, Some, if◌then◌else◌}
 use Rattle.std.specs.FinMap as map
 use Rattle.std.specs.Map.{lookup}

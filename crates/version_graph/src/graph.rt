@@ -18,7 +18,8 @@ use version_chain::Chain;
 use version_chain::laws::collections_leave_views;
 use weave_data::Name;
 
-/// The chains of a shard's vertices, in the order of their first updates. Contracts see a finite map from names to chains, with those alone that have updates.
+/// The chains of a shard's vertices, in the order of their first updates. Contracts see a finite map from names to
+/// chains, with those alone that have updates.
 #[derive(Drop)]
 pub struct VersionGraph {
     table: Table,

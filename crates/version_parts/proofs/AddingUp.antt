@@ -1,4 +1,5 @@
 -- The items of updates add up.
+-- Used by `items_are_placed`.
 use Rattle.std.proofs.Common.{◌≡◌, ◌≤◌, ◌<◌, ◌+◌, ◌==◌, inl, inr, ℕ, Bool, true, false, cond, List, [], ◌∷◌, refl, sym, ap, ◌∙◌, arith}
 use Rattle.std.specs.Prelude.{nat_le}
 use Rattle.std.proofs.lemmas.Bool.{le-leb, lt-leb, eq-eqb, ne_eqb, cases_lt}
@@ -7,11 +8,11 @@ use Rattle.version_parts.specs.declared.edge.EdgeItems.{EdgeItems}
 use Rattle.version_parts.specs.declared.lists.Lists.{Lists}
 use Rattle.version_parts.specs.declared.track.Item.{Item}
 use Rattle.version_parts.specs.Counts.{total, count_items, count_edge, count_updates, count_of}
-use Rattle.version_parts.specs.Placed.{IsWithin}
+use Rattle.version_parts.specs.Placed.{AreUpTo}
 use Rattle.version_parts.specs.States.{Tracks}
 use Rattle.version_parts.proofs.Placing.{lists_weaker, counts_agree}
 
--- a test that passes where one of two others does
+-- a test that passes if one of two others does
 module _ (test first second : ℕ → Bool) (parts : (n : ℕ) → cond (test n) 1 0 ≡ cond (first n) 1 0 + cond (second n) 1 0) where
   items_sum : {X : Type 0} (items : List (Item X)) → count_items test items ≡ count_items first items + count_items second items
   items_sum [] = omega arith
@@ -31,12 +32,12 @@ module _ (test first second : ℕ → Bool) (parts : (n : ℕ) → cond (test n)
 none_pass : (lists : Lists) → count_updates (λ update. false) lists ≡ 0
 none_pass lists = let twice = lists_sum (λ update. false) (λ update. false) (λ update. false) (λ n. refl) lists in omega (arith, twice)
 
-pub all_counted : (newest : ℕ) (lists : Lists) → IsWithin newest lists → count_updates (λ update. nat_le update newest) lists ≡ count_of lists
+pub all_counted : (newest : ℕ) (lists : Lists) → AreUpTo newest lists → count_updates (λ update. nat_le update newest) lists ≡ count_of lists
 all_counted newest lists within =
     counts_agree (λ update. nat_le update newest) (λ update. true) lists
     (lists_weaker (λ time. time.update ≤ newest) (λ time. nat_le time.update newest ≡ true) (λ time old. le-leb time.update newest old) lists within)
 
-pub none_later : (newest update : ℕ) (lists : Lists) → newest < update → IsWithin newest lists → count_updates (λ other. other == update) lists ≡ 0
+pub none_later : (newest update : ℕ) (lists : Lists) → newest < update → AreUpTo newest lists → count_updates (λ other. other == update) lists ≡ 0
 none_later newest update lists later within =
     counts_agree (λ other. other == update) (λ other. false) lists
     (lists_weaker (λ time. time.update ≤ newest) (λ time. (time.update == update) ≡ false) (λ time old. ne_eqb time.update update (λ same. omega (arith, old, later, same))) lists within)

@@ -1,17 +1,16 @@
 -- How many items there are after an operation, and after a cut.
+-- Used by `collect`, `count_edge`, `count_edge_pairs`, `count_of`, `count_pairs`, `cut`, `take_back` and Updating.
 use Rattle.std.proofs.Common.{◌≡◌, ◌≤◌, ◌<◌, ◌+◌, ℕ, Bool, true, false, not, ◌&&◌, ◌||◌, cond, List, [], ◌∷◌, ◌++◌, filter, length, drop, get_or, drop-cons, add-one, Option, Some, None, is_some, IfSome, refl, sym, ap, ◌∙◌, subst, arith}
 use Rattle.std.specs.Prelude.{nat_le}
 use Rattle.std.specs.declared.cmp.Ordering.TheVariants.{Less, Equal, Greater}
 use Rattle.std.specs.Map.{keys_of}
 use Rattle.std.specs.Option.{option_map, option_and_then}
 use Rattle.std.specs.Ordering.{match_ordering, is_eq}
-use Rattle.std.proofs.lemmas.Bool.{le-leb, lt-leb, leb-true, leb-false, and_parts}
 use Rattle.std.proofs.lemmas.Map.Keys.{sorted_tail}
 use Rattle.weave_data.specs.declared.name.Name.{Name}
 use Rattle.weave_data.specs.Names.{name_cmp}
 use Rattle.weave_data.specs.Pairs.{IsRising, at_key, put}
 use Rattle.graph_ops.specs.declared.op.Op.{Op}
-use Rattle.graph_ops.specs.declared.op.Op.TheVariants.{Create, Delete, Set, Unset, Link, Unlink, Tag, Untag, Get}
 use Rattle.graph_ops.specs.declared.record.Edge.{Edge}
 use Rattle.version_parts.specs.declared.cut.Cut.{Cut}
 use Rattle.version_parts.specs.declared.cut.Cut.TheVariants.{Newer, Older}
@@ -19,14 +18,15 @@ use Rattle.version_parts.specs.declared.edge.EdgeItems.{EdgeItems}
 use Rattle.version_parts.specs.declared.lists.Lists.{Lists}
 use Rattle.version_parts.specs.declared.time.Time.{Time}
 use Rattle.version_parts.specs.declared.track.Item.{Item}
-use Rattle.version_parts.specs.Counts.{has_items, total, count_items, count_edge, count_updates, count_of, changes_of, size_of}
-use Rattle.version_parts.specs.Cuts.{left_items, cut_tracks, cut_edge, has_some, left_edge, cut_edges, cut_lists, until, collected}
+use Rattle.version_parts.specs.Counts.{has_items, total, count_items, count_edge, count_updates, changes_of, size_of}
+use Rattle.version_parts.specs.Cuts.{left_items, cut_tracks, cut_edge, left_edge, cut_edges, cut_lists, until, collected}
 use Rattle.version_parts.specs.KeptValues.{with_value, kept_values}
-use Rattle.version_parts.specs.Ordered.{TagsRise, KeysRise}
-use Rattle.version_parts.specs.States.{Tracks, value_at, values_at, live_edge, edge_at, edges_at, record_at, state_at, items_or_none, with_item, edge_or_none, with_edge_item, with_item_of, with_op}
-use Rattle.version_parts.specs.Times.{beginning, counts}
+use Rattle.version_parts.specs.Ordered.{TagsRise, KeysRise, KeysRiseFor}
+use Rattle.version_parts.specs.States.{Tracks, value_at, values_at, live_edge, edge_at, edges_at, record_at, state_at, items_or_none, with_item, edge_or_none, with_edge_item, with_item_of, with_op, Written, NoItem, OfVertex, OfProp, OfEdge, with_written, written_by}
+use Rattle.version_parts.specs.Times.{beginning}
 use Rattle.version_parts.specs.Tracks.{or_else, unless_later, last_at, shown, live_at, since_at, from_oldest, cut_items, inner_cut}
-use Rattle.version_parts.proofs.KeptLaws.{none_above, above_less, kept_none}
+use Rattle.version_parts.proofs.KeptLaws.{none_above, above_less}
+use Rattle.version_parts.proofs.OneMore.{items_of_written, one_item}
 
 -- the number of a value, 0 if there is none
 abbrev pub of_option : {A : Type 0} → (A → ℕ) → Option A → ℕ
@@ -200,16 +200,17 @@ no_change : (b : Bool) (n : ℕ) → n ≡ n + cond b 0 0
 no_change true n = omega arith
 no_change false n = omega arith
 
+written_count : (test : ℕ → Bool) (time : Time) (written : Written) (lists : Lists) → IsRising {X = List (Item Name)} [] → KeysRiseFor written lists
+    → count_updates test (with_written time written lists) ≡ count_updates test lists + cond (test time.update) (items_of_written written) 0
+written_count test time NoItem lists none rise = no_change (test time.update) (count_updates test lists)
+written_count test time (OfVertex value) lists none rise = omega (arith, count_push test lists.presence (record { time = time; value = value }))
+written_count test time (OfProp key value) lists none rise = omega (arith, tracks_count test key (record { time = time; value = value }) lists.props rise)
+written_count test time (OfEdge name tag value) lists none rise = omega (arith, edges_count test name tag (record { time = time; value = value }) lists.edges none rise)
+
 pub op_count : (test : ℕ → Bool) (time : Time) (op : Op) (lists : Lists) → IsRising {X = List (Item Name)} [] → KeysRise op lists → count_updates test (with_op time op lists) ≡ count_updates test lists + cond (test time.update) (changes_of op) 0
-op_count test time (Create v) lists none rise = omega (arith, count_push test lists.presence (record { time = time; value = Some tt }))
-op_count test time (Delete v) lists none rise = omega (arith, count_push test lists.presence (record { time = time; value = None }))
-op_count test time (Set v key value) lists none rise = omega (arith, tracks_count test key (record { time = time; value = Some value }) lists.props rise)
-op_count test time (Unset v key) lists none rise = omega (arith, tracks_count test key (record { time = time; value = None }) lists.props rise)
-op_count test time (Link v name target) lists none rise = omega (arith, edges_count test name None (record { time = time; value = Some target }) lists.edges none rise)
-op_count test time (Unlink v name) lists none rise = omega (arith, edges_count test name None (record { time = time; value = None }) lists.edges none rise)
-op_count test time (Tag v name key value) lists none rise = omega (arith, edges_count test name (Some key) (record { time = time; value = Some value }) lists.edges none rise)
-op_count test time (Untag v name key) lists none rise = omega (arith, edges_count test name (Some key) (record { time = time; value = None }) lists.edges none rise)
-op_count test time (Get v) lists none rise = no_change (test time.update) (count_updates test lists)
+op_count test time op lists none rise =
+    written_count test time (written_by op) lists none rise
+    ∙ ap (λ n. count_updates test lists + cond (test time.update) n 0) (sym (one_item op))
 
 -- A cut
 

@@ -1,11 +1,10 @@
 -- What a cut leaves: the states that it spares are as before.
+-- Used by `collect`, `take_back` and Updating.
 use Rattle.std.proofs.Common.{◌≡◌, ◌≤◌, ◌<◌, ◌⊎◌, inl, inr, ℕ, Bool, true, false, not, ◌&&◌, ◌||◌, cond, List, [], ◌∷◌, filter, Option, Some, None, is_some, refl, sym, ap, ◌∙◌, subst, arith}
 use Rattle.std.specs.Prelude.{nat_le}
 use Rattle.std.specs.Option.{option_map, option_and_then}
 use Rattle.std.proofs.lemmas.Bool.{leb-true, leb-false, cases_lt, and_parts}
 use Rattle.weave_data.specs.declared.name.Name.{Name}
-use Rattle.graph_ops.specs.declared.record.Edge.{Edge}
-use Rattle.graph_ops.specs.declared.record.Record.{Record}
 use Rattle.version_parts.specs.declared.cut.Cut.{Cut}
 use Rattle.version_parts.specs.declared.cut.Cut.TheVariants.{Newer, Older}
 use Rattle.version_parts.specs.declared.edge.EdgeItems.{EdgeItems}
@@ -13,13 +12,13 @@ use Rattle.version_parts.specs.declared.lists.Lists.{Lists}
 use Rattle.version_parts.specs.declared.time.Time.{Time}
 use Rattle.version_parts.specs.declared.track.Item.{Item}
 use Rattle.version_parts.specs.Counts.{has_items}
-use Rattle.version_parts.specs.Cuts.{left_items, cut_tracks, cut_edge, has_some, left_edge, cut_edges, cut_lists, until, collected}
-use Rattle.version_parts.specs.KeptValues.{kept_values}
+use Rattle.version_parts.specs.Cuts.{left_items, cut_tracks, cut_edge, left_edge, cut_edges, cut_lists, until, collected}
 use Rattle.version_parts.specs.States.{Tracks, value_at, values_at, live_edge, edge_at, edges_at, record_at, state_at}
 use Rattle.version_parts.specs.Staying.{StaysHidden, Spares}
 use Rattle.version_parts.specs.Times.{beginning, is_later, counts}
 use Rattle.version_parts.specs.Tracks.{or_else, unless_later, last_at, shown, live_at, since_at, from_oldest, cut_items, inner_cut}
 use Rattle.version_parts.proofs.KeptLaws.{kept_alike, kept_twice}
+use Rattle.version_parts.proofs.OneMore.{made_edge, made_record}
 use Rattle.version_parts.proofs.Pushing.{not_later}
 use Rattle.version_parts.proofs.Splitting.{in_time, too_late, or_none}
 
@@ -193,15 +192,12 @@ edge_left update since [] tags =
       | false ↦ refl
     ]
 
-abbrev edge_with : Name → List (Name × Name) → Edge
-edge_with target tags = record { target = target; tags = tags }
-
 edge_stays : (cut : Cut) (update : ℕ) (since : Option Time) (edge : EdgeItems) → Spares cut update since → edge_at update since (cut_edge cut edge) ≡ edge_at update since edge
 edge_stays cut update since edge spares =
     ap (option_map (live_edge update (cut_tracks (inner_cut cut edge.targets) edge.tags))) (live_stays cut update since edge.targets spares)
     ∙ elim (live_at update since edge.targets) as (λ (o : Option (Time × Name)). live_at update since edge.targets ≡ o → option_map (live_edge update (cut_tracks (inner_cut cut edge.targets) edge.tags)) o ≡ option_map (live_edge update edge.tags) o) [
       | None ↦ λ e. refl
-      | Some live ↦ λ e. ap (λ (tags : List (Name × Name)). Some (edge_with live.1 tags)) (values_stay (inner_cut cut edge.targets) update (Some live.0) edge.tags (inner_spares cut update since edge.targets live spares e))
+      | Some live ↦ λ e. ap (λ (tags : List (Name × Name)). Some (made_edge live.1 tags)) (values_stay (inner_cut cut edge.targets) update (Some live.0) edge.tags (inner_spares cut update since edge.targets live spares e))
     ] refl
 
 edges_stay : (cut : Cut) (update : ℕ) (since : Option Time) (edges : List (Name × EdgeItems)) → Spares cut update since → edges_at update since (cut_edges cut edges) ≡ edges_at update since edges
@@ -209,9 +205,6 @@ edges_stay cut update since edges spares =
     kept_twice (left_edge cut) (edge_at update since) edges
     ∙ kept_alike (λ (edge : EdgeItems). option_and_then (edge_at update since) (left_edge cut edge)) (edge_at update since) (λ edge.
     edge_left update since (cut_items cut edge.targets) (cut_tracks (inner_cut cut edge.targets) edge.tags) ∙ edge_stays cut update since edge spares) edges
-
-abbrev record_with : List (Name × Name) → List (Name × Edge) → Record
-record_with props edges = record { props = props; edges = edges }
 
 -- the states that the cut spares
 pub state_stays : (cut : Cut) (update : ℕ) (lists : Lists) → Spares cut update (Some beginning) → state_at update (cut_lists cut lists) ≡ state_at update lists
@@ -223,7 +216,7 @@ state_stays cut update lists spares =
           let inner : Spares (inner_cut cut lists.presence) update (Some live.0) = inner_spares cut update (Some beginning) lists.presence live spares e in
           let props : values_at update (Some live.0) (cut_tracks (inner_cut cut lists.presence) lists.props) ≡ values_at update (Some live.0) lists.props = values_stay (inner_cut cut lists.presence) update (Some live.0) lists.props inner in
           let edges : edges_at update (Some live.0) (cut_edges (inner_cut cut lists.presence) lists.edges) ≡ edges_at update (Some live.0) lists.edges = edges_stay (inner_cut cut lists.presence) update (Some live.0) lists.edges inner in
-          λ i. Some (record_with (props i) (edges i))
+          λ i. Some (made_record (props i) (edges i))
     ] refl
 
 pub until_stays : (newest update : ℕ) (lists : Lists) → update ≤ newest → state_at update (until newest lists) ≡ state_at update lists

@@ -1,4 +1,5 @@
 -- Maps under names of which each value is changed or goes: what a change at one key does to them.
+-- Used by `add_to`, `add_to_edge`, `cut_edge_pairs`, `cut_edges`, `cut_pairs`, `cut_tracks`, `edges_at` and 5 more.
 use Rattle.std.proofs.Common.{◌≡◌, List, [], ◌∷◌, Bool, true, false, cond, Option, Some, None, refl, sym, ap, ◌∙◌, subst}
 use Rattle.std.specs.declared.cmp.Ordering.{Ordering}
 use Rattle.std.specs.declared.cmp.Ordering.TheVariants.{Less, Equal, Greater}
@@ -146,7 +147,7 @@ module _ {A B : Type 0} (f : A → Option B) where
         | Greater ↦ λ greater. value_past key e.0 (f e.1) (kept_values f es) (ap is_eq greater) ∙ rest
       ] refl
 
-  -- nothing is left where nothing is made
+  -- nothing is left if nothing is made
   pub kept_none : (es : List (Name × A)) → AllByRecursion (λ (pair : Name × A). f pair.1 ≡ None) es → kept_values f es ≡ []
   kept_none [] none = refl
   kept_none (e ∷ es) none = ap (λ (o : Option B). with_value e.0 o (kept_values f es)) none.0 ∙ kept_none es none.1
@@ -180,7 +181,7 @@ retained_pairs {A} stays change (e ∷ es) =
       | false ↦ rest
     ]
 
--- where each call of a closure answers and writes by a function, and leaves the closure as it was
+-- if each call of a closure answers and writes by a function, and leaves the closure as it was
 pub retained_in_turn : {S X : Type 0} (R : S → X → Bool → S → X → Type 0) (f : S) (test : X → Bool) (change : X → X) → ((x : X) (b : Bool) (t : S) (y : X) → R f x b t y → (b ≡ test x) × (y ≡ change x) × (t ≡ f)) → (xs ys : List X) → RetainsInTurn R f xs ys → ys ≡ retain_mut test change xs
 retained_in_turn R f test change step [] ys h = h
 retained_in_turn {S} {X} R f test change step (x ∷ xs) ys h =

@@ -1,5 +1,6 @@
 -- The central law: the state after one more operation. And the states before it, which stay.
-use Rattle.std.proofs.Common.{◌≡◌, ◌≤◌, ◌<◌, inl, ℕ, Bool, true, false, not, cond, List, [], ◌∷◌, ◌++◌, Option, Some, None, is_some, IfSome, IsTrue, Ok, Err, is_ok, refl, sym, ap, ◌∙◌, subst, arith}
+-- Used by `items_make_states`, Counting, Cutting, Placing and Updating.
+use Rattle.std.proofs.Common.{◌≡◌, ◌≤◌, ◌<◌, inl, ℕ, Bool, true, false, not, cond, List, [], ◌∷◌, ◌++◌, Option, Some, None, is_some, IfSome, IsTrue, Err, is_ok, refl, sym, ap, ◌∙◌, arith}
 use Rattle.std.specs.List.{AllByRecursion}
 use Rattle.std.specs.Option.{option_map, option_and_then}
 use Rattle.weave_data.specs.declared.name.Name.{Name}
@@ -8,7 +9,7 @@ use Rattle.weave_data.proofs.Changing.{none_rise}
 use Rattle.graph_ops.specs.declared.op.Op.{Op}
 use Rattle.graph_ops.specs.declared.op.Op.TheVariants.{Create, Delete, Set, Unset, Link, Unlink, Tag, Untag, Get}
 use Rattle.graph_ops.specs.declared.op.Reason.{Reason}
-use Rattle.graph_ops.specs.declared.op.Reason.TheVariants.{Exists, Missing, NoKey, EdgeExists, NoEdge, Full}
+use Rattle.graph_ops.specs.declared.op.Reason.TheVariants.{Exists, NoKey, EdgeExists, NoEdge, Full}
 use Rattle.graph_ops.specs.declared.record.Edge.{Edge}
 use Rattle.graph_ops.specs.declared.record.Record.{Record}
 use Rattle.graph_ops.specs.Operations.{State, Outcome, becomes, on_edge, applied}
@@ -17,14 +18,22 @@ use Rattle.version_parts.specs.declared.edge.EdgeItems.{EdgeItems}
 use Rattle.version_parts.specs.declared.lists.Lists.{Lists}
 use Rattle.version_parts.specs.declared.time.Time.{Time}
 use Rattle.version_parts.specs.declared.track.Item.{Item}
-use Rattle.version_parts.specs.KeptValues.{with_change, kept_values}
-use Rattle.version_parts.specs.Ordered.{IsBefore, AreBefore, TagsRise, KeysRise}
+use Rattle.version_parts.specs.Counts.{changes_of}
+use Rattle.version_parts.specs.KeptValues.{with_change}
+use Rattle.version_parts.specs.Ordered.{IsBefore, AreBefore, TagsRise, KeysRise, KeysRiseFor}
 use Rattle.version_parts.specs.Placed.{AllInTracks, AllInEdge, AllInEdges}
-use Rattle.version_parts.specs.States.{Tracks, value_at, values_at, live_edge, edge_at, edges_at, record_at, state_at, items_or_none, with_item, edge_or_none, with_edge_item, with_item_of, with_op}
+use Rattle.version_parts.specs.States.{Tracks, value_at, values_at, live_edge, edge_at, edges_at, record_at, state_at, items_or_none, with_item, edge_or_none, with_edge_item, with_item_of, with_op, Written, NoItem, OfVertex, OfProp, OfEdge, with_written, written_by}
 use Rattle.version_parts.specs.Times.{beginning, counts}
-use Rattle.version_parts.specs.Tracks.{shown, live_at, AllTimes}
+use Rattle.version_parts.specs.Tracks.{live_at}
 use Rattle.version_parts.proofs.KeptLaws.{kept_put, kept_same, at_kept, kept_none, of_key}
 use Rattle.version_parts.proofs.Pushing.{later, not_later, all_weaker, live_before, live_after, says, live_has, none_counts}
+
+-- how many items are added
+abbrev pub items_of_written : Written → ℕ
+items_of_written NoItem = 0
+items_of_written (OfVertex value) = 1
+items_of_written (OfProp key value) = 1
+items_of_written (OfEdge name tag value) = 1
 
 -- An outcome that passes
 
@@ -36,10 +45,12 @@ ok_if : (test : Bool) (reason : Reason) (rest : Outcome) → IsTrue (is_ok (cond
 ok_if true reason rest passes = absurd cc
 ok_if false reason rest passes = passes
 
-abbrev made_edge : Name → List (Name × Name) → Edge
+-- an edge with its target and tags, as a function
+abbrev pub made_edge : Name → List (Name × Name) → Edge
 made_edge target tags = record { target = target; tags = tags }
 
-abbrev made_record : List (Name × Name) → List (Name × Edge) → Record
+-- a record with its properties and edges, as a function
+abbrev pub made_record : List (Name × Name) → List (Name × Edge) → Record
 made_record props edges = record { props = props; edges = edges }
 
 -- Lists that are looked up
@@ -100,17 +111,15 @@ module _ (update : ℕ) (time : Time) (lists : Lists) (after : update < time.upd
   links_stay name tag value rise = states_alike update (record lists { edges = with_item_of name tag (record { time = time; value = value }) lists.edges }) lists refl
       (λ since. ap (λ (edges : List (Name × Edge)). record { props = values_at update since lists.props; edges = edges }) (edges_stay update since name tag (record { time = time; value = value }) lists.edges rise.0 rise.1 after))
 
+  written_stays : (written : Written) → KeysRiseFor written lists → state_at update (with_written time written lists) ≡ state_at update lists
+  written_stays NoItem rise = refl
+  written_stays (OfVertex value) rise = presence_stays value
+  written_stays (OfProp key value) rise = props_stay key value rise
+  written_stays (OfEdge name tag value) rise = links_stay name tag value rise
+
   -- the states before the update of the operation stay
   pub earlier_stay : (op : Op) → KeysRise op lists → state_at update (with_op time op lists) ≡ state_at update lists
-  earlier_stay (Create v) rise = presence_stays (Some tt)
-  earlier_stay (Delete v) rise = presence_stays None
-  earlier_stay (Set v key value) rise = props_stay key (Some value) rise
-  earlier_stay (Unset v key) rise = props_stay key None rise
-  earlier_stay (Link v name target) rise = links_stay name None (Some target) rise
-  earlier_stay (Unlink v name) rise = links_stay name None None rise
-  earlier_stay (Tag v name key value) rise = links_stay name (Some key) (Some value) rise
-  earlier_stay (Untag v name key) rise = links_stay name (Some key) None rise
-  earlier_stay (Get v) rise = refl
+  earlier_stay op rise = written_stays (written_by op) rise
 
 -- At the update of the item
 
@@ -300,3 +309,15 @@ module _ (time : Time) (lists : Lists) (before : AreBefore time lists) (numbered
             ∙ sym (left_if (not (has key found.tags)) NoKey (becomes (record was { edges = put name (record found { tags = without key found.tags }) was.edges })) (Some was) k)
       ] refl h) passes
   one_more (Get v) rise passes = refl
+
+-- an operation adds one item, unless it only reads
+pub one_item : (op : Op) → changes_of op ≡ items_of_written (written_by op)
+one_item (Create v) = refl
+one_item (Delete v) = refl
+one_item (Set v key value) = refl
+one_item (Unset v key) = refl
+one_item (Link v name target) = refl
+one_item (Unlink v name) = refl
+one_item (Tag v name key value) = refl
+one_item (Untag v name key) = refl
+one_item (Get v) = refl

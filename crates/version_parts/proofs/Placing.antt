@@ -1,5 +1,6 @@
 -- When the items were added: what operations and cuts keep, and what follows of states and counts.
-use Rattle.std.proofs.Common.{◌≡◌, ◌≤◌, ◌<◌, ◌+◌, ℕ, Bool, true, false, not, ◌&&◌, ◌||◌, cond, List, [], ◌∷◌, ◌++◌, filter, Option, Some, None, is_some, refl, sym, ap, ◌∙◌, subst, arith}
+-- Used by `add_op`, `add_update`, `collect`, `items_are_placed`, `take_back`, AddingUp and Updating.
+use Rattle.std.proofs.Common.{◌≡◌, ◌≤◌, ◌+◌, ℕ, Bool, true, false, not, ◌&&◌, cond, List, [], ◌∷◌, ◌++◌, filter, Option, Some, None, is_some, refl, sym, ap, ◌∙◌, subst, arith}
 use Rattle.std.specs.Prelude.{nat_le}
 use Rattle.std.specs.List.{AllByRecursion}
 use Rattle.std.specs.Option.{option_map, option_and_then}
@@ -7,9 +8,6 @@ use Rattle.std.proofs.lemmas.Bool.{leb-true}
 use Rattle.weave_data.specs.declared.name.Name.{Name}
 use Rattle.weave_data.specs.Pairs.{at_key}
 use Rattle.graph_ops.specs.declared.op.Op.{Op}
-use Rattle.graph_ops.specs.declared.op.Op.TheVariants.{Create, Delete, Set, Unset, Link, Unlink, Tag, Untag, Get}
-use Rattle.graph_ops.specs.declared.record.Edge.{Edge}
-use Rattle.graph_ops.specs.declared.record.Record.{Record}
 use Rattle.version_parts.specs.declared.cut.Cut.{Cut}
 use Rattle.version_parts.specs.declared.cut.Cut.TheVariants.{Newer, Older}
 use Rattle.version_parts.specs.declared.edge.EdgeItems.{EdgeItems}
@@ -19,12 +17,12 @@ use Rattle.version_parts.specs.declared.track.Item.{Item}
 use Rattle.version_parts.specs.Counts.{has_items, total, count_items, count_edge, count_updates}
 use Rattle.version_parts.specs.Cuts.{left_items, cut_tracks, cut_edge, has_some, left_edge, cut_edges, cut_lists, until, collected}
 use Rattle.version_parts.specs.KeptValues.{with_value, kept_values}
-use Rattle.version_parts.specs.Placed.{AllInTracks, AllInEdge, AllInEdges, AllInLists, IsWithin}
-use Rattle.version_parts.specs.States.{Tracks, value_at, values_at, live_edge, edge_at, edges_at, record_at, state_at, items_or_none, with_item, edge_or_none, with_edge_item, with_item_of, with_op}
+use Rattle.version_parts.specs.Placed.{AllInTracks, AllInEdge, AllInEdges, AllInLists, AreUpTo}
+use Rattle.version_parts.specs.States.{Tracks, value_at, values_at, live_edge, edge_at, edges_at, record_at, state_at, items_or_none, with_item, edge_or_none, with_edge_item, with_item_of, with_op, Written, NoItem, OfVertex, OfProp, OfEdge, with_written, written_by}
 use Rattle.version_parts.specs.Times.{beginning}
 use Rattle.version_parts.specs.Tracks.{or_else, last_at, shown, live_at, from_oldest, cut_items, inner_cut, AllTimes}
 use Rattle.version_parts.proofs.KeptLaws.{all_put, of_key, kept_agree}
-use Rattle.version_parts.proofs.OneMore.{edge_before}
+use Rattle.version_parts.proofs.OneMore.{edge_before, made_edge, made_record}
 use Rattle.version_parts.proofs.Pushing.{all_weaker, all_push}
 use Rattle.version_parts.proofs.Splitting.{in_time}
 
@@ -51,16 +49,14 @@ module _ (P : Time → Type 0) where
       let edge : EdgeItems = edge_or_none (at_key name edges) in
       all_put name (AllInEdge P) (with_edge_item tag item edge) edges (edge_put tag item edge (edge_before P name edges all) here) all
 
+  all_written : (time : Time) (written : Written) (lists : Lists) → AllInLists P lists → P time → AllInLists P (with_written time written lists)
+  all_written time NoItem lists all here = all
+  all_written time (OfVertex value) lists all here = (all_push P lists.presence (record { time = time; value = value }) all.0 here, all.1, all.2)
+  all_written time (OfProp key value) lists all here = (all.0, tracks_put key (record { time = time; value = value }) lists.props all.1 here, all.2)
+  all_written time (OfEdge name tag value) lists all here = (all.0, all.1, edges_put name tag (record { time = time; value = value }) lists.edges all.2 here)
+
   pub all_op : (time : Time) (op : Op) (lists : Lists) → AllInLists P lists → P time → AllInLists P (with_op time op lists)
-  all_op time (Create v) lists all here = (all_push P lists.presence (record { time = time; value = Some tt }) all.0 here, all.1, all.2)
-  all_op time (Delete v) lists all here = (all_push P lists.presence (record { time = time; value = None }) all.0 here, all.1, all.2)
-  all_op time (Set v key value) lists all here = (all.0, tracks_put key (record { time = time; value = Some value }) lists.props all.1 here, all.2)
-  all_op time (Unset v key) lists all here = (all.0, tracks_put key (record { time = time; value = None }) lists.props all.1 here, all.2)
-  all_op time (Link v name target) lists all here = (all.0, all.1, edges_put name None (record { time = time; value = Some target }) lists.edges all.2 here)
-  all_op time (Unlink v name) lists all here = (all.0, all.1, edges_put name None (record { time = time; value = None }) lists.edges all.2 here)
-  all_op time (Tag v name key value) lists all here = (all.0, all.1, edges_put name (Some key) (record { time = time; value = Some value }) lists.edges all.2 here)
-  all_op time (Untag v name key) lists all here = (all.0, all.1, edges_put name (Some key) (record { time = time; value = None }) lists.edges all.2 here)
-  all_op time (Get v) lists all here = all
+  all_op time op lists all here = all_written time (written_by op) lists all here
 
 -- A weaker fact
 
@@ -158,10 +154,10 @@ module _ (P Q : Time → Type 0) where
     edges_cut (inner_cut cut lists.presence) (λ time p in_cut. keeps time p (inner_left cut lists.presence time in_cut)) lists.edges all.2,
   )
 
-pub until_within : (newest : ℕ) (lists : Lists) → IsWithin newest (until newest lists)
+pub until_within : (newest : ℕ) (lists : Lists) → AreUpTo newest (until newest lists)
 until_within newest lists = lists_cut (λ time. Unit {0}) (λ time. time.update ≤ newest) (Newer newest) (λ time any left. left) lists (all_lists (λ time. Unit {0}) (λ time. tt) lists)
 
-pub collected_within : (oldest newest : ℕ) (lists : Lists) → IsWithin newest lists → IsWithin newest (collected oldest lists)
+pub collected_within : (oldest newest : ℕ) (lists : Lists) → AreUpTo newest lists → AreUpTo newest (collected oldest lists)
 collected_within oldest newest lists within = lists_cut (λ time. time.update ≤ newest) (λ time. time.update ≤ newest) (Older oldest (Some beginning)) (λ time p left. p) lists within
 
 -- After the newest update nothing changes
@@ -185,15 +181,12 @@ module _ (newest update : ℕ) (past : newest ≤ update) where
   values_past : (since : Option Time) (tracks : Tracks) → AllInTracks (λ time. time.update ≤ newest) tracks → values_at update since tracks ≡ values_at newest since tracks
   values_past since tracks all = kept_agree (value_at update since) (value_at newest since) tracks (all_past since tracks all)
 
-  abbrev edge_with : Name → List (Name × Name) → Edge
-  edge_with target tags = record { target = target; tags = tags }
-
   edge_past : (since : Option Time) (edge : EdgeItems) → AllInEdge (λ time. time.update ≤ newest) edge → edge_at update since edge ≡ edge_at newest since edge
   edge_past since edge all =
       ap (option_map (live_edge update edge.tags)) (live_past since edge.targets all.0)
       ∙ elim (live_at newest since edge.targets) as (λ (o : Option (Time × Name)). option_map (live_edge update edge.tags) o ≡ option_map (live_edge newest edge.tags) o) [
         | None ↦ refl
-        | Some live ↦ ap (λ (tags : List (Name × Name)). Some (edge_with live.1 tags)) (values_past (Some live.0) edge.tags all.1)
+        | Some live ↦ ap (λ (tags : List (Name × Name)). Some (made_edge live.1 tags)) (values_past (Some live.0) edge.tags all.1)
       ]
 
   all_edges_past : (since : Option Time) (edges : List (Name × EdgeItems)) → AllInEdges (λ time. time.update ≤ newest) edges → AllByRecursion (λ (pair : Name × EdgeItems). edge_at update since pair.1 ≡ edge_at newest since pair.1) edges
@@ -203,10 +196,7 @@ module _ (newest update : ℕ) (past : newest ≤ update) where
   edges_past : (since : Option Time) (edges : List (Name × EdgeItems)) → AllInEdges (λ time. time.update ≤ newest) edges → edges_at update since edges ≡ edges_at newest since edges
   edges_past since edges all = kept_agree (edge_at update since) (edge_at newest since) edges (all_edges_past since edges all)
 
-  abbrev record_with : List (Name × Name) → List (Name × Edge) → Record
-  record_with props edges = record { props = props; edges = edges }
-
-  pub state_past : (lists : Lists) → IsWithin newest lists → state_at update lists ≡ state_at newest lists
+  pub state_past : (lists : Lists) → AreUpTo newest lists → state_at update lists ≡ state_at newest lists
   state_past lists all =
       ap (option_map (λ (live : Time × Unit {0}). record_at update (Some live.0) lists)) (live_past (Some beginning) lists.presence all.0)
       ∙ elim (live_at newest (Some beginning) lists.presence) as (λ (o : Option (Time × Unit {0})). option_map (λ (live : Time × Unit {0}). record_at update (Some live.0) lists) o ≡ option_map (λ (live : Time × Unit {0}). record_at newest (Some live.0) lists) o) [
@@ -214,7 +204,7 @@ module _ (newest update : ℕ) (past : newest ≤ update) where
         | Some live ↦
             let props : values_at update (Some live.0) lists.props ≡ values_at newest (Some live.0) lists.props = values_past (Some live.0) lists.props all.1 in
             let edges : edges_at update (Some live.0) lists.edges ≡ edges_at newest (Some live.0) lists.edges = edges_past (Some live.0) lists.edges all.2 in
-            λ i. Some (record_with (props i) (edges i))
+            λ i. Some (made_record (props i) (edges i))
       ]
 
 -- Tests that agree on all updates

@@ -1,4 +1,5 @@
 -- A list with one more item: what it says at each update. And times.
+-- Used by `add_op`, Cutting, OneMore, Placing and Updating.
 use Rattle.std.proofs.Common.{◌≡◌, ◌≤◌, ◌<◌, ◌⊎◌, inl, inr, ℕ, Bool, true, false, ◌&&◌, ◌||◌, ◌==◌, cond, List, [], ◌∷◌, ◌++◌, Option, Some, None, refl, sym, ap, ◌∙◌, subst, arith}
 use Rattle.std.specs.Prelude.{nat_lt, nat_le}
 use Rattle.std.specs.List.{AllByRecursion}
@@ -98,7 +99,7 @@ module _ {X : Type 0} where
         | Some item ↦ λ e h. subst P (shown_time since item live h) (last_has P update items item all e)
       ] refl is
 
-  -- where no item counts, nothing is there
+  -- if no item counts, nothing is there
   pub none_counts : (update : ℕ) (since : Option Time) (items : List (Item X)) → AllTimes (λ time. counts since time ≡ false) items → live_at update since items ≡ None
   none_counts update since items all =
       elim (last_at update items) as (λ (o : Option (Item X)). last_at update items ≡ o → option_and_then (shown since) o ≡ None) [

@@ -1,4 +1,5 @@
 -- A value that is taken out of a map, changed and put in again.
+-- Used by `add_to` and `add_to_edge`.
 use Rattle.std.proofs.Common.{◌≡◌, List, [], ◌∷◌, ◌++◌, Option, Some, is_some, IsTrue, sym, ap, ◌∙◌}
 use Rattle.weave_data.specs.declared.name.Name.{Name}
 use Rattle.weave_data.specs.Pairs.{IsRising, at_key, has, put}

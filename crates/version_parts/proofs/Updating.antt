@@ -1,4 +1,5 @@
 -- An update, item by item.
+-- Used by `add_ops` and `add_update`.
 use Rattle.std.proofs.Common.{◌≡◌, ◌≤◌, ◌<◌, ◌+◌, inl, inr, ℕ, suc, Bool, true, false, ◌&&◌, cond, List, [], ◌∷◌, drop, length, get_or, IsTrue, is_ok, refl, sym, ap, ◌∙◌, subst, arith, add-one, drop-cons}
 use Rattle.std.specs.Prelude.{nat_le}
 use Rattle.std.proofs.lemmas.Bool.{and_parts, le-leb, lt-leb}
@@ -14,7 +15,7 @@ use Rattle.version_parts.specs.declared.track.Item.{Item}
 use Rattle.version_parts.specs.Counts.{count_updates, count_of, changes, changes_of}
 use Rattle.version_parts.specs.Cuts.{until}
 use Rattle.version_parts.specs.Ordered.{IsBefore, AreBefore, KeysRise}
-use Rattle.version_parts.specs.Placed.{AllInLists, IsWithin}
+use Rattle.version_parts.specs.Placed.{AllInLists, AreUpTo}
 use Rattle.version_parts.specs.States.{state_at, with_op}
 use Rattle.version_parts.specs.Updates.{IsUnderWay}
 use Rattle.version_parts.proofs.Counting.{op_count, until_count}
@@ -81,7 +82,7 @@ module _ (update place : ℕ) (ops : List Op) (start now : Lists) (way : IsUnder
     pub next_is : (result : Lists) → result ≡ with_op time op now → IsUnderWay update (place + 1) ops start result
     next_is result e = subst (IsUnderWay update (place + 1) ops start) (sym e) next
 
-  pub way_within : IsWithin update now
+  pub way_within : AreUpTo update now
   way_within = lists_weaker (λ earlier. IsBefore earlier (record { update = update; place = place })) (λ earlier. earlier.update ≤ update) (λ earlier is. no_later_update earlier (record { update = update; place = place }) is) now way.before
 
   pub way_others : (test : ℕ → Bool) → test update ≡ false → count_updates test now ≡ count_updates test start
@@ -107,7 +108,7 @@ module _ (update place : ℕ) (ops : List Op) (start now : Lists) (way : IsUnder
 
 -- An update whose items were added in part is taken back
 
-module _ (before : ℕ) (start now : Lists) (within : IsWithin before start) (others : (test : ℕ → Bool) → test (before + 1) ≡ false → count_updates test now ≡ count_updates test start) where
+module _ (before : ℕ) (start now : Lists) (within : AreUpTo before start) (others : (test : ℕ → Bool) → test (before + 1) ≡ false → count_updates test now ≡ count_updates test start) where
   pub undone_counts : (test : ℕ → Bool) → count_updates test (until before now) ≡ count_updates test start
   undone_counts test =
       until_count test before now

@@ -1,12 +1,10 @@
 -- How many items there are.
-use Rattle.std.specs.Prelude.{ℕ, ◌+◌, Bool, true, false, cond, List, [], ◌∷◌}
+use Rattle.std.specs.Prelude.{ℕ, ◌+◌, Bool, true, false, cond, List, [], ◌∷◌, if◌then◌else◌}
 use Rattle.weave_data.specs.declared.name.Name.{Name}
 use Rattle.graph_ops.specs.declared.op.Op.{Op}
-use Rattle.graph_ops.specs.declared.op.Op.TheVariants.{Create, Delete, Set, Unset, Link, Unlink, Tag, Untag, Get}
 use Rattle.graph_ops.specs.declared.record.Edge.{Edge}
-use Rattle.graph_ops.specs.declared.record.Record.{Record}
-use Rattle.graph_ops.specs.Operations.{State}
-use Rattle.std.specs.Prelude.{length, Option, Some, None}
+use Rattle.graph_ops.specs.Operations.{State, is_get}
+use Rattle.std.specs.Prelude.{length, Some, None}
 use Rattle.version_parts.specs.declared.edge.EdgeItems.{EdgeItems}
 use Rattle.version_parts.specs.declared.lists.Lists.{Lists}
 use Rattle.version_parts.specs.declared.track.Item.{Item}
@@ -32,7 +30,8 @@ count_edge test edge = count_items test edge.targets + total (count_items test) 
 
 -- those of a vertex
 abbrev pub count_updates : (ℕ → Bool) → Lists → ℕ
-count_updates test lists = count_items test lists.presence + (total (count_items test) lists.props + total (count_edge test) lists.edges)
+count_updates test lists =
+    count_items test lists.presence + (total (count_items test) lists.props + total (count_edge test) lists.edges)
 
 -- all items of a vertex
 abbrev pub count_of : Lists → ℕ
@@ -40,15 +39,7 @@ count_of lists = count_updates (λ update. true) lists
 
 -- the items that an operation adds: one, unless it only reads
 abbrev pub changes_of : Op → ℕ
-changes_of (Get v) = 0
-changes_of (Create v) = 1
-changes_of (Delete v) = 1
-changes_of (Set v key value) = 1
-changes_of (Unset v key) = 1
-changes_of (Link v name target) = 1
-changes_of (Unlink v name) = 1
-changes_of (Tag v name key value) = 1
-changes_of (Untag v name key) = 1
+changes_of op = if is_get op then 0 else 1
 
 -- the operations other than `get`
 abbrev pub changes : List Op → ℕ

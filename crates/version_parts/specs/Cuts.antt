@@ -22,7 +22,8 @@ cut_tracks cut tracks = kept_values (left_items cut) tracks
 
 -- the lists of an edge
 abbrev pub cut_edge : Cut → EdgeItems → EdgeItems
-cut_edge cut edge = record { targets = cut_items cut edge.targets; tags = cut_tracks (inner_cut cut edge.targets) edge.tags }
+cut_edge cut edge =
+    record { targets = cut_items cut edge.targets; tags = cut_tracks (inner_cut cut edge.targets) edge.tags }
 
 -- whether an edge has items
 abbrev pub has_some : EdgeItems → Bool

@@ -25,5 +25,5 @@ abbrev pub AllInLists : (Time → Type 0) → Lists → Type 0
 AllInLists P lists = AllTimes P lists.presence × AllInTracks P lists.props × AllInEdges P lists.edges
 
 -- all items are of this update or of those before it
-abbrev pub IsWithin : ℕ → Lists → Type 0
-IsWithin update lists = AllInLists (λ time. time.update ≤ update) lists
+abbrev pub AreUpTo : ℕ → Lists → Type 0
+AreUpTo update lists = AllInLists (λ time. time.update ≤ update) lists

@@ -44,13 +44,37 @@ edges_at update since edges = kept_values (edge_at update since) edges
 
 -- the record of a vertex that is there since `since`
 abbrev pub record_at : ℕ → Option Time → Lists → Record
-record_at update since lists = record { props = values_at update since lists.props; edges = edges_at update since lists.edges }
+record_at update since lists =
+    record { props = values_at update since lists.props; edges = edges_at update since lists.edges }
 
--- the state after an update: a vertex is there if the last item of its presence has a value. What was written before it was made is hidden, and so are the tags that an edge had before it was linked
+-- the state after an update: a vertex is there if the last item of its presence has a value. What was written before it
+-- was made is hidden, and so are the tags that an edge had before it was linked
 abbrev pub state_at : ℕ → Lists → State
-state_at update lists = option_map (λ (live : Time × Unit {0}). record_at update (Some live.0) lists) (live_at update (Some beginning) lists.presence)
+state_at update lists =
+    option_map (λ (live : Time × Unit {0}). record_at update (Some live.0) lists)
+    (live_at update (Some beginning) lists.presence)
 
 -- The items that an operation adds
+
+-- The item that an operation adds, without its time: which part of the vertex it is an item of, and the value of that
+-- part, or None if the part goes. An item of an edge is one of its target, or of one of its tags.
+pub data Written : Type 0 where
+  NoItem : Written
+  OfVertex : Option (Unit {0}) → Written
+  OfProp : (key : Name) (value : Option Name) → Written
+  OfEdge : (name : Name) (tag value : Option Name) → Written
+
+-- what each operation adds; one that only reads adds nothing
+abbrev pub written_by : Op → Written
+written_by (Create v) = OfVertex (Some tt)
+written_by (Delete v) = OfVertex None
+written_by (Set v key value) = OfProp key (Some value)
+written_by (Unset v key) = OfProp key None
+written_by (Link v name target) = OfEdge name None (Some target)
+written_by (Unlink v name) = OfEdge name None None
+written_by (Tag v name key value) = OfEdge name (Some key) (Some value)
+written_by (Untag v name key) = OfEdge name (Some key) None
+written_by (Get v) = NoItem
 
 -- no items
 abbrev pub no_items : Lists
@@ -79,14 +103,16 @@ with_edge_item (Some key) item edge = record edge { tags = with_item key item ed
 abbrev pub with_item_of : Name → Option Name → Item Name → List (Name × EdgeItems) → List (Name × EdgeItems)
 with_item_of name tag item edges = put name (with_edge_item tag item (edge_or_none (at_key name edges))) edges
 
--- the lists with the item of an operation; one that only reads adds none
+-- the lists with an item of this time
+abbrev pub with_written : Time → Written → Lists → Lists
+with_written time NoItem lists = lists
+with_written time (OfVertex value) lists =
+    record lists { presence = lists.presence ++ record { time = time; value = value } ∷ [] }
+with_written time (OfProp key value) lists =
+    record lists { props = with_item key (record { time = time; value = value }) lists.props }
+with_written time (OfEdge name tag value) lists =
+    record lists { edges = with_item_of name tag (record { time = time; value = value }) lists.edges }
+
+-- the lists with the item of an operation
 abbrev pub with_op : Time → Op → Lists → Lists
-with_op time (Create v) lists = record lists { presence = lists.presence ++ record { time = time; value = Some tt } ∷ [] }
-with_op time (Delete v) lists = record lists { presence = lists.presence ++ record { time = time; value = None } ∷ [] }
-with_op time (Set v key value) lists = record lists { props = with_item key (record { time = time; value = Some value }) lists.props }
-with_op time (Unset v key) lists = record lists { props = with_item key (record { time = time; value = None }) lists.props }
-with_op time (Link v name target) lists = record lists { edges = with_item_of name None (record { time = time; value = Some target }) lists.edges }
-with_op time (Unlink v name) lists = record lists { edges = with_item_of name None (record { time = time; value = None }) lists.edges }
-with_op time (Tag v name key value) lists = record lists { edges = with_item_of name (Some key) (record { time = time; value = Some value }) lists.edges }
-with_op time (Untag v name key) lists = record lists { edges = with_item_of name (Some key) (record { time = time; value = None }) lists.edges }
-with_op time (Get v) lists = lists
+with_op time op lists = with_written time (written_by op) lists

@@ -7,7 +7,8 @@ use Rattle.version_parts.specs.Times.{counts}
 
 -- what doesn't count after the oldest update doesn't count at a later one
 abbrev pub StaysHidden : ℕ → Option Time → Option Time → Type 0
-StaysHidden oldest since later_since = (time : Time) → time.update ≤ oldest → counts since time ≡ false → counts later_since time ≡ false
+StaysHidden oldest since later_since = (time : Time) → time.update ≤ oldest → counts since time ≡ false
+    → counts later_since time ≡ false
 
 -- a cut drops nothing that a part has after this update, if what it is part of is there since `since`
 abbrev pub Spares : Cut → ℕ → Option Time → Type 0

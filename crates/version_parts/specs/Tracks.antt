@@ -35,7 +35,8 @@ module _ {X : Type 0} where
   abbrev pub since_at : ℕ → Option Time → List (Item X) → Option Time
   since_at update since items = option_map (λ (live : Time × X). live.0) (live_at update since items)
 
-  -- what is left from the oldest update on: nothing before the last item at or before it, and that one only if the part is there
+  -- what is left from the oldest update on: nothing before the last item at or before it, and that one only if the part
+  -- is there
   abbrev pub from_oldest : ℕ → Option Time → List (Item X) → List (Item X)
   from_oldest oldest since [] = []
   from_oldest oldest since (item ∷ rest) =

@@ -7,10 +7,12 @@ use Rattle.version_parts.specs.Counts.{count_updates, changes}
 use Rattle.version_parts.specs.Ordered.{AreBefore}
 use Rattle.version_parts.specs.States.{state_at}
 
--- the items of the first `place` operations were added: the other operations pass, and lead to the state after all of them
+-- the items of the first `place` operations were added: the other operations pass, and lead to the state after all of
+-- them
 pub record IsUnderWay (update place : ℕ) (ops : List Op) (start now : Lists) : Type 0 where
   pub before : AreBefore (record { update = update; place = place }) now
   pub earlier : (other : ℕ) → other < update → state_at other now ≡ state_at other start
   pub passes : IsTrue (none_refused (drop place ops) (state_at update now))
   pub state : state_after (drop place ops) (state_at update now) ≡ state_after ops (state_at update start)
-  pub counts : (test : ℕ → Bool) → count_updates test now + cond (test update) (changes (drop place ops)) 0 ≡ count_updates test start + cond (test update) (changes ops) 0
+  pub counts : (test : ℕ → Bool) → count_updates test now + cond (test update) (changes (drop place ops)) 0
+      ≡ count_updates test start + cond (test update) (changes ops) 0

@@ -7,6 +7,7 @@ use crate::time::Time;
 pub enum Cut {
     /// Those of updates after this one.
     Newer { update: u64 },
-    /// Those that no state from the oldest update on has. What they are part of is there since `since`, if it is there after the oldest update.
+    /// Those that no state from the oldest update on has. What they are part of is there since `since`, if it is there
+    /// after the oldest update.
     Older { oldest: u64, since: Option<Time> },
 }

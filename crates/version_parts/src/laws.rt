@@ -7,10 +7,11 @@ ghost use Rattle.version_parts.specs.declared.lists.Lists.{Lists};
 ghost use Rattle.version_parts.specs.declared.time.Time.{Time};
 ghost use Rattle.version_parts.specs.Counts.{count_updates, count_of};
 ghost use Rattle.version_parts.specs.Ordered.{AreBefore, KeysRise};
-ghost use Rattle.version_parts.specs.Placed.{IsWithin};
+ghost use Rattle.version_parts.specs.Placed.{AreUpTo};
 ghost use Rattle.version_parts.specs.States.{state_at, with_op};
 
-/// An operation that passes adds an item after all others. The lists then give the state that it leaves, and at earlier updates the states from before.
+/// An operation that passes adds an item after all others. The lists then give the state that it leaves, and at earlier
+/// updates the states from before.
 pub fn items_make_states()
     ensures next { (time : Time) (op : Op) (lists : Lists) → AreBefore time lists → 1 ≤ time.update → KeysRise op lists
         → IsTrue (is_ok (applied op (state_at time.update lists)))
@@ -22,11 +23,11 @@ pub fn items_make_states()
 
 /// After the newest update nothing changes, and there are no items. The items of updates add up.
 pub fn items_are_placed()
-    ensures states { (newest update : ℕ) (lists : Lists) → newest ≤ update → IsWithin newest lists
+    ensures states { (newest update : ℕ) (lists : Lists) → newest ≤ update → AreUpTo newest lists
         → state_at update lists ≡ state_at newest lists }
-    ensures counted { (newest : ℕ) (lists : Lists) → IsWithin newest lists
+    ensures counted { (newest : ℕ) (lists : Lists) → AreUpTo newest lists
         → count_updates (λ update. nat_le update newest) lists ≡ count_of lists }
-    ensures none_later { (newest update : ℕ) (lists : Lists) → newest < update → IsWithin newest lists
+    ensures none_later { (newest update : ℕ) (lists : Lists) → newest < update → AreUpTo newest lists
         → count_updates (λ other. other == update) lists ≡ 0 }
     ensures one_more { (update : ℕ) (lists : Lists) → count_updates (λ other. nat_le other (update + 1)) lists
         ≡ count_updates (λ other. nat_le other update) lists + count_updates (λ other. other == update + 1) lists }

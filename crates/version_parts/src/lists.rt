@@ -48,7 +48,8 @@ impl Lists {
     }
 }
 
-/// Adds an item of an edge: of its target, or of a tag. The one error is out of memory, and then the lists are as before.
+/// Adds an item of an edge: of its target, or of a tag. The one error is out of memory, and then the lists are as
+/// before.
 pub(crate) fn add_edge_item(
     edges: &mut NameMap<EdgeItems>,
     alloc: Global,

@@ -3,7 +3,7 @@ ghost use Rattle.std.specs.Prelude.{◌≡◌, ◌≤◌, ◌<◌, ◌+◌, ℕ,
 ghost use Rattle.graph_ops.specs.VertexOps.{state_after, none_refused};
 ghost use Rattle.version_parts.specs.Counts.{count_updates, changes, changes_of};
 ghost use Rattle.version_parts.specs.Ordered.{AreBefore, KeysRise};
-ghost use Rattle.version_parts.specs.Placed.{AllInLists, IsWithin};
+ghost use Rattle.version_parts.specs.Placed.{AllInLists, AreUpTo};
 ghost use Rattle.version_parts.specs.States.{state_at, with_op};
 
 use crate::lists::{Lists, add_edge_item};
@@ -13,7 +13,7 @@ use crate::track::Item;
 use graph_ops::Op;
 use std::alloc::{AllocError, Global};
 
-/// How many items operations add: as many as there are operations other than `get`.
+/// How many items operations add: one for each operation other than `get`.
 pub(crate) fn changes(ops: &[Op]) -> usize
     ensures { result ≡ changes ops.now }
 {
@@ -28,10 +28,10 @@ fn changes_of(op: &Op) -> usize
     ensures value { result ≡ changes_of op.now }
     ensures most { result ≤ 1 }
 {
-    match *op {
-        Op::Get { .. } => 0,
-        _ => 1,
+    if op.is_get() {
+        return 0;
     }
+    1
 }
 
 /// Adds the items of an update. After the one error, out of memory, some of them may be there.
@@ -46,7 +46,7 @@ pub(crate) fn add_ops(
     requires passes { IsTrue (none_refused ops.now (state_at update lists.old)) }
     ensures state { OnOk result (state_at update lists.new ≡ state_after ops.now (state_at update lists.old)) }
     ensures earlier { (earlier : ℕ) → earlier < update → state_at earlier lists.new ≡ state_at earlier lists.old }
-    ensures within { IsWithin update lists.new }
+    ensures within { AreUpTo update lists.new }
     ensures counts { OnOk result ((test : ℕ → Bool) → count_updates test lists.new
         ≡ count_updates test lists.old + cond (test update) (changes ops.now) 0) }
     ensures others { (test : ℕ → Bool) → test update ≡ false

@@ -3,7 +3,7 @@ ghost use Rattle.std.specs.Prelude.{◌≡◌, ◌≤◌, ◌<◌, ◌+◌, ◌-
 ghost use Rattle.graph_ops.specs.VertexOps.{state_after, none_refused};
 ghost use Rattle.version_parts.specs.Counts.{count_updates, count_of, changes, size_of};
 ghost use Rattle.version_parts.specs.Cuts.{cut_lists, until, collected};
-ghost use Rattle.version_parts.specs.Placed.{IsWithin};
+ghost use Rattle.version_parts.specs.Placed.{AreUpTo};
 ghost use Rattle.version_parts.specs.States.{no_items, state_at};
 
 use crate::counts::count_of;
@@ -63,14 +63,14 @@ impl Parts {
     /// Adds the items of an update, before which that many were added. Its operations pass on the state after them.
     /// The one error is out of memory, and then all states are as before.
     pub fn add_update(&mut self, alloc: Global, before: u64, ops: &[Op]) -> Result<(), AllocError>
-        requires within { IsWithin before self.old }
+        requires within { AreUpTo before self.old }
         requires small { before < 2 ^ 64 - 1 }
         requires passes { IsTrue (none_refused ops.now (state_at before self.old)) }
         ensures state { OnOk result (state_at (before + 1) self.new
             ≡ state_after ops.now (state_at before self.old)) }
         ensures earlier { (update : ℕ) → update ≤ before → state_at update self.new ≡ state_at update self.old }
-        ensures within { OnOk result (IsWithin (before + 1) self.new) }
-        ensures still_within { OnErr result (IsWithin before self.new) }
+        ensures within { OnOk result (AreUpTo (before + 1) self.new) }
+        ensures still_within { OnErr result (AreUpTo before self.new) }
         ensures counts { OnOk result ((test : ℕ → Bool) → count_updates test self.new
             ≡ count_updates test self.old + cond (test (before + 1)) (changes ops.now) 0) }
         ensures same_counts { OnErr result ((test : ℕ → Bool) → count_updates test self.new
@@ -95,7 +95,7 @@ impl Parts {
     pub fn take_back(&mut self, newest: u64)
         ensures items { self.new ≡ until newest self.old }
         ensures states { (update : ℕ) → update ≤ newest → state_at update self.new ≡ state_at update self.old }
-        ensures within { IsWithin newest self.new }
+        ensures within { AreUpTo newest self.new }
         ensures counts { (test : ℕ → Bool) → count_updates test self.new
             ≡ count_updates (λ update. test update && nat_le update newest) self.old }
     {
@@ -106,7 +106,7 @@ impl Parts {
     pub fn collect(&mut self, oldest: u64)
         ensures items { self.new ≡ collected oldest self.old }
         ensures states { (update : ℕ) → oldest ≤ update → state_at update self.new ≡ state_at update self.old }
-        ensures within { (newest : ℕ) → IsWithin newest self.old → IsWithin newest self.new }
+        ensures within { (newest : ℕ) → AreUpTo newest self.old → AreUpTo newest self.new }
         ensures counts { (test : ℕ → Bool) → count_updates test self.new ≤ count_updates test self.old }
         ensures oldest { count_updates (λ update. nat_le update oldest) self.new ≤ size_of (state_at oldest self.old) }
     {

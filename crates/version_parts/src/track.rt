@@ -67,7 +67,8 @@ impl<T> Track<T> {
 }
 
 impl<T: Drop> Track<T> {
-    /// Adds an item, of an update that is no earlier than those of the others. The one error is out of memory, and then the items are as before.
+    /// Adds an item, of an update that is no earlier than those of the others. The one error is out of memory, and then
+    /// the items are as before.
     pub(crate) fn add(&mut self, item: Item<T>) -> Result<(), AllocError>
         requires { AllTimes (λ time. time.update ≤ item.time.update) self.old }
         ensures ok { OnOk result (self.new ≡ self.old ++ item ∷ []) }
@@ -96,7 +97,8 @@ impl<T: Drop> Track<T> {
 }
 
 impl<T: Copy> Track<T> {
-    /// What the thing is after an update, with the time since when. It is part of something that is there since `since`.
+    /// What the thing is after an update, with the time since when. It is part of something that is there since
+    /// `since`.
     pub(crate) fn live_at(&self, update: u64, since: Option<Time>) -> Option<(Time, T)>
         ensures { result ≡ live_at update since self.now }
     {

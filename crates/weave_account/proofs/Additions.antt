@@ -1,13 +1,14 @@
 -- If a judge adds a pair for an event, no earlier place has that event.
+-- Used by Growing and PlacedPairs.
 use Rattle.std.proofs.Common.{◌≡◌, ℕ, zero, suc, ◌+◌, ◌<◌, Bool, true, false, cond, List, [], ◌∷◌, ◌++◌, Contains, IsTrue, Some, inl, inr, refl, sym, ap, subst, arith}
 use Rattle.std.specs.Prelude.{slice_get}
 use Rattle.std.proofs.lemmas.Bool.{both_ways}
 use Rattle.std.proofs.lemmas.List.Elements.{Contains-append_left}
-use Rattle.proof_base.proofs.Members.{has_none, has_read, has_last}
+use Rattle.weave_data.proofs.Members.{has_none, has_read, has_last}
 use Rattle.vector_stamp.specs.declared.clock.Stamp.{Stamp}
 use Rattle.vector_stamp.specs.Precedence.{Given, Precedes, ByStamps, ByPair, Through, precedes}
 use Rattle.vector_stamp.specs.Settling.{additions_from}
-use Rattle.weave_account.specs.LowerLaws.{LowerLaws}
+use Rattle.weave_account.specs.LowerLaws.{LawsForAccounts}
 
 -- with more pairs at the end as much precedes
 pub more-precedes : (pairs more : List Given) (a b : Stamp) → Precedes pairs a b → Precedes (pairs ++ more) a b
@@ -15,7 +16,7 @@ more-precedes pairs more _ _ (ByStamps a b h) = ByStamps a b h
 more-precedes pairs more _ _ (ByPair a b h) = ByPair a b (Contains-append_left pairs more (a, b) h)
 more-precedes pairs more _ _ (Through a b c g h) = Through a b c (more-precedes pairs more a b g) (more-precedes pairs more b c h)
 
-module _ (laws : LowerLaws) where
+module _ (laws : LawsForAccounts) where
   grows : (pairs more : List Given) (a b : Stamp) → IsTrue (precedes pairs a b) → IsTrue (precedes (pairs ++ more) a b)
   grows pairs more a b h = (laws.decided (pairs ++ more) a b).0 (more-precedes pairs more a b ((laws.decided pairs a b).1 h))
 

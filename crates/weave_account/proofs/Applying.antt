@@ -1,5 +1,6 @@
 -- The updates applied to a vertex are the first commits that name it, in the order of their numbers: wherever each
 -- message that arrived brings no update, or that of a commit.
+-- Used by Collecting, Heads, Unprocessed, Updates and WrongLogs.
 use Rattle.std.proofs.Common.{◌≡◌, ℕ, suc, ◌+◌, ◌<◌, ◌≤◌, Bool, true, false, cond, nat_eq, ◌==◌, ◌&&◌, not, List, [], ◌∷◌, ◌++◌, map, length, take, Contains, IsTrue, Option, Some, None, ◌⊎◌, inl, inr, refl, sym, ap, subst, ◌∙◌, arith}
 use Rattle.std.specs.Prelude.{count_by, ⊤}
 use Rattle.std.specs.List.{filter, filter_map, find, flat_map, cons_option}
@@ -10,7 +11,7 @@ use Rattle.std.proofs.lemmas.List.Concat.{flat_map-append}
 use Rattle.std.proofs.lemmas.List.Folds.{find-append}
 use Rattle.std.proofs.lemmas.List.Sums.{sum_by-append}
 use Rattle.std.proofs.lemmas.List.Elements.{filter-append, filter_map-append, Contains-append_cases, Contains-append_left, Contains-append_right}
-use Rattle.proof_base.proofs.Members.{has_read, has_head, has_tail, has_none, filter_has, find_has, find_lacks, only, cut_at}
+use Rattle.weave_data.proofs.Members.{has_read, has_head, has_tail, has_none, filter_has, find_has, find_lacks, only, cut_at}
 use Rattle.weave_data.specs.Names.{same_name, one_name}
 use Rattle.weave_data.specs.declared.name.Name.{Name}
 use Rattle.graph_ops.specs.declared.part.Part.{Part}
@@ -23,10 +24,11 @@ use Rattle.weave_entries.specs.Logs.{AtEachEntry}
 use Rattle.weave_entries.specs.Sending.{ops_on}
 use Rattle.weave_entries.specs.ShardReplay.{Arrival, Update, arrival_by, arrivals_of, arrived_at, processed_by, processed_of, updates_in, updates_of, waits_at}
 use Rattle.weave_entries.specs.StoreReplay.{commit_by, commits_of, names_vertex as names, commits_naming, count_naming}
-use Rattle.proof_base.proofs.Ends.{by_last}
-use Rattle.proof_base.proofs.Entries.{each_before, each_last}
-use Rattle.proof_base.proofs.Images.{flat-has}
+use Rattle.weave_data.proofs.Ends.{by_last}
+use Rattle.weave_data.proofs.Entries.{each_before, each_last}
+use Rattle.weave_data.proofs.Images.{flat-has}
 use Rattle.weave_account.proofs.Sent.{IsUpdateOf, Brings}
+use Rattle.weave_account.proofs.Ready.{not-not}
 use Rattle.weave_account.specs.Shards.{update_of, Applies}
 
 -- Arrivals and processed messages, as lists
@@ -76,11 +78,8 @@ arrived-cases arrivals a home number m e =
     at None true is e =
         let parts = and_parts (a.gate == home) (a.number == number) is in inr (eqb-true a.gate home parts.0, eqb-true a.number number parts.1, cc)
 
-not-not : (b : Bool) → ¬ IsTrue (not b) → IsTrue b
-not-not true f = refl
-not-not false f = absurd (f refl)
-
-same-head : {A : Type 0} (x y : A) → x ∷ [] ≡ y ∷ [] → x ≡ y
+-- equal lists of one have equal elements
+pub same-head : {A : Type 0} (x y : A) → x ∷ [] ≡ y ∷ [] → x ≡ y
 same-head x y e = cc
 
 -- Along the log
@@ -282,7 +281,7 @@ module _ (store : List StoreEntry) (v : Name) (WasSent : ℕ → ℕ → Message
   abbrev Rule : List ShardEntry → ShardEntry → Type 0
   Rule before entry = Takes WasSent before entry.deed
 
-  -- so it is of each log of the shard
+  -- this holds of each log of the shard
   pub shows : (log : List ShardEntry) → AtEachEntry (λ before (entry : ShardEntry). Takes WasSent before entry.deed) log
       → Shows (arrivals_of log) (processed_of log)
   shows =

@@ -1,21 +1,26 @@
 -- What the lemmas on an account are given: the account, its script's limits, and the laws of the crates below.
+-- Used by `account_has_one_report`, `account_is_right`, `account_may_be_ordered`, 59 more and crate drive_rules.
 use Rattle.vector_stamp.specs.Precedence.{IsAcyclic}
 use Rattle.program_defs.specs.declared.script.Script.{Script}
 use Rattle.weave_account.specs.declared.account.Account.{Account}
 use Rattle.weave_account.specs.Account.{pairs_in}
 use Rattle.weave_account.specs.IsAccount.{IsAccount}
 use Rattle.program_defs.specs.Limits.{IsWithinLimits}
-use Rattle.weave_account.specs.LowerLaws.{LowerLaws}
+use Rattle.weave_account.specs.LowerLaws.{LawsForAccounts}
 
--- an account of a script within its limits
-pub record Basis (script : Script) (account : Account) : Type 0 where
-  pub laws : LowerLaws
+-- an account of a script within its limits, with the laws of the crates below a crate
+pub record BasisWith (Laws : Type 0) (script : Script) (account : Account) : Type 0 where
+  pub laws : Laws
   pub limits : IsWithinLimits script
   pub is : IsAccount script account
 
+-- with the laws of the crates below this one
+abbrev pub Basis : Script → Account → Type 0
+Basis script account = BasisWith LawsForAccounts script account
+
 -- so it is given by a law's premises
-pub based : {script : Script} {account : Account} → LowerLaws → IsWithinLimits script → IsAccount script account
-    → Basis script account
+pub based : {Laws : Type 0} {script : Script} {account : Account} → Laws → IsWithinLimits script → IsAccount script account
+    → BasisWith Laws script account
 based laws limits is = record { laws = laws; limits = limits; is = is }
 
 -- nothing precedes itself

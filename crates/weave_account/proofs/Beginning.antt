@@ -1,15 +1,16 @@
 -- A request that was begun has its stamp.
+-- Used by BegunElsewhere, ConflictsClause, FinalReplies, Growing, InSession, KnownClocks, 9 more and 6 crates above.
 use Rattle.std.proofs.Common.{◌≡◌, ◌≢◌, ℕ, zero, suc, List, [], ◌∷◌, ◌++◌, get_or, Contains, AllPairs, Some, ap}
 use Rattle.std.specs.Option.{option_map}
 use Rattle.std.proofs.lemmas.List.Elements.{Contains-append_left, Contains-append_right}
-use Rattle.proof_base.proofs.Members.{has_head, has_tail, has_none, has_flat}
+use Rattle.weave_data.proofs.Members.{has_head, has_tail, has_none, has_flat}
 use Rattle.vector_stamp.specs.declared.clock.Stamp.{Stamp}
 use Rattle.weave_entries.specs.declared.gate_log.GateEntry.{GateEntry}
 use Rattle.weave_entries.specs.GateReplay.{Begun, tx_by, program_by, txs_of, programs_of, begun_in}
 use Rattle.weave_account.specs.declared.account.Account.{Account}
 use Rattle.weave_account.specs.Account.{gate_log, all_begun, stamp_of}
-use Rattle.proof_base.proofs.Images.{flat-has}
-use Rattle.proof_base.proofs.Ordered.{find_by_key}
+use Rattle.weave_data.proofs.Images.{flat-has}
+use Rattle.weave_data.proofs.Ordered.{find_by_key}
 
 -- a list that has something is one of the lists
 pub list-there : {A : Type 0} (xss : List (List A)) (i : ℕ) (y : A) → Contains (get_or xss i []) y
@@ -18,14 +19,14 @@ list-there [] i y h = absurd (has_none y h)
 list-there (xs ∷ xss) zero y h = has_head xs xss
 list-there (xs ∷ xss) (suc i) y h = has_tail xs xss (get_or xss i []) (list-there xss i y h)
 
--- a transaction that was begun was begun
+-- what was begun as a transaction is among all that was begun
 pub tx-begun : (log : List GateEntry) (begun : Begun) → Contains (txs_of log) begun → Contains (begun_in log) begun
 tx-begun log begun h =
     let from = flat-has (λ (entry : GateEntry). tx_by entry.author entry.deed) log begun h in
     has_flat (λ (entry : GateEntry). tx_by entry.author entry.deed ++ program_by entry.author entry.deed) log from.0 begun from.1.0
     (Contains-append_left (tx_by (from.0).author (from.0).deed) (program_by (from.0).author (from.0).deed) begun from.1.1)
 
--- so was a program
+-- what was begun as a program is among all that was begun
 pub program-begun : (log : List GateEntry) (begun : Begun) → Contains (programs_of log) begun → Contains (begun_in log) begun
 program-begun log begun h =
     let from = flat-has (λ (entry : GateEntry). program_by entry.author entry.deed) log begun h in

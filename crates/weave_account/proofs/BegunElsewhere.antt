@@ -1,9 +1,10 @@
 -- The stamps in the logs of store, oracle, shards and sessions are those of begun requests, and what is judged is the
 -- transaction of its request.
+-- Used by `judgements_are_of_requests` and `stamps_are_begun`.
 use Rattle.std.proofs.Common.{◌≡◌, ℕ, List, [], ◌∷◌, map, Contains, Option, None, Some, inl, inr, refl, sym, ap, subst, ◌∙◌}
 use Rattle.std.specs.Prelude.{IsSomeAnd}
 use Rattle.std.specs.List.{cons_option, filter, filter_map}
-use Rattle.proof_base.proofs.Members.{cut_at, filter_has, has_map, has_none, has_read}
+use Rattle.weave_data.proofs.Members.{cut_at, filter_has, has_map, has_none, has_read}
 use Rattle.weave_data.specs.Names.{same_name}
 use Rattle.weave_data.specs.declared.name.Name.{Name}
 use Rattle.graph_ops.specs.Mentions.{named_by}
@@ -35,7 +36,7 @@ use Rattle.weave_account.proofs.Basis.{Basis}
 use Rattle.weave_account.proofs.Beginning.{all-in, tx-begun}
 use Rattle.weave_account.proofs.Heads.{arrived-sent}
 use Rattle.weave_account.proofs.InSession.{last-begun}
-use Rattle.proof_base.proofs.Images.{flat-has, map-has}
+use Rattle.weave_data.proofs.Images.{flat-has, map-has}
 use Rattle.weave_account.proofs.PlacedPairs.{judged-begun}
 use Rattle.weave_account.proofs.RepliesClause.{begin-of}
 use Rattle.weave_account.proofs.Sent.{sent-made}

@@ -1,8 +1,9 @@
 -- The stamp of a begun request is one of the script: its home is a gatekeeper of it, and it counts no events of others.
+-- Used by FormOfScript, KnownClocks and PhasePrecedence.
 use Rattle.std.proofs.Common.{◌≡◌, ℕ, zero, suc, ◌≤◌, ◌==◌, List, [], ◌∷◌, length, get_or, drop, Contains, IsTrue, refl, subst, arith}
 use Rattle.std.specs.List.{list_all}
 use Rattle.std.proofs.lemmas.Bool.{and_from, eq-eqb, lt-ltb}
-use Rattle.proof_base.proofs.Members.{has_none, has_head, has_flat, only}
+use Rattle.weave_data.proofs.Members.{has_none, has_head, has_flat, only}
 use Rattle.vector_stamp.specs.Order.{count_of, has_64_bits}
 use Rattle.program_defs.specs.declared.script.Script.{Script}
 use Rattle.weave_entries.specs.declared.gate_log.GateEntry.{GateEntry}
@@ -12,7 +13,7 @@ use Rattle.weave_entries.specs.GateReplay.{Begun, begun_by, begun_in, clocks_by,
 use Rattle.report_rules.specs.ReportOf.{is_stamp_of}
 use Rattle.weave_account.specs.declared.account.Account.{Account}
 use Rattle.weave_account.specs.Account.{gate_log}
-use Rattle.proof_base.proofs.Images.{flat-has}
+use Rattle.weave_data.proofs.Images.{flat-has}
 use Rattle.weave_account.proofs.Replying.{home-within}
 use Rattle.weave_account.proofs.Basis.{Basis}
 

@@ -1,4 +1,5 @@
 -- The stamps of all begun requests are coherent.
+-- Used by `begun_stamps_are_coherent` and PairEnds.
 use Rattle.std.proofs.Common.{◌≡◌, ℕ, ◌<◌, ◌≤◌, length, map, Contains, sym, ap, subst, arith}
 use Rattle.vector_stamp.specs.declared.clock.EventId.{EventId}
 use Rattle.vector_stamp.specs.declared.clock.Stamp.{Stamp}
@@ -9,14 +10,14 @@ use Rattle.weave_entries.specs.GateReplay.{Begun, begun_by, begun_in, stamps_of}
 use Rattle.weave_entries.specs.GateRules.{IsGateLog}
 use Rattle.weave_account.specs.declared.account.Account.{Account}
 use Rattle.weave_account.specs.Account.{gate_log, all_begun}
-use Rattle.weave_account.specs.LowerLaws.{LowerLaws}
-use Rattle.proof_base.proofs.Images.{flat-has, map-has, within-list}
+use Rattle.weave_account.specs.LowerLaws.{LawsForAccounts}
+use Rattle.weave_data.proofs.Images.{flat-has, map-has, within-list}
 use Rattle.weave_account.proofs.Replying.{place-of}
 use Rattle.weave_account.proofs.Basis.{Basis}
 
 -- As far as the logs of the gatekeepers were seen
 
-module _ (laws : LowerLaws) (shards : ℕ) (account : Account) (few : length account.gates ≤ 8) (logs : (home : ℕ) → IsGateLog home shards (gate_log account home)) where
+module _ (laws : LawsForAccounts) (shards : ℕ) (account : Account) (few : length account.gates ≤ 8) (logs : (home : ℕ) → IsGateLog home shards (gate_log account home)) where
   -- where a begun stamp is
   record IsStampAt (stamp : Stamp) : Type 0 where
     below : stamp.home < 8
@@ -59,7 +60,7 @@ module _ (laws : LowerLaws) (shards : ℕ) (account : Account) (few : length acc
 
 -- In an account
 
--- so it is in an account
+-- this holds in an account
 pub begun-coherent : (script : Script) (account : Account) → Basis script account
     → AreCoherent (map (λ (b : Begun). b.stamp) (all_begun account))
 begun-coherent script account basis =

@@ -1,6 +1,7 @@
 -- What collections leave: the oldest version kept, if any was dropped, is before a bound, and each bound is at
 -- most the stamps of the programs that are running. It rests on what a hand can have seen, of which an account has
 -- all.
+-- Used by `accounts_were_seen`, `collections_leave_what_programs_see` and KnownClocks.
 use Rattle.std.proofs.Common.{◌≡◌, ℕ, zero, suc, ◌+◌, ◌<◌, max, Bool, true, false, List, [], ◌∷◌, ◌++◌, map, fold, drop, Contains, IsTrue, Option, Some, None, ◌⊎◌, inl, inr, refl, sym, ap, subst, ◌∙◌, append_assoc, arith}
 use Rattle.std.specs.Prelude.{pred, slice_get, IsSomeAnd}
 use Rattle.std.specs.List.{range_with_len}
@@ -8,8 +9,8 @@ use Rattle.std.specs.Option.{option_map}
 use Rattle.std.proofs.lemmas.Bool.{cases_order}
 use Rattle.std.proofs.lemmas.List.{append-nil}
 use Rattle.std.proofs.lemmas.List.Elements.{Contains-append_left}
-use Rattle.proof_base.proofs.Entries.{by_entries, each_before}
-use Rattle.proof_base.proofs.Members.{cut_at, has_head, has_last, has_map, has_none, has_read, has_tail, only}
+use Rattle.weave_data.proofs.Entries.{by_entries, each_before}
+use Rattle.weave_data.proofs.Members.{cut_at, has_head, has_last, has_map, has_none, has_read, has_tail, only}
 use Rattle.weave_data.specs.Names.{shard_of}
 use Rattle.weave_data.specs.declared.name.Name.{Name}
 use Rattle.vector_stamp.specs.declared.clock.Clock.{Clock}
@@ -32,13 +33,13 @@ use Rattle.weave_entries.specs.ShardRules.{IsKeptFor, dropped_of}
 use Rattle.weave_account.specs.declared.account.Account.{Account}
 use Rattle.weave_account.specs.Account.{gate_log, shard_log}
 use Rattle.weave_account.specs.Collection.{IsBeforeABound, oldest_kept}
-use Rattle.weave_account.specs.LowerLaws.{LowerLaws}
+use Rattle.weave_account.specs.LowerLaws.{LawsForAccounts}
 use Rattle.weave_account.specs.Seen.{HavePassed, ComesAs, HasSeen, HasSeenSent, TakesAs}
 use Rattle.weave_account.specs.Shards.{ShardFitsAs}
 use Rattle.weave_account.proofs.Basis.{Basis}
 use Rattle.weave_account.proofs.Applying.{Takes, arrived-was-sent}
 use Rattle.weave_account.proofs.Heads.{seen-go-on}
-use Rattle.proof_base.proofs.Images.{flat-has, map-has, within-list}
+use Rattle.weave_data.proofs.Images.{flat-has, map-has, within-list}
 use Rattle.weave_account.proofs.Requests.{in-range}
 use Rattle.weave_account.proofs.Ready.{has-range}
 
@@ -103,7 +104,7 @@ max-first : (a b : ℕ) → (b < a) ⊎ (a ≡ b) → max a b ≡ a
 max-first a b (inl less) = omega (arith, less)
 max-first a b (inr same) = omega (arith, same)
 
-module _ (laws : LowerLaws) (shards : ℕ) (store : List StoreEntry) (passes : HavePassed store)
+module _ (laws : LawsForAccounts) (shards : ℕ) (store : List StoreEntry) (passes : HavePassed store)
     (shard : ℕ) (v : Name) (here : shard_of v shards ≡ shard) where
   abbrev Fits : List ShardEntry → Type 0
   Fits log = AtEachEntry (λ before (entry : ShardEntry). TakesAs shards store shard before entry.deed) log
@@ -124,7 +125,7 @@ module _ (laws : LowerLaws) (shards : ℕ) (store : List StoreEntry) (passes : H
             (subst (λ us. IsSomeAnd (slice_get us place) (IsOlder bound)) (sym more.1) (get-longer (IsOlder bound) (updates_of v log) more.0 place there));
       }
 
-  -- as many are dropped as before
+  -- the same number is dropped as before
   unchanged : (log : List ShardEntry) → Fits log → (entry : ShardEntry)
       → dropped_from v [] (log ++ entry ∷ []) 0 ≡ dropped_from v [] log 0
       → (0 < dropped_from v [] log 0 → IsBeforeABound v log) → 0 < dropped_from v [] (log ++ entry ∷ []) 0
@@ -173,7 +174,7 @@ record IsBelow (bound : Clock) (low : Option Clock) : Type 0 where
   pub is : low ≡ Some clock
   pub below : IsTrue (is_at_most bound clock)
 
-module _ (laws : LowerLaws) where
+module _ (laws : LawsForAccounts) where
   -- the meet of two, if both are there, has eight counts
   eight-met : (a b : Option Clock) → ((clock : Clock) → a ≡ Some clock → HasEightCounts clock)
       → ((clock : Clock) → b ≡ Some clock → HasEightCounts clock) → (clock : Clock) → meet_if a b ≡ Some clock
@@ -225,7 +226,11 @@ module _ (laws : LowerLaws) where
 
 -- Of what was seen
 
-module _ (laws : LowerLaws) (gates shards : ℕ) (seen : Account) (shard : ℕ) (log : List ShardEntry) (sent : HasSeenSent gates shards seen shard log) where
+-- the low mark of the last processed message of a gatekeeper
+abbrev pub low-of : List ShardEntry → ℕ → Option Clock
+low-of log gate = option_map (λ (message : Message). message.low) (last_of gate log)
+
+module _ (laws : LawsForAccounts) (gates shards : ℕ) (seen : Account) (shard : ℕ) (log : List ShardEntry) (sent : HasSeenSent gates shards seen shard log) where
   abbrev WasSent : ℕ → ℕ → Message → Type 0
   WasSent home number message =
       Contains (addressed_to shard (gate_log seen home)) (record { shard = shard; number = number; message = message })
@@ -243,15 +248,11 @@ module _ (laws : LowerLaws) (gates shards : ℕ) (seen : Account) (shard : ℕ) 
       has_map (λ (a : Addressed). a.message) (addressed_to shard (gate_log seen home)) (record { shard = shard; number = number; message = message })
       (arrived-was-sent WasSent log (λ before entry after is. deed-takes before entry.deed (sent.comes before entry after is)) home number message e)
 
-  -- the low mark of the last processed message of a gatekeeper
-  abbrev low-of : ℕ → Option Clock
-  low-of gate = option_map (λ (message : Message). message.low) (last_of gate log)
-
   -- has eight counts
-  low-eight : (low : Option Clock) → Contains (map low-of (range_with_len 0 gates)) low → (clock : Clock) → low ≡ Some clock
+  low-eight : (low : Option Clock) → Contains (map (low-of log) (range_with_len 0 gates)) low → (clock : Clock) → low ≡ Some clock
       → HasEightCounts clock
   low-eight low h clock is =
-      let image = map-has low-of (range_with_len 0 gates) low h in
+      let image = map-has (low-of log) (range_with_len 0 gates) low h in
       of-message image.of (in-range 0 gates image.of image.has) (last_of image.of log) refl (image.is ∙ is)
     where
       of-message : (gate : ℕ) → gate < 0 + gates → (o : Option Message) → last_of gate log ≡ o
@@ -274,11 +275,11 @@ module _ (laws : LowerLaws) (gates shards : ℕ) (seen : Account) (shard : ℕ) 
     -- so the bound of the shard is
     pub below-program : (bound : Clock) → bound_of gates log ≡ Some bound → IsTrue (is_at_most bound program.stamp.clock)
     below-program bound e =
-        let low = all (map low-of (range_with_len 0 gates)) low-eight e (low-of home) own in
+        let low = all (map (low-of log) (range_with_len 0 gates)) low-eight e (low-of log home) own in
         ends (last_of home log) refl low.clock low.is low.below
       where
-        own : Contains (map low-of (range_with_len 0 gates)) (low-of home)
-        own = has_map low-of (range_with_len 0 gates) home (has-range 0 gates home (omega arith) (omega (arith, inside)))
+        own : Contains (map (low-of log) (range_with_len 0 gates)) (low-of log home)
+        own = has_map (low-of log) (range_with_len 0 gates) home (has-range 0 gates home (omega arith) (omega (arith, inside)))
 
         all : (lows : List (Option Clock))
             → ((low : Option Clock) → Contains lows low → (clock : Clock) → low ≡ Some clock → HasEightCounts clock)
@@ -304,7 +305,7 @@ sent-before gates shards seen shard before after sent = record {
   comes = each_before (λ before (entry : ShardEntry). ComesAs gates seen shard before entry.deed) before after sent.comes;
 }
 
-module _ (laws : LowerLaws) (gates shards : ℕ) (seen : Account) (shard : ℕ) (log : List ShardEntry) (has : HasSeen shards seen.store shard log) (sent : HasSeenSent gates shards seen shard log)
+module _ (laws : LawsForAccounts) (gates shards : ℕ) (seen : Account) (shard : ℕ) (log : List ShardEntry) (has : HasSeen shards seen.store shard log) (sent : HasSeenSent gates shards seen shard log)
     (home : ℕ) (inside : home < gates) (program : Begun) (running : Contains (running_of (gate_log seen home)) program) (v : Name) (here : shard_of v shards ≡ shard) where
   -- if any version was dropped, the oldest one kept is before the program
   oldest-seen : 0 < dropped_of v log

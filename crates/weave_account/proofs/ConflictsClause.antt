@@ -1,12 +1,13 @@
 -- The clause on conflicts: the newer request was judged before, names the vertex, and is preceded. It rests on the
 -- clause on the store.
+-- Used by FormOfScript, Growing, NumbersClause, PairsClause, PhasesKept, PlacedPairs, RefusalsClause and 2 more.
 use Rattle.std.proofs.Common.{◌≡◌, ℕ, ◌<◌, List, [], ◌∷◌, ◌++◌, Contains, AllPairs, IsTrue, Option, Some, None, inl, inr, refl, sym, ap, subst, ◌∙◌}
 use Rattle.std.specs.Prelude.{IsSomeAnd, reverse, ⊤, is_some}
 use Rattle.std.proofs.lemmas.Bool.{and_from}
 use Rattle.std.proofs.lemmas.List.{map-append, reverse-append}
 use Rattle.std.proofs.lemmas.List.Concat.{flat_map-append}
 use Rattle.std.proofs.lemmas.List.Elements.{Contains-append_left, Contains-append_cases}
-use Rattle.proof_base.proofs.Members.{has_read, has_head, has_tail, has_none, find_has, has_map}
+use Rattle.weave_data.proofs.Members.{has_read, has_head, has_tail, has_none, find_has, has_map}
 use Rattle.vector_stamp.specs.declared.clock.Stamp.{Stamp}
 use Rattle.vector_stamp.specs.Precedence.{Precedes, ByStamps}
 use Rattle.weave_data.specs.declared.name.Name.{Name}
@@ -24,7 +25,7 @@ use Rattle.report_rules.specs.declared.report.Reply.{Reply}
 use Rattle.report_rules.specs.declared.report.ReplyState.{ReplyState}
 use Rattle.report_rules.specs.declared.report.ReplyState.TheVariants.{Unbegun, Begun as Running, Committed, Conflict, Refused, Finished}
 use Rattle.report_rules.specs.declared.report.Report.{Report}
-use Rattle.proof_base.specs.Facts.{AllHold}
+use Rattle.weave_data.specs.Facts.{AllHold}
 use Rattle.report_rules.specs.RightReport.{IsConflictInPlace, conflicts_clause}
 use Rattle.report_rules.specs.Lookups.{is_some_and, AreBoth, request_at, same_session, names_vertex, number_of, is_committed}
 use Rattle.weave_account.specs.declared.account.Account.{Account}
@@ -34,20 +35,17 @@ use Rattle.weave_account.specs.Report.{state_by_verdict, state_of_tx, IsStateOfP
 use Rattle.weave_account.proofs.Beginning.{tx-stamp}
 use Rattle.weave_account.proofs.Listed.{IsJudgedAt, judged-at, listed-is}
 use Rattle.weave_account.proofs.ListingClause.{session-other, matches-of}
-use Rattle.proof_base.proofs.Ordered.{pairs_across}
-use Rattle.proof_base.proofs.Images.{flat-has}
-use Rattle.proof_base.proofs.Numbers.{in-has}
-use Rattle.proof_base.proofs.Places.{each-holds, not-true}
+use Rattle.weave_data.proofs.Ordered.{pairs_across}
+use Rattle.weave_data.proofs.Images.{flat-has}
+use Rattle.weave_data.proofs.Numbers.{in-has}
+use Rattle.weave_data.proofs.ListPlaces.{each-holds, not-true}
 use Rattle.weave_account.proofs.Ordering.{RequestBefore, not-both}
 use Rattle.weave_account.proofs.Printing.{order-has}
 use Rattle.weave_account.proofs.Storing.{requests_of_commits, commit-of, work-named}
-use Rattle.weave_account.proofs.Replies.{same-precedence}
+use Rattle.weave_account.proofs.Replies.{same-precedence, convert}
 use Rattle.weave_account.proofs.Transactions.{known, commits-listed}
 use Rattle.weave_account.proofs.Basis.{Basis}
 use Rattle.weave_account.proofs.Sessions.{sessions-rise}
-
-convert : {A B : Type 0} → A ≡ B → A → B
-convert e a = subst (λ (X : Type 0). X) e a
 
 -- A reply that says a verdict
 

@@ -1,9 +1,10 @@
 -- An order that keeps precedence, cut at one request: the commits at a vertex that are listed before the request are
 -- those that precede it, in the order of their numbers.
+-- Used by ListingClause, Meeting, Printing, ReadingPlace and Transactions.
 use Rattle.std.proofs.Common.{◌≡◌, ◌≢◌, ℕ, Bool, List, [], ◌∷◌, ◌++◌, IsTrue, ◌⊎◌, inl, inr, refl, sym, ap, subst, ◌∙◌}
 use Rattle.std.specs.List.{filter}
 use Rattle.report_rules.specs.Lookups.{is_in}
-use Rattle.proof_base.proofs.Numbers.{IsSorted, in-head, in-tail, in-cases, in-append_left, in-append_right, in-append_cases, in-filter, filter-in, sorted-filter, sorted-left, sorted-at, one-list}
+use Rattle.weave_data.proofs.Numbers.{IsSorted, in-head, in-tail, in-cases, in-append_left, in-append_right, in-append_cases, in-filter, filter-in, sorted-filter, sorted-left, sorted-at, one-list}
 
 -- the later one is another request, and doesn't precede the earlier one
 abbrev pub IsNotAfter : (ℕ → ℕ → Type 0) → ℕ → ℕ → Type 0

@@ -1,9 +1,9 @@
 -- A worked account: a gatekeeper raises its epoch, and another one hears a clock of it. Two transactions without
 -- operations begin in the new epoch, and a shard collects before anything was processed.
-use Rattle.std.proofs.Common.{◌≡◌, ◌≢◌, ℕ, zero, suc, ◌≤◌, [], ◌∷◌, Contains, IsTrue, Some, None, refl, sym, ap, subst, ◌∙◌, arith}
+use Rattle.std.proofs.Common.{◌≡◌, ◌≢◌, ℕ, zero, suc, ◌≤◌, [], ◌∷◌, Contains, IsTrue, Some, None, refl, ap, ◌∙◌, arith}
 use Rattle.std.specs.Prelude.{codes}
-use Rattle.proof_base.proofs.Entries.{each_none}
-use Rattle.proof_base.proofs.Members.{has_none}
+use Rattle.weave_data.proofs.Entries.{each_none}
+use Rattle.weave_data.proofs.Members.{has_none}
 use Rattle.vector_stamp.specs.declared.clock.Clock.{Clock}
 use Rattle.vector_stamp.specs.declared.clock.Stamp.{Stamp}
 use Rattle.vector_stamp.specs.Order.{count_of}
@@ -11,7 +11,6 @@ use Rattle.program_defs.specs.declared.program.Program.{Program}
 use Rattle.program_defs.specs.declared.script.Request.{Request}
 use Rattle.program_defs.specs.declared.script.Script.{Script}
 use Rattle.program_defs.specs.declared.script.Work.TheVariants.{Change, Look}
-use Rattle.program_defs.specs.Works.{is_look}
 use Rattle.weave_entries.specs.declared.gate_log.GateEntry.{GateEntry}
 use Rattle.weave_entries.specs.declared.gate_log.GateDeed.TheVariants.{BeganTx, Heard, Raised, Sent}
 use Rattle.weave_entries.specs.declared.store_log.StoreEntry.{StoreEntry}
@@ -24,22 +23,22 @@ use Rattle.weave_entries.specs.declared.verdict.Verdict.TheVariants.{Committed}
 use Rattle.weave_entries.specs.Logs.{AtEachEntry}
 use Rattle.weave_entries.specs.GateReplay.{Begun, clocks_in, ticks_of}
 use Rattle.weave_entries.specs.GateRules.{FitsAs, IsGateLog, HearsAs}
-use Rattle.weave_entries.specs.SessionReplay.{FitsSession, has_reply_in, session_of, session_stamp_of}
-use Rattle.weave_entries.specs.ShardReplay.{Visit, visits_of}
+use Rattle.weave_entries.specs.SessionReplay.{FitsSession, session_of}
 use Rattle.weave_entries.specs.StoreReplay.{Judgement, judged_by}
 use Rattle.report_rules.specs.Lookups.{request_at}
 use Rattle.weave_account.specs.declared.account.Account.{Account}
-use Rattle.weave_account.specs.Account.{gate_log, is_ended, reads_of, session_log, shard_log, stamp_of}
+use Rattle.weave_account.specs.Account.{gate_log, is_ended, reads_of, session_log, shard_log}
 use Rattle.weave_account.specs.Channels.{SendsAs}
 use Rattle.weave_account.specs.Clocks.{IsKnown}
 use Rattle.weave_account.specs.Gatekeepers.{BeginsAs}
 use Rattle.weave_account.specs.IsAccount.{IsAccount}
-use Rattle.weave_account.specs.Oracle.{HasItsEntry}
 use Rattle.weave_account.specs.Programs.{ReadsInTurn}
 use Rattle.weave_account.specs.Sessions.{RepliesAs, requests_of_session}
 use Rattle.weave_account.specs.Shards.{AreShardDeeds, ShardFitsAs}
 use Rattle.weave_account.specs.Store.{AreJudgements, InTurn, Judges}
 use Rattle.weave_account.proofs.ExampleLists.{in-one, of-each, one, pairs-two, three, two, zeros}
+use Rattle.weave_account.proofs.ExampleParts.{HasSessionStamp, IsRepliedIfFinished, at-gate, at-shard, at-store, in-session, none-marked, of-two}
+use Rattle.report_rules.proofs.Examples.{script_of}
 
 -- a clock of epoch 1
 abbrev pub clock : ℕ → ℕ → Clock
@@ -58,43 +57,43 @@ abbrev pub t2 : Request
 t2 = record { name = codes "t2"; session = 1; gate = 1; work = Change [] }
 
 abbrev pub script : Script
-script = record { gates = 2; shards = 1; requests = t1 ∷ t2 ∷ []; phases = []; steps = None }
+script = script_of 2 (t1 ∷ t2 ∷ [])
 
 abbrev pub g1 : GateEntry
-g1 = record { author = 0; deed = Raised 1 }
+g1 = at-gate (Raised 1)
 
 abbrev pub g2 : GateEntry
-g2 = record { author = 0; deed = BeganTx 0 x }
+g2 = at-gate (BeganTx 0 x)
 
 abbrev pub g3 : GateEntry
-g3 = record { author = 0; deed = Sent 0 [] }
+g3 = at-gate (Sent 0 [])
 
 abbrev pub h1 : GateEntry
-h1 = record { author = 0; deed = Heard (clock 1 0) }
+h1 = at-gate (Heard (clock 1 0))
 
 abbrev pub h2 : GateEntry
-h2 = record { author = 0; deed = BeganTx 1 y }
+h2 = at-gate (BeganTx 1 y)
 
 abbrev pub h3 : GateEntry
-h3 = record { author = 0; deed = Sent 1 [] }
+h3 = at-gate (Sent 1 [])
 
 abbrev pub j1 : StoreEntry
-j1 = record { author = 0; deed = Judged 0 x [] [] (Committed 1 [] []) }
+j1 = at-store (Judged 0 x [] [] (Committed 1 [] []))
 
 abbrev pub j2 : StoreEntry
-j2 = record { author = 0; deed = Judged 1 y [] [] (Committed 2 [] []) }
+j2 = at-store (Judged 1 y [] [] (Committed 2 [] []))
 
 abbrev pub s1 : ShardEntry
-s1 = record { author = 0; deed = Collected None }
+s1 = at-shard (Collected None)
 
 abbrev pub b1 : SessionEntry
-b1 = record { author = 0; deed = session.Begun 0 x }
+b1 = in-session 0 (session.Begun 0 x)
 
 abbrev pub b2 : SessionEntry
-b2 = record { author = 0; deed = session.Replied 0 }
+b2 = in-session 0 (session.Replied 0)
 
 abbrev pub b3 : SessionEntry
-b3 = record { author = 1; deed = session.Begun 1 y }
+b3 = in-session 1 (session.Begun 1 y)
 
 abbrev pub account : Account
 account = record {
@@ -158,11 +157,6 @@ deeds : (shard : ℕ)
 deeds (suc shard) = each_none _
 deeds zero = one (λ before (entry : ShardEntry). ShardFitsAs script account 0 before entry.deed) s1 refl
 
-none-marked : (shard : ℕ) (visit : Visit) → Contains (visits_of (shard_log account shard)) visit → IsTrue visit.settled
-    → HasItsEntry account (shard_log account shard) visit
-none-marked zero visit h marked = absurd (has_none visit h)
-none-marked (suc shard) visit h marked = absurd (has_none visit h)
-
 -- The sessions
 
 session-fits : (number : ℕ)
@@ -181,22 +175,6 @@ session-replies : (number : ℕ)
 session-replies (suc (suc number)) = each_none _
 session-replies zero = two (λ before (entry : SessionEntry). RepliesAs account entry.deed) b1 b2 tt refl
 session-replies (suc zero) = one (λ before (entry : SessionEntry). RepliesAs account entry.deed) b3 tt
-
-session-stamps : (r : ℕ) (request : Request) → request_at script r ≡ Some request
-    → session_stamp_of r (session_log account request.session) ≡ stamp_of account r
-session-stamps zero request e =
-    let same : t1 ≡ request = cc in subst (λ (q : Request). session_stamp_of 0 (session_log account q.session) ≡ stamp_of account 0) same refl
-session-stamps (suc zero) request e =
-    let same : t2 ≡ request = cc in subst (λ (q : Request). session_stamp_of 1 (session_log account q.session) ≡ stamp_of account 1) same refl
-session-stamps (suc (suc r)) request e = cc
-
-finished-replied : (r : ℕ) (request : Request) → request_at script r ≡ Some request → IsTrue (is_look request.work)
-    → IsTrue (is_ended account r) → IsTrue (has_reply_in r (session_log account request.session))
-finished-replied zero request e look done =
-    let same : t1 ≡ request = cc in let clash : IsTrue (is_look t1.work) = subst (λ (q : Request). IsTrue (is_look q.work)) (sym same) look in cc
-finished-replied (suc zero) request e look done =
-    let same : t2 ≡ request = cc in let clash : IsTrue (is_look t2.work) = subst (λ (q : Request). IsTrue (is_look q.work)) (sym same) look in cc
-finished-replied (suc (suc r)) request e look done = cc
 
 -- Clocks
 
@@ -230,9 +208,9 @@ worked-epoch =
     record {
       gatekeepers = record { as_many = refl; logs = fits; begins = begins; once = pairs-two (λ (a b : Begun). a.request ≢ b.request) _ _ (λ e. cc) };
       clocks = record { known = known; hears_no_more = hears };
-      sessions = record { logs = session-fits; stamps = session-stamps; replies = session-replies; finished_are_replied = finished-replied };
+      sessions = record { logs = session-fits; stamps = of-two (HasSessionStamp account) script t1 t2 refl refl refl; replies = session-replies; finished_are_replied = of-two (IsRepliedIfFinished account) script t1 t2 refl (λ look. absurd cc) (λ look. absurd cc) };
       store = record { judges = judges; once = pairs-two (λ (a b : Judgement). a.request ≢ b.request) _ _ (λ e. cc); in_turn = pairs-two (λ (a b : Judgement). InTurn script a.request b.request) _ _ (λ e. cc) };
-      oracle = record { log = tt; asked = λ entry h. absurd (has_none entry h); marked = none-marked; once = λ i j d below within. absurd (omega (arith, within)) };
+      oracle = record { log = tt; asked = λ entry h. absurd (has_none entry h); marked = none-marked account (s1 ∷ []) refl refl; once = λ i j d below within. absurd (omega (arith, within)) };
       channels = sends;
       shards = record { as_many = refl; deeds = deeds };
       programs = no-program;

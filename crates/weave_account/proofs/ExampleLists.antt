@@ -1,10 +1,11 @@
 -- Short lists of worked accounts: what is said of each entry, of each element, of each two.
-use Rattle.std.proofs.Common.{◌≡◌, ℕ, zero, suc, List, [], ◌∷◌, Contains, AllPairs, get_or, inl, inr, refl, subst, arith}
+-- Used by ExampleEpoch, ExampleMarked, ExampleParts, 5 more and crates hands_account, locks_rows and seen_logs.
+use Rattle.std.proofs.Common.{◌≡◌, ℕ, zero, suc, List, [], ◌∷◌, Contains, AllPairs, get_or, inl, inr, refl, subst, arith, ◌<◌}
 use Rattle.std.specs.Prelude.{replicate}
 use Rattle.std.specs.List.{AllByRecursion}
-use Rattle.proof_base.proofs.Entries.{each_none, each_push}
-use Rattle.proof_base.proofs.Members.{has_head, has_none, has_read, only}
-use Rattle.proof_base.proofs.Ordered.{pairs_cons}
+use Rattle.weave_data.proofs.Entries.{each_none, each_push}
+use Rattle.weave_data.proofs.Members.{has_head, has_none, has_read, only}
+use Rattle.weave_data.proofs.Ordered.{pairs_cons}
 use Rattle.weave_entries.specs.Logs.{AtEachEntry}
 
 module _ {E : Type 0} (P : List E → E → Type 0) where
@@ -37,6 +38,11 @@ module _ {E : Type 0} (P : List E → E → Type 0) where
 -- a list of one has its element
 pub in-one : {A : Type 0} (x : A) → Contains (x ∷ []) x
 in-one x = has_head x []
+
+-- the only number below 1 is 0
+pub only-zero : (n : ℕ) → n < 1 → 0 ≡ n
+only-zero zero less = refl
+only-zero (suc n) less = absurd (omega (arith, less))
 
 -- each count of a list of zeros is 0
 pub zeros : (n home : ℕ) → get_or {A = ℕ} (replicate n 0) home 0 ≡ 0

@@ -1,27 +1,24 @@
 -- A worked account: a transaction creates a and b and links them, and an unordered program asks whether b can be
 -- reached from a. The vertices are kept by two shards. The first visit asks the oracle, which puts the transaction
 -- before the program; the second one finds that pair.
-use Rattle.std.proofs.Common.{◌≡◌, ◌≢◌, ℕ, zero, suc, ◌<◌, ◌≤◌, Bool, true, false, ◌||◌, List, [], ◌∷◌, get_or, Contains, IsTrue, Some, None, inr, refl, sym, ap, subst, ◌∙◌, arith}
+-- Used by ExampleReports and WrongLogs.
+use Rattle.std.proofs.Common.{◌≡◌, ◌≢◌, ℕ, zero, suc, Bool, true, false, ◌||◌, List, [], ◌∷◌, get_or, Contains, IsTrue, Some, None, inr, refl, sym, ap, subst, ◌∙◌, arith}
 use Rattle.std.specs.Prelude.{codes, slice_get}
-use Rattle.proof_base.proofs.Entries.{each_none}
-use Rattle.proof_base.proofs.Members.{has_none, only}
-use Rattle.vector_stamp.specs.declared.clock.EventId.{EventId}
-use Rattle.vector_stamp.specs.Order.{count_of, id_of}
+use Rattle.weave_data.proofs.Entries.{each_none}
+use Rattle.weave_data.proofs.Members.{has_none, only}
 use Rattle.vector_stamp.specs.Precedence.{ByPair}
 use Rattle.weave_data.specs.Names.{same_name}
 use Rattle.graph_ops.specs.Operations.{State}
 use Rattle.program_defs.specs.declared.program.Program.{Program}
-use Rattle.program_defs.specs.Works.{is_look}
 use Rattle.weave_entries.specs.Logs.{AtEachEntry}
-use Rattle.weave_entries.specs.GateReplay.{Begun, clocks_in, ticks_of}
+use Rattle.weave_entries.specs.GateReplay.{Begun, clocks_in}
 use Rattle.weave_entries.specs.GateRules.{FitsAs, IsGateLog, HearsAs}
 use Rattle.weave_entries.specs.OracleReplay.{settled_entry}
-use Rattle.weave_entries.specs.OracleRules.{IsOracleLog}
-use Rattle.weave_entries.specs.SessionReplay.{FitsSession, has_reply_in, session_of, session_stamp_of}
+use Rattle.weave_entries.specs.SessionReplay.{FitsSession, session_of}
 use Rattle.weave_entries.specs.ShardReplay.{Update, Visit, updates_of, visits_of}
 use Rattle.weave_entries.specs.StoreReplay.{Judgement, judged_by}
 use Rattle.report_rules.specs.Lookups.{request_at}
-use Rattle.weave_account.specs.Account.{Precedence, gate_log, is_ended, reads_of, session_log, shard_log, stamp_of}
+use Rattle.weave_account.specs.Account.{Precedence, gate_log, is_ended, reads_of, session_log, shard_log}
 use Rattle.weave_account.specs.Channels.{SendsAs}
 use Rattle.weave_account.specs.Clocks.{IsKnown}
 use Rattle.weave_account.specs.Gatekeepers.{BeginsAs}
@@ -32,7 +29,8 @@ use Rattle.weave_account.specs.Programs.{ReadsInTurn}
 use Rattle.weave_account.specs.Sessions.{RepliesAs, requests_of_session}
 use Rattle.weave_account.specs.Shards.{AreShardDeeds, ShardFitsAs, update_at}
 use Rattle.weave_account.specs.Store.{AreJudgements, InTurn, Judges}
-use Rattle.weave_account.proofs.ExampleLists.{five, four, in-one, of-each, one, pairs-one, pairs-two, two, zeros}
+use Rattle.weave_account.proofs.ExampleLists.{five, four, in-one, of-each, one, pairs-one, pairs-two, two}
+use Rattle.weave_account.proofs.ExampleParts.{HasSessionStamp, IsRepliedIfFinished, at-gate, at-shard, at-store, clock, in-session, two-known, of-two, one-settled, settles}
 use Rattle.vector_stamp.specs.declared.clock.Clock.{Clock}
 use Rattle.vector_stamp.specs.declared.clock.Stamp.{Stamp}
 use Rattle.weave_data.specs.declared.name.Name.{Name}
@@ -46,7 +44,6 @@ use Rattle.weave_entries.specs.declared.gate_log.GateEntry.{GateEntry}
 use Rattle.weave_entries.specs.declared.gate_log.GateDeed.TheVariants.{BeganTx, BeganProgram, Sent, Nop, Heard, Finished}
 use Rattle.weave_entries.specs.declared.message.Message.{Message}
 use Rattle.weave_entries.specs.declared.oracle_log.OracleEntry.{OracleEntry}
-use Rattle.weave_entries.specs.declared.oracle_log.OracleDeed.TheVariants.{Settled}
 use Rattle.weave_entries.specs.declared.store_log.StoreEntry.{StoreEntry}
 use Rattle.weave_entries.specs.declared.store_log.StoreDeed.TheVariants.{Judged}
 use Rattle.weave_entries.specs.declared.shard_log.ShardEntry.{ShardEntry}
@@ -61,9 +58,6 @@ a = codes "a"
 
 abbrev pub b : Name
 b = codes "b"
-
-abbrev pub clock : ℕ → ℕ → Clock
-clock m n = record { epoch = 0; counts = m ∷ n ∷ 0 ∷ 0 ∷ 0 ∷ 0 ∷ 0 ∷ 0 ∷ [] }
 
 abbrev pub at-first : ℕ → ℕ → Stamp
 at-first m n = record { home = 0; clock = clock m n }
@@ -96,58 +90,53 @@ abbrev pub empty : Stamp → Clock → Message
 empty stamp low = record { request = None; stamp = stamp; low = low; parts = [] }
 
 abbrev pub g1 : GateEntry
-g1 = record { author = 0; deed = BeganTx 0 (at-first 1 0) }
+g1 = at-gate (BeganTx 0 (at-first 1 0))
 
 abbrev pub g2 : GateEntry
-g2 =
-    record { author = 0; deed = Sent 0 (record { shard = 0; number = 1; message = of-b } ∷ record { shard = 1; number = 1; message = of-a } ∷ []) }
+g2 = at-gate (Sent 0 (record { shard = 0; number = 1; message = of-b } ∷ record { shard = 1; number = 1; message = of-a } ∷ []))
 
 abbrev pub g3 : GateEntry
-g3 = record { author = 0; deed = Heard (clock 0 1) }
+g3 = at-gate (Heard (clock 0 1))
 
 abbrev pub g4 : GateEntry
-g4 = record { author = 0; deed = Nop 0 2 (at-first 2 1) (clock 2 1) }
+g4 = at-gate (Nop 0 2 (at-first 2 1) (clock 2 1))
 
 abbrev pub g5 : GateEntry
-g5 = record { author = 0; deed = Nop 1 2 (at-first 3 1) (clock 3 1) }
+g5 = at-gate (Nop 1 2 (at-first 3 1) (clock 3 1))
 
 abbrev pub h1 : GateEntry
-h1 = record { author = 0; deed = BeganProgram 1 (at-second 0 1) }
+h1 = at-gate (BeganProgram 1 (at-second 0 1))
 
 abbrev pub h2 : GateEntry
-h2 = record { author = 0; deed = Nop 0 1 (at-second 0 2) (clock 0 1) }
+h2 = at-gate (Nop 0 1 (at-second 0 2) (clock 0 1))
 
 abbrev pub h3 : GateEntry
-h3 = record { author = 0; deed = Nop 1 1 (at-second 0 3) (clock 0 1) }
+h3 = at-gate (Nop 1 1 (at-second 0 3) (clock 0 1))
 
 abbrev pub h4 : GateEntry
-h4 = record { author = 0; deed = Finished 1 }
+h4 = at-gate (Finished 1)
 
 abbrev pub judged : StoreEntry
-judged =
-    record { author = 0; deed = Judged 0 (at-first 1 0) ops [] (Committed 1 [] (record { vertex = a; before = 0 } ∷ record { vertex = b; before = 0 } ∷ [])) }
-
-abbrev pub settles : OracleEntry
-settles = record { author = 0; deed = Settled (at-first 1 0 ∷ []) (at-second 0 1) (0 ∷ []) }
+judged = at-store (Judged 0 (at-first 1 0) ops [] (Committed 1 [] (record { vertex = a; before = 0 } ∷ record { vertex = b; before = 0 } ∷ [])))
 
 -- at either shard the message of the transaction is applied, and empty ones of both gatekeepers follow
 abbrev pub arrives : Message → ShardEntry
-arrives message = record { author = 0; deed = Arrived 0 1 message }
+arrives message = at-shard (Arrived 0 1 message)
 
 abbrev pub applies : ShardEntry
-applies = record { author = 0; deed = Applied 0 1 }
+applies = at-shard (Applied 0 1)
 
 abbrev pub first-empty : Stamp → Clock → ShardEntry
-first-empty stamp low = record { author = 0; deed = Arrived 0 2 (empty stamp low) }
+first-empty stamp low = at-shard (Arrived 0 2 (empty stamp low))
 
 abbrev pub second-empty : Stamp → Clock → ShardEntry
-second-empty stamp low = record { author = 0; deed = Arrived 1 1 (empty stamp low) }
+second-empty stamp low = at-shard (Arrived 1 1 (empty stamp low))
 
 abbrev pub visits-b : Bool → ShardEntry
-visits-b settled = record { author = 0; deed = Visited 1 (at-second 0 1) b 1 settled }
+visits-b settled = at-shard (Visited 1 (at-second 0 1) b 1 settled)
 
 abbrev pub visits-a : ShardEntry
-visits-a = record { author = 0; deed = Visited 1 (at-second 0 1) a 1 true }
+visits-a = at-shard (Visited 1 (at-second 0 1) a 1 true)
 
 abbrev pub shard-b : Bool → List ShardEntry
 shard-b settled =
@@ -158,22 +147,22 @@ shard-a =
     arrives of-a ∷ applies ∷ first-empty (at-first 3 1) (clock 3 1) ∷ second-empty (at-second 0 3) (clock 0 1) ∷ visits-a ∷ []
 
 abbrev pub b1 : SessionEntry
-b1 = record { author = 0; deed = session.Begun 0 (at-first 1 0) }
+b1 = in-session 0 (session.Begun 0 (at-first 1 0))
 
 abbrev pub b2 : SessionEntry
-b2 = record { author = 0; deed = session.Replied 0 }
+b2 = in-session 0 (session.Replied 0)
 
 abbrev pub b3 : SessionEntry
-b3 = record { author = 1; deed = session.Begun 1 (at-second 0 1) }
+b3 = in-session 1 (session.Begun 1 (at-second 0 1))
 
 abbrev pub b4 : SessionEntry
-b4 = record { author = 1; deed = session.Replied 1 }
+b4 = in-session 1 (session.Replied 1)
 
 abbrev pub account : Account
 account = record {
   gates = (g1 ∷ g2 ∷ g3 ∷ g4 ∷ g5 ∷ []) ∷ (h1 ∷ h2 ∷ h3 ∷ h4 ∷ []) ∷ [];
   store = judged ∷ [];
-  oracle = settles ∷ [];
+  oracle = settles (at-first 1 0) (at-second 0 1) ∷ [];
   shards = shard-b false ∷ shard-a ∷ [];
   sessions = (b1 ∷ b2 ∷ []) ∷ (b3 ∷ b4 ∷ []) ∷ [];
 }
@@ -235,13 +224,6 @@ judges =
 settled : Precedence account (at-first 1 0) (at-second 0 1)
 settled = ByPair (at-first 1 0) (at-second 0 1) (0, omega arith, refl)
 
-oracle-log : IsOracleLog account.oracle
-oracle-log = (record { others = λ i d lt. (λ e. differ i d lt e); permitted = refl; added = refl; some = λ e. cc }, tt)
-  where
-    differ : (i : ℕ) (d : Stamp) → i < 1 → id_of (get_or (at-first 1 0 ∷ []) i d) ≡ id_of (at-second 0 1) → ⊥
-    differ zero d lt e = let h : 0 ≡ 1 = ap (λ (id : EventId). id.home) e in absurd (omega (arith, h))
-    differ (suc i) d lt e = absurd (omega (arith, lt))
-
 abbrev seen-a : Visit
 seen-a = record { author = 0; request = 1; stamp = at-second 0 1; vertex = a; updates = 1; settled = true }
 
@@ -249,7 +231,7 @@ abbrev seen-b : Visit
 seen-b = record { author = 0; request = 1; stamp = at-second 0 1; vertex = b; updates = 1; settled = false }
 
 asked : (entry : OracleEntry) → Contains account.oracle entry → IsAskedByVisit account (settled_entry entry)
-asked entry h = subst (λ (e : OracleEntry). IsAskedByVisit account (settled_entry e)) (only settles entry h) (record {
+asked entry h = subst (λ (e : OracleEntry). IsAskedByVisit account (settled_entry e)) (only (settles (at-first 1 0) (at-second 0 1)) entry h) (record {
   shard = 1;
   visit = seen-a;
   visited = in-one seen-a;
@@ -264,7 +246,7 @@ marked zero visit h yes-marked =
     let clash : IsTrue false = subst (λ (w : Visit). IsTrue w.settled) (sym (only seen-b visit h)) yes-marked in cc
 marked (suc zero) visit h yes-marked =
     subst (HasItsEntry account (shard_log account 1)) (only seen-a visit h)
-    (record { entry = settles; is_there = in-one settles; later_is = refl; earlier_is = refl })
+    (record { entry = settles (at-first 1 0) (at-second 0 1); is_there = in-one (settles (at-first 1 0) (at-second 0 1)); later_is = refl; earlier_is = refl })
 marked (suc (suc shard)) visit h yes-marked = absurd (has_none visit h)
 
 -- The pair, as it is computed from the logs by place
@@ -339,53 +321,29 @@ session-replies (suc (suc number)) = each_none _
 session-replies zero = two (λ before (entry : SessionEntry). RepliesAs account entry.deed) b1 b2 tt refl
 session-replies (suc zero) = two (λ before (entry : SessionEntry). RepliesAs account entry.deed) b3 b4 tt refl
 
-session-stamps : (r : ℕ) (request : Request) → request_at script r ≡ Some request
-    → session_stamp_of r (session_log account request.session) ≡ stamp_of account r
-session-stamps zero request e =
-    let same : t1 ≡ request = cc in subst (λ (q : Request). session_stamp_of 0 (session_log account q.session) ≡ stamp_of account 0) same refl
-session-stamps (suc zero) request e =
-    let same : p ≡ request = cc in subst (λ (q : Request). session_stamp_of 1 (session_log account q.session) ≡ stamp_of account 1) same refl
-session-stamps (suc (suc r)) request e = cc
-
-finished-replied : (r : ℕ) (request : Request) → request_at script r ≡ Some request → IsTrue (is_look request.work)
-    → IsTrue (is_ended account r) → IsTrue (has_reply_in r (session_log account request.session))
-finished-replied zero request e look done =
-    let same : t1 ≡ request = cc in let clash : IsTrue (is_look t1.work) = subst (λ (q : Request). IsTrue (is_look q.work)) (sym same) look in cc
-finished-replied (suc zero) request e look done =
-    let same : p ≡ request = cc in subst (λ (q : Request). IsTrue (has_reply_in 1 (session_log account q.session))) same refl
-finished-replied (suc (suc r)) request e look done = cc
-
 -- Clocks
-
-clock-known : (m n : ℕ) → m ≤ 3 → n ≤ 3 → IsKnown account (clock m n)
-clock-known m n lm ln = record { eight = refl; counts = at; raised = λ differ. absurd (differ refl) }
-  where
-    at : (home : ℕ) → count_of home (clock m n) ≤ ticks_of 0 (gate_log account home)
-    at zero = lm
-    at (suc zero) = ln
-    at (suc (suc home)) = let e : count_of (suc (suc home)) (clock m n) ≡ 0 = zeros 6 home in omega (arith, e)
 
 known : (home : ℕ) (c : Clock) → Contains (clocks_in (gate_log account home)) c → IsKnown account c
 known (suc (suc home)) c h = absurd (has_none c h)
 known zero c h =
     of-each (IsKnown account)
     (clock 1 0 ∷ clock 1 0 ∷ clock 1 0 ∷ clock 1 0 ∷ clock 1 0 ∷ clock 0 1 ∷ clock 2 1 ∷ clock 2 1 ∷ clock 3 1 ∷ clock 3 1 ∷ [])
-    (first, (first, (first, (first, (first, (clock-known 0 1 (omega arith) (omega arith), (second, (second, (third, (third, tt)))))))))) c h
+    (first, (first, (first, (first, (first, (two-known account 0 1 (omega arith) (omega arith), (second, (second, (third, (third, tt)))))))))) c h
   where
     first : IsKnown account (clock 1 0)
-    first = clock-known 1 0 (omega arith) (omega arith)
+    first = two-known account 1 0 (omega arith) (omega arith)
 
     second : IsKnown account (clock 2 1)
-    second = clock-known 2 1 (omega arith) (omega arith)
+    second = two-known account 2 1 (omega arith) (omega arith)
 
     third : IsKnown account (clock 3 1)
-    third = clock-known 3 1 (omega arith) (omega arith)
+    third = two-known account 3 1 (omega arith) (omega arith)
 known (suc zero) c h =
     of-each (IsKnown account) (clock 0 1 ∷ clock 0 2 ∷ clock 0 1 ∷ clock 0 3 ∷ clock 0 1 ∷ [])
-    (first, (clock-known 0 2 (omega arith) (omega arith), (first, (clock-known 0 3 (omega arith) (omega arith), (first, tt))))) c h
+    (first, (two-known account 0 2 (omega arith) (omega arith), (first, (two-known account 0 3 (omega arith) (omega arith), (first, tt))))) c h
   where
     first : IsKnown account (clock 0 1)
-    first = clock-known 0 1 (omega arith) (omega arith)
+    first = two-known account 0 1 (omega arith) (omega arith)
 
 -- The program
 
@@ -420,10 +378,10 @@ worked-marked =
     record {
       gatekeepers = record { as_many = refl; logs = fits; begins = begins; once = pairs-two (λ (x y : Begun). x.request ≢ y.request) _ _ (λ e. cc) };
       clocks = record { known = known; hears_no_more = hears };
-      sessions = record { logs = session-fits; stamps = session-stamps; replies = session-replies; finished_are_replied = finished-replied };
+      sessions = record { logs = session-fits; stamps = of-two (HasSessionStamp account) script t1 p refl refl refl; replies = session-replies; finished_are_replied = of-two (IsRepliedIfFinished account) script t1 p refl (λ look. absurd cc) (λ look done. refl) };
       store = record { judges = judges; once = pairs-one (λ (x y : Judgement). x.request ≢ y.request) _; in_turn = pairs-one (λ (x y : Judgement). InTurn script x.request y.request) _ };
       oracle = record {
-        log = oracle-log;
+        log = one-settled (at-first 1 0) (at-second 0 1) (λ same. omega (arith, same)) refl refl;
         asked = λ entry h. inr (asked entry h);
         marked = marked;
         once = pairs-one (λ (x y : ℕ × List Stamp). x ≢ y) _;

@@ -1,12 +1,13 @@
 -- A worked account: a conflict through a path. The last transaction is before the first by its stamp, and the oracle
 -- put the first before the second; so the last one precedes the second, and conflicts with it.
-use Rattle.std.proofs.Common.{◌≡◌, ◌≢◌, ℕ, zero, suc, ◌<◌, ◌≤◌, false, List, [], ◌∷◌, get_or, Contains, IsTrue, Some, None, inl, refl, sym, ap, subst, arith}
+-- Used by ExampleReports.
+use Rattle.std.proofs.Common.{◌≡◌, ◌≢◌, ℕ, zero, suc, ◌≤◌, false, List, [], ◌∷◌, Contains, IsTrue, Some, None, inl, refl, sym, ap, subst, arith}
 use Rattle.std.specs.Prelude.{codes}
 use Rattle.std.specs.Option.{ForSome}
-use Rattle.proof_base.proofs.Members.{find_has, has_none}
+use Rattle.weave_data.proofs.Members.{find_has, has_none}
 use Rattle.vector_stamp.specs.declared.clock.Clock.{Clock}
 use Rattle.vector_stamp.specs.declared.clock.Stamp.{Stamp}
-use Rattle.vector_stamp.specs.Order.{count_of, id_of}
+use Rattle.vector_stamp.specs.Order.{count_of}
 use Rattle.weave_data.specs.declared.name.Name.{Name}
 use Rattle.graph_ops.specs.declared.op.Op.TheVariants.{Create, Get}
 use Rattle.program_defs.specs.declared.script.Request.{Request}
@@ -22,16 +23,13 @@ use Rattle.weave_entries.specs.declared.session_log.SessionDeed.TheVariants as s
 use Rattle.weave_entries.specs.declared.verdict.Verdict.TheVariants.{Committed, Conflict}
 use Rattle.weave_entries.specs.Logs.{AtEachEntry}
 use Rattle.weave_entries.specs.GateRules.{FitsAs, IsGateLog, HearsAs}
-use Rattle.proof_base.proofs.Entries.{each_none}
+use Rattle.weave_data.proofs.Entries.{each_none}
 use Rattle.std.proofs.lemmas.Bool.{both_ways}
-use Rattle.vector_stamp.specs.declared.clock.EventId.{EventId}
 use Rattle.vector_stamp.specs.Precedence.{ByPair, ByStamps, Through}
 use Rattle.graph_ops.specs.Mentions.{is_among}
-use Rattle.weave_entries.specs.declared.oracle_log.OracleDeed.TheVariants.{Settled}
 use Rattle.weave_entries.specs.StoreReplay.{Commit, names_vertex, last_naming, Judgement, judged_by}
-use Rattle.weave_entries.specs.OracleRules.{IsOracleLog}
 use Rattle.weave_account.specs.declared.account.Account.{Account}
-use Rattle.weave_account.specs.Account.{Precedence, gate_log, shard_log, session_log, stamp_of}
+use Rattle.weave_account.specs.Account.{Precedence, gate_log, session_log, stamp_of}
 use Rattle.weave_account.specs.Gatekeepers.{BeginsAs}
 use Rattle.weave_entries.specs.GateReplay.{Begun, ticks_of}
 use Rattle.weave_account.specs.Clocks.{IsKnown}
@@ -39,25 +37,26 @@ use Rattle.weave_account.specs.Sessions.{requests_of_session, RepliesAs}
 use Rattle.weave_account.specs.IsAccount.{IsAccount}
 use Rattle.weave_account.specs.Store.{AreJudgements, Judges, InTurn}
 use Rattle.weave_account.specs.Channels.{SendsAs}
-use Rattle.weave_account.specs.Shards.{AreShardDeeds}
+use Rattle.weave_account.specs.Shards.{ShardFitsAs}
 use Rattle.weave_account.specs.Programs.{ReadsInTurn}
 use Rattle.weave_entries.specs.SessionReplay.{FitsSession, session_of, session_stamp_of}
 use Rattle.program_defs.specs.declared.program.Program.{Program}
 use Rattle.report_rules.specs.Lookups.{request_at}
-use Rattle.proof_base.proofs.Members.{only}
+use Rattle.weave_data.proofs.Members.{only}
 use Rattle.program_defs.specs.Works.{is_look}
 use Rattle.weave_entries.specs.SessionReplay.{has_reply_in}
-use Rattle.weave_entries.specs.ShardReplay.{Visit, visits_of}
 use Rattle.weave_account.specs.Account.{is_ended, reads_of}
-use Rattle.weave_account.specs.Oracle.{HasItsEntry, IsAskedByCommit}
+use Rattle.weave_account.specs.Oracle.{IsAskedByCommit}
 use Rattle.weave_entries.specs.OracleReplay.{settled_entry}
 use Rattle.weave_entries.specs.declared.oracle_log.OracleEntry.{OracleEntry}
 use Rattle.weave_account.proofs.ExampleLists.{in-one, of-each, one, pairs-three, three, two, zeros}
+use Rattle.weave_account.proofs.ExampleParts.{at-gate, at-store, first-to, no-deeds, none-marked, one-settled, settles, clock-in}
 use Rattle.weave_entries.specs.GateReplay.{clocks_in}
 use Rattle.weave_account.specs.PairsByPlace.{placed_pairs}
 use Rattle.graph_ops.specs.declared.op.Op.{Op}
 use Rattle.graph_ops.specs.declared.tx.Got.{Got}
 use Rattle.weave_entries.specs.declared.verdict.Verdict.{Verdict}
+use Rattle.weave_entries.specs.declared.shard_log.ShardEntry.{ShardEntry}
 
 abbrev pub u : Name
 u = codes "w"
@@ -65,17 +64,14 @@ u = codes "w"
 abbrev pub v : Name
 v = codes "v"
 
-abbrev pub clock : ℕ → ℕ → ℕ → Clock
-clock a b c = record { epoch = 0; counts = a ∷ b ∷ c ∷ 0 ∷ 0 ∷ 0 ∷ 0 ∷ 0 ∷ [] }
-
 abbrev pub x : Stamp
-x = record { home = 0; clock = clock 1 0 1 }
+x = record { home = 0; clock = clock-in 0 1 0 1 }
 
 abbrev pub y : Stamp
-y = record { home = 1; clock = clock 0 1 0 }
+y = record { home = 1; clock = clock-in 0 0 1 0 }
 
 abbrev pub z : Stamp
-z = record { home = 2; clock = clock 0 0 1 }
+z = record { home = 2; clock = clock-in 0 0 0 1 }
 
 -- Gatekeeper 0 hears of z's begin before x begins; so z is before x. The oracle puts x before y, for the first vertex.
 
@@ -110,44 +106,41 @@ abbrev y-verdict : Verdict
 y-verdict = Committed 2 (read-u ∷ []) (record { vertex = u; before = 1 } ∷ record { vertex = v; before = 0 } ∷ [])
 
 abbrev x-message : Message
-x-message = record { request = Some 0; stamp = x; low = clock 1 0 1; parts = record { vertex = u; before = 0; ops = x-ops } ∷ [] }
+x-message = record { request = Some 0; stamp = x; low = clock-in 0 1 0 1; parts = record { vertex = u; before = 0; ops = x-ops } ∷ [] }
 
 abbrev y-message : Message
 y-message =
-    record { request = Some 1; stamp = y; low = clock 0 1 0; parts = record { vertex = u; before = 1; ops = Get u ∷ [] } ∷ record { vertex = v; before = 0; ops = Create v ∷ [] } ∷ [] }
+    record { request = Some 1; stamp = y; low = clock-in 0 0 1 0; parts = record { vertex = u; before = 1; ops = Get u ∷ [] } ∷ record { vertex = v; before = 0; ops = Create v ∷ [] } ∷ [] }
 
 abbrev hears-z : GateEntry
-hears-z = record { author = 0; deed = Heard (clock 0 0 1) }
+hears-z = at-gate (Heard (clock-in 0 0 0 1))
 
 abbrev begins-x : GateEntry
-begins-x = record { author = 0; deed = BeganTx 0 x }
+begins-x = at-gate (BeganTx 0 x)
 
 abbrev sends-x : GateEntry
-sends-x = record { author = 0; deed = Sent 0 (record { shard = 0; number = 1; message = x-message } ∷ []) }
+sends-x = at-gate (Sent 0 (first-to x-message))
 
 abbrev begins-y : GateEntry
-begins-y = record { author = 0; deed = BeganTx 1 y }
+begins-y = at-gate (BeganTx 1 y)
 
 abbrev sends-y : GateEntry
-sends-y = record { author = 0; deed = Sent 1 (record { shard = 0; number = 1; message = y-message } ∷ []) }
+sends-y = at-gate (Sent 1 (first-to y-message))
 
 abbrev begins-z : GateEntry
-begins-z = record { author = 0; deed = BeganTx 2 z }
+begins-z = at-gate (BeganTx 2 z)
 
 abbrev sends-z : GateEntry
-sends-z = record { author = 0; deed = Sent 2 [] }
+sends-z = at-gate (Sent 2 [])
 
 abbrev pub judges-x : StoreEntry
-judges-x = record { author = 0; deed = Judged 0 x x-ops [] x-verdict }
+judges-x = at-store (Judged 0 x x-ops [] x-verdict)
 
 abbrev pub judges-y : StoreEntry
-judges-y = record { author = 0; deed = Judged 1 y y-ops (u ∷ []) y-verdict }
+judges-y = at-store (Judged 1 y y-ops (u ∷ []) y-verdict)
 
 abbrev pub judges-z : StoreEntry
-judges-z = record { author = 0; deed = Judged 2 z z-ops (v ∷ []) (Conflict v 1) }
-
-abbrev settles : OracleEntry
-settles = record { author = 0; deed = Settled (x ∷ []) y (0 ∷ []) }
+judges-z = at-store (Judged 2 z z-ops (v ∷ []) (Conflict v 1))
 
 abbrev session-entry : ℕ → Stamp → SessionEntry
 session-entry r stamp = record { author = r; deed = session.Begun r stamp }
@@ -156,7 +149,7 @@ abbrev pub account : Account
 account = record {
   gates = (hears-z ∷ begins-x ∷ sends-x ∷ []) ∷ (begins-y ∷ sends-y ∷ []) ∷ (begins-z ∷ sends-z ∷ []) ∷ [];
   store = judges-x ∷ judges-y ∷ judges-z ∷ [];
-  oracle = settles ∷ [];
+  oracle = settles x y ∷ [];
   shards = [] ∷ [];
   sessions = (session-entry 0 x ∷ []) ∷ (session-entry 1 y ∷ []) ∷ (session-entry 2 z ∷ []) ∷ [];
 }
@@ -242,15 +235,8 @@ judges =
 
 -- The oracle
 
-oracle-log : IsOracleLog account.oracle
-oracle-log = (record { others = λ i d lt. (λ e. differ i d lt e); permitted = refl; added = refl; some = λ e. cc }, tt)
-  where
-    differ : (i : ℕ) (d : Stamp) → i < 1 → id_of (get_or (x ∷ []) i d) ≡ id_of y → ⊥
-    differ zero d lt e = let h : 0 ≡ 1 = ap (λ (id : EventId). id.home) e in absurd (omega (arith, h))
-    differ (suc i) d lt e = absurd (omega (arith, lt))
-
 asked : (entry : OracleEntry) → Contains account.oracle entry → IsAskedByCommit account (settled_entry entry)
-asked entry h = subst (λ (e : OracleEntry). IsAskedByCommit account (settled_entry e)) (only settles entry h) (record {
+asked entry h = subst (λ (e : OracleEntry). IsAskedByCommit account (settled_entry e)) (only (settles x y) entry h) (record {
   before = judges-x ∷ [];
   entry = judges-y;
   after = judges-z ∷ [];
@@ -264,11 +250,6 @@ asked entry h = subst (λ (e : OracleEntry). IsAskedByCommit account (settled_en
 -- computed from the logs, by place
 placed : placed_pairs account ≡ record { vertex = u; earlier = 0; later = 1 } ∷ []
 placed = refl
-
-none-marked : (shard : ℕ) (visit : Visit) → Contains (visits_of (shard_log account shard)) visit → IsTrue visit.settled
-    → HasItsEntry account (shard_log account shard) visit
-none-marked zero visit h marked = absurd (has_none visit h)
-none-marked (suc shard) visit h marked = absurd (has_none visit h)
 
 -- All requests are transactions
 
@@ -320,35 +301,30 @@ session-stamps (suc (suc (suc r))) request e = cc
 
 -- Clocks
 
-clock-known : (a b c : ℕ) → a ≤ 1 → b ≤ 1 → c ≤ 1 → IsKnown account (clock a b c)
+clock-known : (a b c : ℕ) → a ≤ 1 → b ≤ 1 → c ≤ 1 → IsKnown account (clock-in 0 a b c)
 clock-known a b c la lb lc = record { eight = refl; counts = at; raised = λ differ. absurd (differ refl) }
   where
-    at : (home : ℕ) → count_of home (clock a b c) ≤ ticks_of 0 (gate_log account home)
+    at : (home : ℕ) → count_of home (clock-in 0 a b c) ≤ ticks_of 0 (gate_log account home)
     at zero = la
     at (suc zero) = lb
     at (suc (suc zero)) = lc
-    at (suc (suc (suc home))) = let e : count_of (suc (suc (suc home))) (clock a b c) ≡ 0 = zeros 5 home in omega (arith, e)
+    at (suc (suc (suc home))) = let e : count_of (suc (suc (suc home))) (clock-in 0 a b c) ≡ 0 = zeros 5 home in omega (arith, e)
 
 known : (home : ℕ) (c : Clock) → Contains (clocks_in (gate_log account home)) c → IsKnown account c
 known (suc (suc (suc home))) c h = absurd (has_none c h)
 known zero c h =
-    of-each (IsKnown account) (clock 0 0 1 ∷ clock 1 0 1 ∷ clock 1 0 1 ∷ clock 1 0 1 ∷ [])
+    of-each (IsKnown account) (clock-in 0 0 0 1 ∷ clock-in 0 1 0 1 ∷ clock-in 0 1 0 1 ∷ clock-in 0 1 0 1 ∷ [])
     (clock-known 0 0 1 (omega arith) (omega arith) (omega arith), (first, (first, (first, tt)))) c h
   where
-    first : IsKnown account (clock 1 0 1)
+    first : IsKnown account (clock-in 0 1 0 1)
     first = clock-known 1 0 1 (omega arith) (omega arith) (omega arith)
 known (suc zero) c h =
-    of-each (IsKnown account) (clock 0 1 0 ∷ clock 0 1 0 ∷ clock 0 1 0 ∷ []) (second, (second, (second, tt))) c h
+    of-each (IsKnown account) (clock-in 0 0 1 0 ∷ clock-in 0 0 1 0 ∷ clock-in 0 0 1 0 ∷ []) (second, (second, (second, tt))) c h
   where
-    second : IsKnown account (clock 0 1 0)
+    second : IsKnown account (clock-in 0 0 1 0)
     second = clock-known 0 1 0 (omega arith) (omega arith) (omega arith)
 known (suc (suc zero)) c h =
-    of-each (IsKnown account) (clock 0 0 1 ∷ []) (clock-known 0 0 1 (omega arith) (omega arith) (omega arith), tt) c h
-
-deeds : (shard : ℕ)
-    → AreShardDeeds script account shard (shard_log account shard)
-deeds zero = each_none _
-deeds (suc shard) = each_none _
+    of-each (IsKnown account) (clock-in 0 0 0 1 ∷ []) (clock-known 0 0 1 (omega arith) (omega arith) (omega arith), tt) c h
 
 pub worked-path : IsAccount script account
 worked-path =
@@ -362,12 +338,12 @@ worked-path =
         in_turn = pairs-three (λ (a b : Judgement). InTurn script a.request b.request) _ _ _ (λ e. cc) (λ e. cc) (λ e. cc);
       };
       oracle = record {
-        log = oracle-log;
+        log = one-settled x y (λ same. omega (arith, same)) refl refl;
         asked = λ entry h. inl (asked entry h);
-        marked = none-marked;
+        marked = none-marked account [] refl refl;
         once = λ i j d below within. absurd (omega (arith, within));
       };
       channels = sends;
-      shards = record { as_many = refl; deeds = deeds };
+      shards = record { as_many = refl; deeds = no-deeds account (λ shard before (entry : ShardEntry). ShardFitsAs script account shard before entry.deed) refl };
       programs = no-program;
     }

@@ -1,8 +1,9 @@
 -- A worked account: a transaction creates v and is sent, a program of the same session begins, an empty message
 -- follows, and the program reads v. The shard then collects below the low mark of the empty message.
+-- Used by ExampleReports and WrongLogs.
 use Rattle.std.proofs.Common.{◌≡◌, ◌≢◌, ℕ, zero, suc, ◌≤◌, false, [], ◌∷◌, Contains, IsTrue, Some, None, refl, ap, subst, ◌∙◌, arith}
 use Rattle.std.specs.Prelude.{codes}
-use Rattle.proof_base.proofs.Members.{has_none}
+use Rattle.weave_data.proofs.Members.{has_none}
 use Rattle.vector_stamp.specs.declared.clock.Clock.{Clock}
 use Rattle.vector_stamp.specs.declared.clock.Stamp.{Stamp}
 use Rattle.vector_stamp.specs.Order.{count_of, stamp_before}
@@ -28,7 +29,7 @@ use Rattle.weave_entries.specs.declared.session_log.SessionDeed.TheVariants as s
 use Rattle.weave_entries.specs.declared.verdict.Verdict.TheVariants.{Committed}
 use Rattle.weave_entries.specs.Logs.{AtEachEntry}
 use Rattle.weave_entries.specs.GateRules.{FitsAs, IsGateLog, HearsAs}
-use Rattle.proof_base.proofs.Entries.{each_none, each_push}
+use Rattle.weave_data.proofs.Entries.{each_none, each_push}
 use Rattle.weave_account.specs.declared.account.Account.{Account}
 use Rattle.weave_account.specs.Account.{Precedence, gate_log, shard_log, session_log, stamp_of}
 use Rattle.weave_account.specs.Gatekeepers.{BeginsAs}
@@ -44,13 +45,14 @@ use Rattle.weave_entries.specs.StoreReplay.{Judgement, judged_by}
 use Rattle.graph_ops.specs.Operations.{State}
 use Rattle.program_defs.specs.declared.program.Program.{Program}
 use Rattle.report_rules.specs.Lookups.{request_at}
-use Rattle.proof_base.proofs.Members.{only}
+use Rattle.weave_data.proofs.Members.{only}
 use Rattle.program_defs.specs.Works.{is_look}
 use Rattle.weave_entries.specs.SessionReplay.{has_reply_in}
 use Rattle.weave_entries.specs.ShardReplay.{Visit, visits_of}
 use Rattle.weave_account.specs.Account.{is_ended, reads_of}
 use Rattle.weave_account.specs.Oracle.{HasItsEntry}
 use Rattle.weave_account.proofs.ExampleLists.{five, four, in-one, of-each, pairs-one, pairs-two, six, zeros}
+use Rattle.weave_account.proofs.ExampleParts.{at-gate, at-shard, at-store, first-to, in-session}
 use Rattle.weave_entries.specs.GateReplay.{clocks_in}
 use Rattle.std.proofs.Common.{sym}
 
@@ -80,53 +82,52 @@ abbrev pub empty : Message
 empty = record { request = None; stamp = stamp 3; low = clock 2; parts = [] }
 
 abbrev pub g1 : GateEntry
-g1 = record { author = 0; deed = BeganTx 0 (stamp 1) }
+g1 = at-gate (BeganTx 0 (stamp 1))
 
 abbrev pub g2 : GateEntry
-g2 = record { author = 0; deed = Sent 0 (record { shard = 0; number = 1; message = sent } ∷ []) }
+g2 = at-gate (Sent 0 (first-to sent))
 
 abbrev pub g3 : GateEntry
-g3 = record { author = 0; deed = BeganProgram 1 (stamp 2) }
+g3 = at-gate (BeganProgram 1 (stamp 2))
 
 abbrev pub g4 : GateEntry
-g4 = record { author = 0; deed = Nop 0 2 (stamp 3) (clock 2) }
+g4 = at-gate (Nop 0 2 (stamp 3) (clock 2))
 
 abbrev pub g5 : GateEntry
-g5 = record { author = 0; deed = Finished 1 }
+g5 = at-gate (Finished 1)
 
 abbrev pub judged : StoreEntry
-judged =
-    record { author = 0; deed = Judged 0 (stamp 1) (Create v ∷ []) [] (Committed 1 [] (record { vertex = v; before = 0 } ∷ [])) }
+judged = at-store (Judged 0 (stamp 1) (Create v ∷ []) [] (Committed 1 [] (record { vertex = v; before = 0 } ∷ [])))
 
 abbrev pub s1 : ShardEntry
-s1 = record { author = 0; deed = Arrived 0 1 sent }
+s1 = at-shard (Arrived 0 1 sent)
 
 abbrev pub s2 : ShardEntry
-s2 = record { author = 0; deed = Applied 0 1 }
+s2 = at-shard (Applied 0 1)
 
 abbrev pub s3 : ShardEntry
-s3 = record { author = 0; deed = Arrived 0 2 empty }
+s3 = at-shard (Arrived 0 2 empty)
 
 abbrev pub s4 : ShardEntry
-s4 = record { author = 0; deed = Visited 1 (stamp 2) v 1 false }
+s4 = at-shard (Visited 1 (stamp 2) v 1 false)
 
 abbrev pub s5 : ShardEntry
-s5 = record { author = 0; deed = Applied 0 2 }
+s5 = at-shard (Applied 0 2)
 
 abbrev pub s6 : ShardEntry
-s6 = record { author = 0; deed = Collected (Some (clock 2)) }
+s6 = at-shard (Collected (Some (clock 2)))
 
 abbrev pub b1 : SessionEntry
-b1 = record { author = 0; deed = session.Begun 0 (stamp 1) }
+b1 = in-session 0 (session.Begun 0 (stamp 1))
 
 abbrev pub b2 : SessionEntry
-b2 = record { author = 0; deed = session.Replied 0 }
+b2 = in-session 0 (session.Replied 0)
 
 abbrev pub b3 : SessionEntry
-b3 = record { author = 0; deed = session.Begun 1 (stamp 2) }
+b3 = in-session 0 (session.Begun 1 (stamp 2))
 
 abbrev pub b4 : SessionEntry
-b4 = record { author = 0; deed = session.Replied 1 }
+b4 = in-session 0 (session.Replied 1)
 
 abbrev pub account : Account
 account = record {

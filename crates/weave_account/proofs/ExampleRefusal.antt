@@ -1,13 +1,13 @@
 -- A worked account: one session with two transactions at two gatekeepers. The first is refused, as its vertex isn't
 -- there. The second hears the first one's stamp and creates the vertex.
-use Rattle.std.proofs.Common.{◌≡◌, ◌≢◌, ℕ, zero, suc, ◌≤◌, List, [], ◌∷◌, Contains, IsTrue, Some, None, refl, sym, ap, subst, ◌∙◌, arith}
+use Rattle.std.proofs.Common.{◌≡◌, ◌≢◌, ℕ, zero, suc, List, [], ◌∷◌, Contains, IsTrue, Some, None, refl, ap, subst, ◌∙◌, arith}
 use Rattle.std.specs.Prelude.{codes}
-use Rattle.proof_base.proofs.Entries.{each_none}
-use Rattle.proof_base.proofs.Members.{has_none}
+use Rattle.weave_data.proofs.Entries.{each_none}
+use Rattle.weave_data.proofs.Members.{has_none}
 use Rattle.vector_stamp.specs.declared.clock.Clock.{Clock}
 use Rattle.vector_stamp.specs.declared.clock.Stamp.{Stamp}
 use Rattle.vector_stamp.specs.Clocks.{counts_no_more}
-use Rattle.vector_stamp.specs.Order.{HasEightCounts, count_of, stamp_before}
+use Rattle.vector_stamp.specs.Order.{HasEightCounts, stamp_before}
 use Rattle.weave_data.specs.declared.name.Name.{Name}
 use Rattle.graph_ops.specs.declared.op.Op.{Op}
 use Rattle.graph_ops.specs.declared.op.Op.TheVariants.{Create, Set}
@@ -16,7 +16,6 @@ use Rattle.program_defs.specs.declared.program.Program.{Program}
 use Rattle.program_defs.specs.declared.script.Request.{Request}
 use Rattle.program_defs.specs.declared.script.Script.{Script}
 use Rattle.program_defs.specs.declared.script.Work.TheVariants.{Change, Look}
-use Rattle.program_defs.specs.Works.{is_look}
 use Rattle.weave_entries.specs.declared.gate_log.GateEntry.{GateEntry}
 use Rattle.weave_entries.specs.declared.gate_log.GateDeed.TheVariants.{BeganTx, Sent}
 use Rattle.weave_entries.specs.declared.message.Message.{Message}
@@ -28,30 +27,26 @@ use Rattle.weave_entries.specs.declared.session_log.SessionEntry.{SessionEntry}
 use Rattle.weave_entries.specs.declared.session_log.SessionDeed.TheVariants as session
 use Rattle.weave_entries.specs.declared.verdict.Verdict.TheVariants.{Committed, Refused}
 use Rattle.weave_entries.specs.Logs.{AtEachEntry}
-use Rattle.weave_entries.specs.GateReplay.{Begun, clocks_in, ticks_of}
-use Rattle.weave_entries.specs.GateRules.{FitsAs, IsGateLog, HearsAs}
-use Rattle.weave_entries.specs.SessionReplay.{FitsSession, has_reply_in, session_of, session_stamp_of}
-use Rattle.weave_entries.specs.ShardReplay.{Visit, visits_of}
+use Rattle.weave_entries.specs.GateReplay.{Begun, clocks_in}
+use Rattle.weave_entries.specs.GateRules.{FitsAs, IsGateLog}
+use Rattle.weave_entries.specs.SessionReplay.{FitsSession, session_of}
 use Rattle.weave_entries.specs.StoreReplay.{Judgement, judged_by}
 use Rattle.report_rules.specs.Lookups.{request_at}
 use Rattle.weave_account.specs.declared.account.Account.{Account}
-use Rattle.weave_account.specs.Account.{gate_log, is_ended, reads_of, session_log, shard_log, stamp_of}
-use Rattle.weave_account.specs.Channels.{SendsAs}
+use Rattle.weave_account.specs.Account.{gate_log, is_ended, reads_of, session_log, shard_log}
 use Rattle.weave_account.specs.Clocks.{IsKnown}
 use Rattle.weave_account.specs.Gatekeepers.{BeginsAs}
 use Rattle.weave_account.specs.IsAccount.{IsAccount}
-use Rattle.weave_account.specs.Oracle.{HasItsEntry}
 use Rattle.weave_account.specs.Programs.{ReadsInTurn}
 use Rattle.weave_account.specs.Sessions.{RepliesAs, requests_of_session}
 use Rattle.weave_account.specs.Shards.{AreShardDeeds, ShardFitsAs}
 use Rattle.weave_account.specs.Store.{AreJudgements, InTurn, Judges}
-use Rattle.weave_account.proofs.ExampleLists.{in-one, of-each, pairs-two, three, two, zeros}
+use Rattle.weave_account.proofs.ExampleLists.{in-one, of-each, pairs-two, three, two}
+use Rattle.weave_account.proofs.ExampleParts.{HasSessionStamp, IsRepliedIfFinished, at-gate, at-shard, at-store, clock, first-to, in-session, two-known, none-marked, of-two, two-hear, two-send}
+use Rattle.report_rules.proofs.Examples.{script_of}
 
 abbrev pub v : Name
 v = codes "v"
-
-abbrev pub clock : ℕ → ℕ → Clock
-clock m n = record { epoch = 0; counts = m ∷ n ∷ 0 ∷ 0 ∷ 0 ∷ 0 ∷ 0 ∷ 0 ∷ [] }
 
 abbrev pub x : Stamp
 x = record { home = 0; clock = clock 1 0 }
@@ -69,44 +64,44 @@ abbrev pub t2 : Request
 t2 = record { name = codes "t2"; session = 0; gate = 1; work = Change (Create v ∷ []) }
 
 abbrev pub script : Script
-script = record { gates = 2; shards = 1; requests = t1 ∷ t2 ∷ []; phases = []; steps = None }
+script = script_of 2 (t1 ∷ t2 ∷ [])
 
 abbrev pub creates : Message
 creates =
     record { request = Some 1; stamp = y; low = clock 1 1; parts = record { vertex = v; before = 0; ops = Create v ∷ [] } ∷ [] }
 
 abbrev pub g1 : GateEntry
-g1 = record { author = 0; deed = BeganTx 0 x }
+g1 = at-gate (BeganTx 0 x)
 
 abbrev pub g2 : GateEntry
-g2 = record { author = 0; deed = Sent 0 [] }
+g2 = at-gate (Sent 0 [])
 
 abbrev pub h1 : GateEntry
-h1 = record { author = 0; deed = BeganTx 1 y }
+h1 = at-gate (BeganTx 1 y)
 
 abbrev pub h2 : GateEntry
-h2 = record { author = 0; deed = Sent 1 (record { shard = 0; number = 1; message = creates } ∷ []) }
+h2 = at-gate (Sent 1 (first-to creates))
 
 abbrev pub j1 : StoreEntry
-j1 = record { author = 0; deed = Judged 0 x sets [] (Refused 1 Missing 0) }
+j1 = at-store (Judged 0 x sets [] (Refused 1 Missing 0))
 
 abbrev pub j2 : StoreEntry
-j2 = record { author = 0; deed = Judged 1 y (Create v ∷ []) [] (Committed 1 [] (record { vertex = v; before = 0 } ∷ [])) }
+j2 = at-store (Judged 1 y (Create v ∷ []) [] (Committed 1 [] (record { vertex = v; before = 0 } ∷ [])))
 
 abbrev pub s1 : ShardEntry
-s1 = record { author = 0; deed = Arrived 1 1 creates }
+s1 = at-shard (Arrived 1 1 creates)
 
 abbrev pub s2 : ShardEntry
-s2 = record { author = 0; deed = Applied 1 1 }
+s2 = at-shard (Applied 1 1)
 
 abbrev pub b1 : SessionEntry
-b1 = record { author = 0; deed = session.Begun 0 x }
+b1 = in-session 0 (session.Begun 0 x)
 
 abbrev pub b2 : SessionEntry
-b2 = record { author = 0; deed = session.Replied 0 }
+b2 = in-session 0 (session.Replied 0)
 
 abbrev pub b3 : SessionEntry
-b3 = record { author = 0; deed = session.Begun 1 y }
+b3 = in-session 0 (session.Begun 1 y)
 
 abbrev pub account : Account
 account = record {
@@ -141,21 +136,6 @@ begins (suc zero) =
     (record { own = refl; small = refl; stamp_is = refl; hears_no_more = λ last e. (let same : x ≡ last = cc in subst (λ (s : Stamp). IsTrue (counts_no_more 1 (clock 0 0) s.clock)) same refl) })
     tt
 
-sends : (home : ℕ)
-    → AtEachEntry (λ before (entry : GateEntry). SendsAs account 1 before entry.author entry.deed) (gate_log account home)
-sends (suc (suc home)) = each_none _
-sends zero =
-    two (λ before (entry : GateEntry). SendsAs account 1 before entry.author entry.deed) g1 g2 tt
-    (record { judged = judged_by 0 j1.deed; is_judged = (0, omega arith, refl); request_is = refl; messages_are = refl })
-sends (suc zero) =
-    two (λ before (entry : GateEntry). SendsAs account 1 before entry.author entry.deed) h1 h2 tt
-    (record { judged = judged_by 0 j2.deed; is_judged = (1, omega arith, refl); request_is = refl; messages_are = refl })
-
-hears : (home : ℕ) → AtEachEntry (λ before (entry : GateEntry). HearsAs home before entry.deed) (gate_log account home)
-hears (suc (suc home)) = each_none _
-hears zero = two (λ before (entry : GateEntry). HearsAs 0 before entry.deed) g1 g2 tt tt
-hears (suc zero) = two (λ before (entry : GateEntry). HearsAs 1 before entry.deed) h1 h2 tt tt
-
 -- The store and the shard
 
 judges : AreJudgements script account account.store
@@ -171,11 +151,6 @@ deeds zero =
     two (λ before (entry : ShardEntry). ShardFitsAs script account 0 before entry.deed) s1 s2
     (record { sent = (0, omega arith, refl); new = refl })
     (record { number_is = refl; message = creates; head = refl; in_turn = refl })
-
-none-marked : (shard : ℕ) (visit : Visit) → Contains (visits_of (shard_log account shard)) visit → IsTrue visit.settled
-    → HasItsEntry account (shard_log account shard) visit
-none-marked zero visit h marked = absurd (has_none visit h)
-none-marked (suc shard) visit h marked = absurd (has_none visit h)
 
 -- The session
 
@@ -193,39 +168,15 @@ session-replies : (number : ℕ)
 session-replies (suc number) = each_none _
 session-replies zero = three (λ before (entry : SessionEntry). RepliesAs account entry.deed) b1 b2 b3 tt refl tt
 
-session-stamps : (r : ℕ) (request : Request) → request_at script r ≡ Some request
-    → session_stamp_of r (session_log account request.session) ≡ stamp_of account r
-session-stamps zero request e =
-    let same : t1 ≡ request = cc in subst (λ (q : Request). session_stamp_of 0 (session_log account q.session) ≡ stamp_of account 0) same refl
-session-stamps (suc zero) request e =
-    let same : t2 ≡ request = cc in subst (λ (q : Request). session_stamp_of 1 (session_log account q.session) ≡ stamp_of account 1) same refl
-session-stamps (suc (suc r)) request e = cc
-
-finished-replied : (r : ℕ) (request : Request) → request_at script r ≡ Some request → IsTrue (is_look request.work)
-    → IsTrue (is_ended account r) → IsTrue (has_reply_in r (session_log account request.session))
-finished-replied zero request e look done =
-    let same : t1 ≡ request = cc in let clash : IsTrue (is_look t1.work) = subst (λ (q : Request). IsTrue (is_look q.work)) (sym same) look in cc
-finished-replied (suc zero) request e look done =
-    let same : t2 ≡ request = cc in let clash : IsTrue (is_look t2.work) = subst (λ (q : Request). IsTrue (is_look q.work)) (sym same) look in cc
-finished-replied (suc (suc r)) request e look done = cc
-
 -- Clocks
-
-clock-known : (m n : ℕ) → m ≤ 1 → n ≤ 1 → IsKnown account (clock m n)
-clock-known m n lm ln = record { eight = refl; counts = at; raised = λ differ. absurd (differ refl) }
-  where
-    at : (home : ℕ) → count_of home (clock m n) ≤ ticks_of 0 (gate_log account home)
-    at zero = lm
-    at (suc zero) = ln
-    at (suc (suc home)) = let e : count_of (suc (suc home)) (clock m n) ≡ 0 = zeros 6 home in omega (arith, e)
 
 known : (home : ℕ) (c : Clock) → Contains (clocks_in (gate_log account home)) c → IsKnown account c
 known (suc (suc home)) c h = absurd (has_none c h)
-known zero c h = of-each (IsKnown account) (clock 1 0 ∷ []) (clock-known 1 0 (omega arith) (omega arith), tt) c h
+known zero c h = of-each (IsKnown account) (clock 1 0 ∷ []) (two-known account 1 0 (omega arith) (omega arith), tt) c h
 known (suc zero) c h = of-each (IsKnown account) (clock 1 1 ∷ clock 1 1 ∷ clock 1 1 ∷ []) (both, (both, (both, tt))) c h
   where
     both : IsKnown account (clock 1 1)
-    both = clock-known 1 1 (omega arith) (omega arith)
+    both = two-known account 1 1 (omega arith) (omega arith)
 
 -- There is no program
 
@@ -241,11 +192,14 @@ pub worked-refusal : IsAccount script account
 worked-refusal =
     record {
       gatekeepers = record { as_many = refl; logs = fits; begins = begins; once = pairs-two (λ (a b : Begun). a.request ≢ b.request) _ _ (λ e. cc) };
-      clocks = record { known = known; hears_no_more = hears };
-      sessions = record { logs = session-fits; stamps = session-stamps; replies = session-replies; finished_are_replied = finished-replied };
+      clocks = record { known = known; hears_no_more = two-hear x y [] (first-to creates) };
+      sessions = record { logs = session-fits; stamps = of-two (HasSessionStamp account) script t1 t2 refl refl refl; replies = session-replies; finished_are_replied = of-two (IsRepliedIfFinished account) script t1 t2 refl (λ look. absurd cc) (λ look. absurd cc) };
       store = record { judges = judges; once = pairs-two (λ (a b : Judgement). a.request ≢ b.request) _ _ (λ e. cc); in_turn = pairs-two (λ (a b : Judgement). InTurn script a.request b.request) _ _ (λ e. omega arith) };
-      oracle = record { log = tt; asked = λ entry h. absurd (has_none entry h); marked = none-marked; once = λ i j d below within. absurd (omega (arith, within)) };
-      channels = sends;
+      oracle = record { log = tt; asked = λ entry h. absurd (has_none entry h); marked = none-marked account (s1 ∷ s2 ∷ []) refl refl; once = λ i j d below within. absurd (omega (arith, within)) };
+      channels =
+          two-send x y [] (first-to creates) account
+          (record { judged = judged_by 0 j1.deed; is_judged = (0, omega arith, refl); request_is = refl; messages_are = refl })
+          (record { judged = judged_by 0 j2.deed; is_judged = (1, omega arith, refl); request_is = refl; messages_are = refl });
       shards = record { as_many = refl; deeds = deeds };
       programs = no-program;
     }

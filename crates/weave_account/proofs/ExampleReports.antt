@@ -10,11 +10,10 @@ use Rattle.program_defs.specs.PlainAnswer.{IsPlainAnswer}
 use Rattle.program_defs.specs.Visits.{graph_read}
 use Rattle.report_rules.specs.declared.report.Pair.{Pair}
 use Rattle.report_rules.specs.declared.report.Reply.{Reply}
-use Rattle.report_rules.specs.declared.report.ReplyState.{ReplyState}
 use Rattle.report_rules.specs.declared.report.ReplyState.TheVariants.{Begun as Running, Committed, Conflict, Finished}
 use Rattle.report_rules.specs.declared.report.Report.{Report}
 use Rattle.report_rules.specs.PrintedOrder.{IsPrintedOrder}
-use Rattle.weave_account.specs.LowerLaws.{LowerLaws}
+use Rattle.weave_account.specs.LowerLaws.{LawsForAccounts}
 use Rattle.weave_account.specs.Pairs.{IsPairInAccount}
 use Rattle.weave_account.specs.Report.{IsReportOfAccount, MatchesAccount}
 use Rattle.weave_account.specs.Account.{reads_of}
@@ -23,10 +22,7 @@ use Rattle.weave_account.proofs.ExampleMarked as marks
 use Rattle.weave_account.proofs.ExamplePath as path
 use Rattle.weave_account.proofs.ExampleReader as reader
 use Rattle.weave_account.proofs.ExampleWriters as writers
-
--- a begun request's reply
-abbrev reply : ℕ → Stamp → ReplyState → Reply
-reply r stamp state = record { request = r; stamp = Some stamp; state = state }
+use Rattle.report_rules.proofs.Examples.{reply}
 
 -- a report with these replies, pairs and order
 abbrev report-of : List Reply → List Pair → List ℕ → Report
@@ -109,7 +105,7 @@ marked-pair = record {
 walk-there : IsPlainAnswer (graph_read (reads_of marks.account 1)) (Reach marks.a marks.b None) (Reached true)
 walk-there = ((λ reached. (marks.a ∷ marks.b ∷ [], refl)), (λ walk. refl))
 
-module _ (laws : LowerLaws) where
+module _ (laws : LawsForAccounts) where
   way : (pairs : List Given) (a b : Stamp) → IsTrue (precedes pairs a b) → Precedes pairs a b
   way pairs a b = (laws.decided pairs a b).1
 

@@ -1,12 +1,12 @@
 -- A worked account: two transactions at two gatekeepers, unordered by their stamps, on one vertex; the oracle puts
 -- the first before the second.
-use Rattle.std.proofs.Common.{◌≡◌, ◌≢◌, ℕ, zero, suc, ◌<◌, ◌≤◌, [], ◌∷◌, get_or, Contains, IsTrue, Some, None, inl, inr, refl, sym, ap, subst, ◌∙◌, arith}
+-- Used by ExampleReports and WrongLogs.
+use Rattle.std.proofs.Common.{◌≡◌, ◌≢◌, ℕ, zero, suc, [], ◌∷◌, Contains, IsTrue, Some, None, inl, inr, refl, sym, ap, subst, ◌∙◌, arith}
 use Rattle.std.specs.Prelude.{codes}
 use Rattle.std.specs.Option.{ForSome}
-use Rattle.proof_base.proofs.Members.{has_none}
+use Rattle.weave_data.proofs.Members.{has_none}
 use Rattle.vector_stamp.specs.declared.clock.Clock.{Clock}
 use Rattle.vector_stamp.specs.declared.clock.Stamp.{Stamp}
-use Rattle.vector_stamp.specs.Order.{count_of, id_of}
 use Rattle.weave_data.specs.declared.name.Name.{Name}
 use Rattle.graph_ops.specs.declared.op.Op.TheVariants.{Create, Set}
 use Rattle.program_defs.specs.declared.script.Request.{Request}
@@ -21,48 +21,41 @@ use Rattle.weave_entries.specs.declared.session_log.SessionEntry.{SessionEntry}
 use Rattle.weave_entries.specs.declared.session_log.SessionDeed.TheVariants as session
 use Rattle.weave_entries.specs.declared.verdict.Verdict.TheVariants.{Committed}
 use Rattle.weave_entries.specs.Logs.{AtEachEntry}
-use Rattle.weave_entries.specs.GateRules.{FitsAs, IsGateLog, HearsAs}
-use Rattle.proof_base.proofs.Entries.{each_none}
+use Rattle.weave_entries.specs.GateRules.{FitsAs, IsGateLog}
+use Rattle.weave_data.proofs.Entries.{each_none}
 use Rattle.std.proofs.lemmas.Bool.{or_cases}
-use Rattle.vector_stamp.specs.declared.clock.EventId.{EventId}
 use Rattle.vector_stamp.specs.Precedence.{ByPair}
 use Rattle.weave_data.specs.Names.{same_name, one_name}
 use Rattle.graph_ops.specs.Mentions.{is_among}
-use Rattle.weave_entries.specs.declared.oracle_log.OracleDeed.TheVariants.{Settled}
 use Rattle.weave_entries.specs.StoreReplay.{Commit, last_naming, Judgement, judged_by}
-use Rattle.weave_entries.specs.OracleRules.{IsOracleLog}
 use Rattle.weave_account.specs.Pairs.{IsPairInAccount}
 use Rattle.weave_account.specs.declared.account.Account.{Account}
-use Rattle.weave_account.specs.Account.{Precedence, gate_log, shard_log, session_log, stamp_of}
+use Rattle.weave_account.specs.Account.{Precedence, gate_log, session_log}
 use Rattle.weave_account.specs.Gatekeepers.{BeginsAs}
-use Rattle.weave_entries.specs.GateReplay.{Begun, ticks_of}
+use Rattle.weave_entries.specs.GateReplay.{Begun}
 use Rattle.weave_account.specs.Clocks.{IsKnown}
 use Rattle.weave_account.specs.Sessions.{requests_of_session, RepliesAs}
 use Rattle.weave_account.specs.IsAccount.{IsAccount}
 use Rattle.weave_account.specs.Store.{AreJudgements, Judges, InTurn}
-use Rattle.weave_account.specs.Channels.{SendsAs}
-use Rattle.weave_account.specs.Shards.{AreShardDeeds}
+use Rattle.weave_account.specs.Shards.{ShardFitsAs}
 use Rattle.weave_account.specs.Programs.{ReadsInTurn}
-use Rattle.weave_entries.specs.SessionReplay.{FitsSession, session_of, session_stamp_of}
+use Rattle.weave_entries.specs.SessionReplay.{FitsSession, session_of}
 use Rattle.program_defs.specs.declared.program.Program.{Program}
 use Rattle.report_rules.specs.Lookups.{request_at}
-use Rattle.proof_base.proofs.Members.{only}
-use Rattle.program_defs.specs.Works.{is_look}
-use Rattle.weave_entries.specs.SessionReplay.{has_reply_in}
-use Rattle.weave_entries.specs.ShardReplay.{Visit, visits_of}
+use Rattle.weave_data.proofs.Members.{only}
 use Rattle.weave_account.specs.Account.{is_ended, reads_of}
-use Rattle.weave_account.specs.Oracle.{HasItsEntry, IsAskedByCommit}
+use Rattle.weave_account.specs.Oracle.{IsAskedByCommit}
 use Rattle.weave_entries.specs.OracleReplay.{settled_entry}
 use Rattle.weave_entries.specs.declared.oracle_log.OracleEntry.{OracleEntry}
-use Rattle.weave_account.proofs.ExampleLists.{in-one, of-each, one, pairs-two, two, zeros}
+use Rattle.weave_account.proofs.ExampleLists.{in-one, of-each, one, pairs-two, two}
+use Rattle.weave_account.proofs.ExampleParts.{HasSessionStamp, IsRepliedIfFinished, at-gate, at-store, clock, first-to, in-session, two-known, no-deeds, none-marked, of-two, one-settled, settles, two-hear, two-send}
 use Rattle.weave_entries.specs.GateReplay.{clocks_in}
+use Rattle.weave_entries.specs.declared.shard_log.ShardEntry.{ShardEntry}
 use Rattle.weave_account.specs.PairsByPlace.{placed_pairs}
+use Rattle.report_rules.proofs.Examples.{script_of}
 
 abbrev pub v : Name
 v = codes "v"
-
-abbrev pub clock : ℕ → ℕ → Clock
-clock a b = record { epoch = 0; counts = a ∷ b ∷ 0 ∷ 0 ∷ 0 ∷ 0 ∷ 0 ∷ 0 ∷ [] }
 
 abbrev pub x : Stamp
 x = record { home = 0; clock = clock 1 0 }
@@ -77,7 +70,7 @@ abbrev pub t2 : Request
 t2 = record { name = codes "t2"; session = 1; gate = 1; work = Change (Set v (codes "k") (codes "x") ∷ []) }
 
 abbrev pub script : Script
-script = record { gates = 2; shards = 1; requests = t1 ∷ t2 ∷ []; phases = []; steps = None }
+script = script_of 2 (t1 ∷ t2 ∷ [])
 
 abbrev pub m1 : Message
 m1 = record { request = Some 0; stamp = x; low = clock 1 0; parts = record { vertex = v; before = 0; ops = Create v ∷ [] } ∷ [] }
@@ -87,35 +80,34 @@ m2 =
     record { request = Some 1; stamp = y; low = clock 0 1; parts = record { vertex = v; before = 1; ops = Set v (codes "k") (codes "x") ∷ [] } ∷ [] }
 
 abbrev pub g1 : GateEntry
-g1 = record { author = 0; deed = BeganTx 0 x }
+g1 = at-gate (BeganTx 0 x)
 
 abbrev pub g2 : GateEntry
-g2 = record { author = 0; deed = Sent 0 (record { shard = 0; number = 1; message = m1 } ∷ []) }
+g2 = at-gate (Sent 0 (first-to m1))
 
 abbrev pub h1 : GateEntry
-h1 = record { author = 0; deed = BeganTx 1 y }
+h1 = at-gate (BeganTx 1 y)
 
 abbrev pub h2 : GateEntry
-h2 = record { author = 0; deed = Sent 1 (record { shard = 0; number = 1; message = m2 } ∷ []) }
+h2 = at-gate (Sent 1 (first-to m2))
 
 abbrev pub j1 : StoreEntry
-j1 = record { author = 0; deed = Judged 0 x (Create v ∷ []) [] (Committed 1 [] (record { vertex = v; before = 0 } ∷ [])) }
+j1 = at-store (Judged 0 x (Create v ∷ []) [] (Committed 1 [] (record { vertex = v; before = 0 } ∷ [])))
 
 abbrev pub j2 : StoreEntry
-j2 =
-    record { author = 0; deed = Judged 1 y (Set v (codes "k") (codes "x") ∷ []) (v ∷ []) (Committed 2 [] (record { vertex = v; before = 1 } ∷ [])) }
+j2 = at-store (Judged 1 y (Set v (codes "k") (codes "x") ∷ []) (v ∷ []) (Committed 2 [] (record { vertex = v; before = 1 } ∷ [])))
 
 abbrev pub b1 : SessionEntry
-b1 = record { author = 0; deed = session.Begun 0 x }
+b1 = in-session 0 (session.Begun 0 x)
 
 abbrev pub b2 : SessionEntry
-b2 = record { author = 1; deed = session.Begun 1 y }
+b2 = in-session 1 (session.Begun 1 y)
 
 abbrev pub account : Account
 account = record {
   gates = (g1 ∷ g2 ∷ []) ∷ (h1 ∷ h2 ∷ []) ∷ [];
   store = j1 ∷ j2 ∷ [];
-  oracle = record { author = 0; deed = Settled (x ∷ []) y (0 ∷ []) } ∷ [];
+  oracle = settles x y ∷ [];
   shards = [] ∷ [];
   sessions = (b1 ∷ []) ∷ (b2 ∷ []) ∷ [];
 }
@@ -143,21 +135,6 @@ begins (suc zero) =
     two (λ before (entry : GateEntry). BeginsAs script account 1 before entry.deed) h1 h2
     (record { own = refl; small = refl; stamp_is = refl; hears_no_more = λ x e. cc }) tt
 
-sends : (home : ℕ)
-    → AtEachEntry (λ before (entry : GateEntry). SendsAs account 1 before entry.author entry.deed) (gate_log account home)
-sends (suc (suc home)) = each_none _
-sends zero =
-    two (λ before (entry : GateEntry). SendsAs account 1 before entry.author entry.deed) g1 g2 tt
-    (record { judged = judged_by 0 j1.deed; is_judged = (0, omega arith, refl); request_is = refl; messages_are = refl })
-sends (suc zero) =
-    two (λ before (entry : GateEntry). SendsAs account 1 before entry.author entry.deed) h1 h2 tt
-    (record { judged = judged_by 0 j2.deed; is_judged = (1, omega arith, refl); request_is = refl; messages_are = refl })
-
-hears : (home : ℕ) → AtEachEntry (λ before (entry : GateEntry). HearsAs home before entry.deed) (gate_log account home)
-hears (suc (suc home)) = each_none _
-hears zero = two (λ before (entry : GateEntry). HearsAs 0 before entry.deed) g1 g2 tt tt
-hears (suc zero) = two (λ before (entry : GateEntry). HearsAs 1 before entry.deed) h1 h2 tt tt
-
 -- The store
 
 settled : Precedence account x y
@@ -183,13 +160,6 @@ judges =
 
 -- The oracle
 
-oracle-log : IsOracleLog account.oracle
-oracle-log = (record { others = λ i d lt. (λ e. differ i d lt e); permitted = refl; added = refl; some = λ e. cc }, tt)
-  where
-    differ : (i : ℕ) (d : Stamp) → i < 1 → id_of (get_or (x ∷ []) i d) ≡ id_of y → ⊥
-    differ zero d lt e = let h : 0 ≡ 1 = ap (λ (id : EventId). id.home) e in absurd (omega (arith, h))
-    differ (suc i) d lt e = absurd (omega (arith, lt))
-
 -- the oracle's pair, as a pair of requests
 pub pair-is : IsPairInAccount account (record { vertex = v; earlier = 0; later = 1 }) (x, y)
 pair-is = record {
@@ -202,11 +172,8 @@ pair-is = record {
 placed : placed_pairs account ≡ record { vertex = v; earlier = 0; later = 1 } ∷ []
 placed = refl
 
-abbrev pub settles : OracleEntry
-settles = record { author = 0; deed = Settled (x ∷ []) y (0 ∷ []) }
-
 asked : (entry : OracleEntry) → Contains account.oracle entry → IsAskedByCommit account (settled_entry entry)
-asked entry h = subst (λ (e : OracleEntry). IsAskedByCommit account (settled_entry e)) (only settles entry h) (record {
+asked entry h = subst (λ (e : OracleEntry). IsAskedByCommit account (settled_entry e)) (only (settles x y) entry h) (record {
   before = j1 ∷ [];
   entry = j2;
   after = [];
@@ -216,19 +183,6 @@ asked entry h = subst (λ (e : OracleEntry). IsAskedByCommit account (settled_en
   later_is = refl;
   earlier_are = refl;
 })
-
-none-marked : (shard : ℕ) (visit : Visit) → Contains (visits_of (shard_log account shard)) visit → IsTrue visit.settled
-    → HasItsEntry account (shard_log account shard) visit
-none-marked zero visit h marked = absurd (has_none visit h)
-none-marked (suc shard) visit h marked = absurd (has_none visit h)
-
-finished-replied : (r : ℕ) (request : Request) → request_at script r ≡ Some request → IsTrue (is_look request.work)
-    → IsTrue (is_ended account r) → IsTrue (has_reply_in r (session_log account request.session))
-finished-replied zero request e look done =
-    let same : t1 ≡ request = cc in let clash : IsTrue (is_look t1.work) = subst (λ (q : Request). IsTrue (is_look q.work)) (sym same) look in cc
-finished-replied (suc zero) request e look done =
-    let same : t2 ≡ request = cc in let clash : IsTrue (is_look t2.work) = subst (λ (q : Request). IsTrue (is_look q.work)) (sym same) look in cc
-finished-replied (suc (suc r)) request e look done = cc
 
 -- Sessions
 
@@ -248,34 +202,18 @@ session-replies (suc (suc number)) = each_none _
 session-replies zero = one (λ before (entry : SessionEntry). RepliesAs account entry.deed) b1 tt
 session-replies (suc zero) = one (λ before (entry : SessionEntry). RepliesAs account entry.deed) b2 tt
 
-session-stamps : (r : ℕ) (request : Request) → request_at script r ≡ Some request
-    → session_stamp_of r (session_log account request.session) ≡ stamp_of account r
-session-stamps zero request e =
-    let same : t1 ≡ request = cc in subst (λ (q : Request). session_stamp_of 0 (session_log account q.session) ≡ stamp_of account 0) same refl
-session-stamps (suc zero) request e =
-    let same : t2 ≡ request = cc in subst (λ (q : Request). session_stamp_of 1 (session_log account q.session) ≡ stamp_of account 1) same refl
-session-stamps (suc (suc r)) request e = cc
-
 -- Clocks
-
-clock-known : (a b : ℕ) → a ≤ 1 → b ≤ 1 → IsKnown account (clock a b)
-clock-known a b la lb = record { eight = refl; counts = at; raised = λ differ. absurd (differ refl) }
-  where
-    at : (home : ℕ) → count_of home (clock a b) ≤ ticks_of 0 (gate_log account home)
-    at zero = la
-    at (suc zero) = lb
-    at (suc (suc home)) = let e : count_of (suc (suc home)) (clock a b) ≡ 0 = zeros 6 home in omega (arith, e)
 
 known : (home : ℕ) (c : Clock) → Contains (clocks_in (gate_log account home)) c → IsKnown account c
 known (suc (suc home)) c h = absurd (has_none c h)
 known zero c h = of-each (IsKnown account) (clock 1 0 ∷ clock 1 0 ∷ clock 1 0 ∷ []) (first, (first, (first, tt))) c h
   where
     first : IsKnown account (clock 1 0)
-    first = clock-known 1 0 (omega arith) (omega arith)
+    first = two-known account 1 0 (omega arith) (omega arith)
 known (suc zero) c h = of-each (IsKnown account) (clock 0 1 ∷ clock 0 1 ∷ clock 0 1 ∷ []) (second, (second, (second, tt))) c h
   where
     second : IsKnown account (clock 0 1)
-    second = clock-known 0 1 (omega arith) (omega arith)
+    second = two-known account 0 1 (omega arith) (omega arith)
 
 -- There is no program
 
@@ -287,25 +225,23 @@ no-program (suc zero) request program e w =
     let same : t2 ≡ request = cc in let clash : Change (Set v (codes "k") (codes "x") ∷ []) ≡ Look program = ap (λ (q : Request). q.work) same ∙ w in cc
 no-program (suc (suc r)) request program e w = cc
 
-deeds : (shard : ℕ)
-    → AreShardDeeds script account shard (shard_log account shard)
-deeds zero = each_none _
-deeds (suc shard) = each_none _
-
 pub worked-pair : IsAccount script account
 worked-pair =
     record {
       gatekeepers = record { as_many = refl; logs = fits; begins = begins; once = pairs-two (λ (a b : Begun). a.request ≢ b.request) _ _ (λ e. cc) };
-      clocks = record { known = known; hears_no_more = hears };
-      sessions = record { logs = session-fits; stamps = session-stamps; replies = session-replies; finished_are_replied = finished-replied };
+      clocks = record { known = known; hears_no_more = two-hear x y (first-to m1) (first-to m2) };
+      sessions = record { logs = session-fits; stamps = of-two (HasSessionStamp account) script t1 t2 refl refl refl; replies = session-replies; finished_are_replied = of-two (IsRepliedIfFinished account) script t1 t2 refl (λ look. absurd cc) (λ look. absurd cc) };
       store = record { judges = judges; once = pairs-two (λ (a b : Judgement). a.request ≢ b.request) _ _ (λ e. cc); in_turn = pairs-two (λ (a b : Judgement). InTurn script a.request b.request) _ _ (λ e. cc) };
       oracle = record {
-        log = oracle-log;
+        log = one-settled x y (λ same. omega (arith, same)) refl refl;
         asked = λ entry h. inl (asked entry h);
-        marked = none-marked;
+        marked = none-marked account [] refl refl;
         once = λ i j d below within. absurd (omega (arith, within));
       };
-      channels = sends;
-      shards = record { as_many = refl; deeds = deeds };
+      channels =
+          two-send x y (first-to m1) (first-to m2) account
+          (record { judged = judged_by 0 j1.deed; is_judged = (0, omega arith, refl); request_is = refl; messages_are = refl })
+          (record { judged = judged_by 0 j2.deed; is_judged = (1, omega arith, refl); request_is = refl; messages_are = refl });
+      shards = record { as_many = refl; deeds = no-deeds account (λ shard before (entry : ShardEntry). ShardFitsAs script account shard before entry.deed) refl };
       programs = no-program;
     }

@@ -1,9 +1,10 @@
 -- If each request has its reply in its session's log, each reply of the report is final; and a program is finished
 -- exactly if its session has its reply.
+-- Used by `finished_exactly_if_replied` and `replied_requests_are_final`.
 use Rattle.std.proofs.Common.{◌≡◌, ℕ, true, false, List, [], ◌∷◌, IsTrue, Option, Some, None, refl, sym, ap, subst, ◌∙◌}
 use Rattle.std.specs.Prelude.{◌↔◌, IsSomeAnd}
 use Rattle.std.specs.List.{AllByRecursion}
-use Rattle.proof_base.proofs.Ordered.{find_by_key}
+use Rattle.weave_data.proofs.Ordered.{find_by_key}
 use Rattle.vector_stamp.specs.declared.clock.Stamp.{Stamp}
 use Rattle.graph_ops.specs.declared.op.Op.{Op}
 use Rattle.program_defs.specs.declared.program.Program.{Program}
@@ -34,7 +35,7 @@ verdict-final (verdict.Committed number answers counts) = refl
 verdict-final (verdict.Conflict v newer) = refl
 verdict-final (verdict.Refused op reason at) = refl
 
--- so is that of a program that is finished
+-- the state of a program that is finished is final
 program-final : (account : Account) (r : ℕ) (program : Program) (state : ReplyState) → IsTrue (is_ended account r)
     → IsStateOfProgram account r program state → IsTrue (is_final state)
 program-final account r program (Finished answer) ended is = refl

@@ -1,4 +1,5 @@
 -- The report of an account is a report of the script: its replies, pairs and order have the forms of lines.
+-- Used by RightReport.
 use Rattle.std.proofs.Common.{◌≡◌, ℕ, Bool, ◌==◌, ◌&&◌, List, [], ◌∷◌, map, length, Contains, IsTrue, Option, Some, None, refl, sym, subst, ◌∙◌}
 use Rattle.std.specs.Prelude.{IsSomeAnd, reverse}
 use Rattle.std.specs.List.{AllByRecursion}
@@ -37,9 +38,9 @@ use Rattle.weave_account.specs.Pairs.{ArePairsOf}
 use Rattle.weave_account.specs.Report.{state_by_verdict, state_of_tx, IsStateOfProgram, IsStateOf, IsReportOfAccount}
 use Rattle.weave_account.proofs.Listed.{judged-at}
 use Rattle.weave_account.proofs.ListingClause.{matches-of, begun-stamped}
-use Rattle.proof_base.proofs.Members.{find_has}
-use Rattle.proof_base.proofs.Numbers.{of-numbers}
-use Rattle.proof_base.proofs.Places.{all-from}
+use Rattle.weave_data.proofs.Members.{find_has}
+use Rattle.weave_data.proofs.Numbers.{of-numbers}
+use Rattle.weave_data.proofs.ListPlaces.{all-from}
 use Rattle.weave_account.proofs.Printing.{order-has}
 use Rattle.weave_account.proofs.Replying.{begun-rightly}
 use Rattle.weave_account.proofs.RepliesClause.{begin-of}

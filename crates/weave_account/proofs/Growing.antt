@@ -1,11 +1,12 @@
 -- What is said of an entry stays true while other logs go on.
+-- Used by `facts_stay_true`, PhasePrecedence, Ticking and VisitsStay.
 use Rattle.std.proofs.Common.{zero, suc, ◌≡◌, ℕ, List, ◌++◌, Contains, sym, ap, subst, ◌∙◌, AllPairs, ◌≢◌, [], ◌∷◌, Option, None, Some, refl, inl, inr, ◌-◌, ◌==◌, append_assoc, Bool, IsTrue, ◌+◌, ◌<◌, arith}
 use Rattle.std.specs.List.{flat_map, find, range_with_len}
 use Rattle.std.proofs.lemmas.List.{map-append}
 use Rattle.std.proofs.lemmas.List.Concat.{flat_map-append}
 use Rattle.std.proofs.lemmas.List.Elements.{Contains-append_left, filter-append}
 use Rattle.vector_stamp.specs.declared.clock.Stamp.{Stamp}
-use Rattle.vector_stamp.specs.Precedence.{Given, Precedes, ByStamps, ByPair, Through}
+use Rattle.vector_stamp.specs.Precedence.{Given, Precedes}
 use Rattle.graph_ops.specs.declared.op.Op.{Op}
 use Rattle.program_defs.specs.declared.script.Script.{Script}
 use Rattle.weave_entries.specs.declared.gate_log.GateEntry.{GateEntry}
@@ -30,9 +31,9 @@ use Rattle.weave_entries.specs.ShardReplay.{visit_by, visits_of}
 use Rattle.report_rules.specs.declared.report.Pair.{Pair}
 use Rattle.weave_account.specs.Pairs.{IsAddedByCommit, IsAddedByVisit, IsPairInAccount}
 use Rattle.weave_account.proofs.Beginning.{all-in, begun-stamp}
-use Rattle.proof_base.proofs.Members.{find_has, has_read}
-use Rattle.proof_base.proofs.Images.{flat-has}
-use Rattle.proof_base.proofs.Numbers.{has-in, in-has}
+use Rattle.weave_data.proofs.Members.{find_has, has_read}
+use Rattle.weave_data.proofs.Images.{flat-has}
+use Rattle.weave_data.proofs.Numbers.{has-in, in-has}
 use Rattle.weave_account.proofs.Replying.{place-of}
 use Rattle.vector_stamp.specs.Clocks.{counts_no_more}
 use Rattle.program_defs.specs.declared.script.Work.{Work}
@@ -48,7 +49,7 @@ use Rattle.std.proofs.Common.{◌⊎◌, ◌≤◌}
 use Rattle.std.specs.List.{count_by, list_any}
 use Rattle.vector_stamp.specs.declared.clock.Clock.{Clock}
 use Rattle.vector_stamp.specs.Settling.{SettledEntry}
-use Rattle.proof_base.proofs.Members.{any_from, any_has, has_cut, has_flat, has_head}
+use Rattle.weave_data.proofs.Members.{any_from, any_has, has_cut, has_flat, has_head}
 use Rattle.program_defs.specs.Works.{is_change, is_look}
 use Rattle.weave_entries.specs.declared.session_log.SessionDeed.{SessionDeed}
 use Rattle.weave_entries.specs.declared.session_log.SessionDeed.TheVariants as session
@@ -59,12 +60,8 @@ use Rattle.weave_account.specs.Gatekeepers.{BeginsAs}
 use Rattle.weave_account.specs.Oracle.{IsAskedByCommit}
 use Rattle.weave_account.specs.Sessions.{RepliesAs}
 use Rattle.weave_account.proofs.Beginning.{list-there}
-use Rattle.proof_base.proofs.Counting.{count-more}
-
-more-precedes : (pairs more : List Given) (a b : Stamp) → Precedes pairs a b → Precedes (pairs ++ more) a b
-more-precedes pairs more _ _ (ByStamps a b h) = ByStamps a b h
-more-precedes pairs more _ _ (ByPair a b h) = ByPair a b (Contains-append_left pairs more (a, b) h)
-more-precedes pairs more _ _ (Through a b c g h) = Through a b c (more-precedes pairs more a b g) (more-precedes pairs more b c h)
+use Rattle.weave_account.proofs.Additions.{more-precedes}
+use Rattle.weave_data.proofs.Counting.{count-more}
 
 module _ (script : Script) (account next : Account) (on : GoesOn account next) where
   -- precedence grows
@@ -155,7 +152,7 @@ module _ (script : Script) (account next : Account) (on : GoesOn account next) w
         verdict = verdict-stays (commits_of before) judged.stamp judged.ops judged.verdict rule.verdict;
       }
 
-  -- so does what was sent
+  -- the same holds of what was sent
   pub sends-stay : (before : List GateEntry) (author : ℕ) (deed : GateDeed) → SendsAs account script.shards before author deed
       → SendsAs next script.shards before author deed
   sends-stay before author (Sent r messages) sends =

@@ -1,15 +1,16 @@
 -- A head whose counts agree passes on the newest states of its vertices. It rests on the clauses on channels, the
 -- store and shards, and of these on what a hand can have seen, and on "the updates applied are the first commits".
-use Rattle.std.proofs.Common.{◌≡◌, ℕ, true, false, cond, List, [], ◌∷◌, ◌++◌, map, take, length, Contains, IsTrue, Some, None, inl, inr, refl, sym, ap, subst, ◌∙◌}
+-- Used by `accounts_were_seen`, `collections_leave_what_programs_see`, `heads_pass` and 5 more.
+use Rattle.std.proofs.Common.{◌≡◌, ℕ, true, false, cond, List, [], ◌∷◌, ◌++◌, map, take, length, Contains, IsTrue, Some, None, inl, inr, refl, sym, ap, subst, ◌∙◌, arith}
 use Rattle.std.specs.Prelude.{Ok, is_ok}
-use Rattle.std.proofs.lemmas.List.{append-nil, map-append}
+use Rattle.std.proofs.lemmas.List.{append-nil, map-append, take-append-le, take_all}
 use Rattle.std.proofs.lemmas.List.Elements.{All-from_recursion, filter-append}
 use Rattle.std.proofs.lemmas.List.Sums.{fold-append}
 use Rattle.std.specs.List.{filter}
 use Rattle.std.proofs.lemmas.Bool.{cases_Bool, eqb-true}
-use Rattle.proof_base.proofs.Ends.{by_last}
-use Rattle.proof_base.proofs.Entries.{each_before, each_last}
-use Rattle.proof_base.proofs.Members.{has_none, has_head, has_read, has_filter, filter_has}
+use Rattle.weave_data.proofs.Ends.{by_last}
+use Rattle.weave_data.proofs.Entries.{each_before, each_last}
+use Rattle.weave_data.proofs.Members.{has_none, has_head, has_read, has_filter, filter_has}
 use Rattle.weave_data.specs.Names.{same_name, shard_of}
 use Rattle.weave_data.specs.declared.name.Name.{Name}
 use Rattle.graph_ops.specs.Operations.{State}
@@ -39,21 +40,16 @@ use Rattle.weave_account.specs.declared.account.Account.{Account}
 use Rattle.weave_account.specs.Account.{gate_log}
 use Rattle.weave_account.specs.Shards.{AreShardDeeds, ShardFitsAs, update_of}
 use Rattle.weave_entries.specs.ShardRules.{PassesAt}
-use Rattle.proof_base.proofs.Images.{map-has}
-use Rattle.proof_base.proofs.Places.{all-from}
+use Rattle.weave_data.proofs.Images.{map-has}
+use Rattle.weave_data.proofs.ListPlaces.{all-from}
 use Rattle.weave_account.proofs.SameName.{same_name-refl}
 use Rattle.weave_account.proofs.Basis.{Basis}
 use Rattle.weave_account.proofs.Listed.{verdict-commits}
 use Rattle.weave_account.proofs.Applying.{go-on, Shows, Takes, arrived-was-sent, naming-parts, shows, waits-none}
 use Rattle.weave_account.proofs.Sent.{Brings, IsUpdateOf, commits-pass, made-brings, sent-made}
-use Rattle.weave_account.specs.LowerLaws.{LowerLaws}
+use Rattle.weave_account.specs.LowerLaws.{LawsForAccounts}
 use Rattle.weave_account.specs.Seen.{HavePassed, HasSeen, IsMade, PassesAfter, PassesAs, TakesAs}
 use Rattle.weave_account.proofs.Storing.{commit-of, commits-push}
-
--- the first ones of a list, as many as they are
-take-front : {A : Type 0} (xs ys : List A) → take (length xs) (xs ++ ys) ≡ xs
-take-front [] ys = refl
-take-front (x ∷ xs) ys = ap (λ zs. x ∷ zs) (take-front xs ys)
 
 module _ (shards : ℕ) (store : List StoreEntry) (shard : ℕ) where
   -- Each vertex of a message is kept in its shard
@@ -89,7 +85,7 @@ parts-kept script account basis shard home a h part k =
 
 -- The graph that commits leave, at one vertex
 
-module _ (laws : LowerLaws) (v : Name) where
+module _ (laws : LawsForAccounts) (v : Name) where
   -- the state of the vertex in the graph that these commits leave is that after their updates
   abbrev IsAt : List Commit → Type 0
   IsAt commits = graph_committed commits v ≡ state_of_updates (map (update_of v) (commits_naming v commits))
@@ -133,7 +129,7 @@ module _ (laws : LowerLaws) (v : Name) where
   Rule before entry =
       PassesAs (commits_of before) (judged_by entry.author entry.deed).ops (judged_by entry.author entry.deed).verdict
 
-  -- so it is after each log of the store
+  -- this holds after each log of the store
   graph-at : (log : List StoreEntry)
       → HavePassed log
       → IsAt (commits_of log)
@@ -145,7 +141,7 @@ module _ (laws : LowerLaws) (v : Name) where
 
 -- Its operations pass, by what was seen
 
-module _ (laws : LowerLaws) (shards : ℕ) (store : List StoreEntry) (shard : ℕ) (log : List ShardEntry) (has : HasSeen shards store shard log) where
+module _ (laws : LawsForAccounts) (shards : ℕ) (store : List StoreEntry) (shard : ℕ) (log : List ShardEntry) (has : HasSeen shards store shard log) where
   abbrev WasMade : ℕ → ℕ → Message → Type 0
   WasMade home number m = IsMade shards store shard m
 
@@ -185,7 +181,7 @@ module _ (laws : LowerLaws) (shards : ℕ) (store : List StoreEntry) (shard : �
       let updates : updates_of v log ≡ map (update_of v) first =
       shown.are ∙ ap (λ k. map (update_of v) (take k (commits_naming v (commits_of store)))) (sym count)
       ∙ ap (λ cs. map (update_of v) (take (length first) cs)) (naming-parts store v WasMade (brings-of v here) m update)
-      ∙ ap (map (update_of v)) (take-front first (update.commit ∷ commits_naming v (commits_of update.after))) in
+      ∙ ap (map (update_of v)) (take-append-le (length first) first (update.commit ∷ commits_naming v (commits_of update.after)) (omega arith) ∙ take_all (length first) first (omega arith)) in
       let passed : HavePassed update.before =
       each_before _ update.before (update.entry ∷ update.after) (subst HavePassed update.is has.passes) in
       ap state_of_updates updates ∙ sym (graph-at laws v update.before passed)

@@ -1,5 +1,6 @@
 -- What a session's log says with the other logs: what was begun last, the request that comes next, and that a request
 -- which a later one of its session follows has its reply.
+-- Used by 4 more and crates hands_account, sessions_account, weaver_core and workers_account.
 use Rattle.std.proofs.Common.{◌≡◌, ◌≢◌, ℕ, zero, suc, ◌<◌, ◌==◌, Bool, true, false, List, [], ◌∷◌, ◌++◌, length, take, Contains, IsTrue, Option, None, Some, ◌⊎◌, inl, inr, refl, sym, ap, subst, ◌∙◌, arith}
 use Rattle.std.specs.Prelude.{◌-◌, cond, not, slice_get, reverse}
 use Rattle.std.specs.List.{filter, range_with_len}
@@ -8,9 +9,9 @@ use Rattle.std.proofs.lemmas.Bool.{cases_order}
 use Rattle.std.proofs.lemmas.List.Elements.{Contains-append_left}
 use Rattle.std.proofs.lemmas.List.Sums.{fold-append}
 use Rattle.std.proofs.lemmas.Option.{get_or_from_slice_get, slice_get_within, slice_get-get_or}
-use Rattle.proof_base.proofs.Ends.{by_last, flat_push}
-use Rattle.proof_base.proofs.Entries.{each_before, each_last}
-use Rattle.proof_base.proofs.Members.{filter_has, find_has, has_filter, has_last, has_map, map_has}
+use Rattle.weave_data.proofs.Ends.{by_last, flat_push}
+use Rattle.weave_data.proofs.Entries.{each_before, each_last}
+use Rattle.weave_data.proofs.Members.{filter_has, find_has, has_filter, has_last, has_map, map_has}
 use Rattle.vector_stamp.specs.declared.clock.Stamp.{Stamp}
 use Rattle.program_defs.specs.declared.script.Request.{Request}
 use Rattle.program_defs.specs.declared.script.Script.{Script}
@@ -29,8 +30,8 @@ use Rattle.weave_account.specs.Sessions.{requests_of_session}
 use Rattle.weave_account.specs.Store.{InTurn}
 use Rattle.weave_account.proofs.Basis.{Basis}
 use Rattle.weave_account.proofs.Beginning.{begun-stamp}
-use Rattle.proof_base.proofs.Images.{flat-has, last-none}
-use Rattle.proof_base.proofs.Numbers.{has-in, in-has, IsSorted, in-cases, in-head, in-tail, sorted-filter}
+use Rattle.weave_data.proofs.Images.{flat-has, last-none}
+use Rattle.weave_data.proofs.Numbers.{has-in, in-has, IsSorted, in-cases, in-head, in-tail, sorted-filter}
 use Rattle.weave_account.proofs.Ordering.{up-to-last}
 use Rattle.weave_account.proofs.PhaseOrder.{replied-ended}
 use Rattle.weave_account.proofs.PlacedPairs.{judged-begun}
@@ -38,7 +39,7 @@ use Rattle.weave_account.proofs.Ready.{has-range, range-pairs}
 use Rattle.weave_account.proofs.RepliesClause.{begin-of}
 use Rattle.weave_account.proofs.Replying.{place-of}
 use Rattle.weave_account.proofs.Requests.{among-session, before-earlier, begun-gate, change-begun, flies-still, pairs-filter, requests-rise, sent-or-flies}
-use Rattle.weave_account.specs.LowerLaws.{LowerLaws}
+use Rattle.weave_account.specs.LowerLaws.{LawsForAccounts}
 use Rattle.weave_account.proofs.Sessions.{both-there, found, range-sorted, same-requests, session-begun}
 
 -- The first requests
@@ -166,19 +167,19 @@ module _ (script : Script) (account : Account) (basis : Basis script account) wh
 -- What was begun last
 
 -- nothing was begun
-record NoneBegun (state : SessionState) : Type 0 where
-  begun-is : state.begun ≡ 0
-  last-is : state.last ≡ None
+pub record NoneBegun (state : SessionState) : Type 0 where
+  pub begun-is : state.begun ≡ 0
+  pub last-is : state.last ≡ None
 
 -- something was begun: at the last place so far, with the last stamp
-record SomeBegun (requests : List ℕ) (state : SessionState) (begins : List (ℕ × Stamp)) : Type 0 where
-  place : ℕ
-  request : ℕ
-  stamp : Stamp
-  begun-is : state.begun ≡ suc place
-  at : slice_get requests place ≡ Some request
-  last-is : state.last ≡ Some stamp
-  there : Contains begins (request, stamp)
+pub record SomeBegun (requests : List ℕ) (state : SessionState) (begins : List (ℕ × Stamp)) : Type 0 where
+  pub place : ℕ
+  pub request : ℕ
+  pub stamp : Stamp
+  pub begun-is : state.begun ≡ suc place
+  pub at : slice_get requests place ≡ Some request
+  pub last-is : state.last ≡ Some stamp
+  pub there : Contains begins (request, stamp)
 
 abbrev after : List ℕ → SessionState → List (ℕ × Stamp) → Type 0
 after requests state begins = NoneBegun state ⊎ SomeBegun requests state begins
@@ -198,7 +199,7 @@ last-any requests others =
     by-deed a b (SessionBegun r stamp) e = refl
     by-deed a b (Replied r) e = e
 
-module _ (laws : LowerLaws) (number : ℕ) (requests : List ℕ) (rising : IsSorted (λ x y. x < y) requests) where
+module _ (laws : LawsForAccounts) (number : ℕ) (requests : List ℕ) (rising : IsSorted (λ x y. x < y) requests) where
   last-step : (state : SessionState) (begins : List (ℕ × Stamp)) (deed : SessionDeed) → state.requests ≡ requests
       → FitsSession state deed → after requests state begins → after requests (session_after state deed) (begins ++ begin_by deed)
   last-step state begins (SessionBegun r stamp) same fits so-far =

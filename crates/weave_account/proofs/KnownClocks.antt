@@ -1,5 +1,6 @@
--- The clocks of all logs are known: those of gatekeepers' logs by their clause, and all others as copies and meets of
--- these.
+-- Every clock in an account is known (it counts no more events than its gatekeepers logged, in an epoch that is 0 or
+-- was raised): those of gatekeepers' logs by their clause, and all others as copies and meets of these.
+-- Used by `clocks_are_known` and PairEnds.
 use Rattle.std.proofs.Common.{◌≡◌, ◌≢◌, ℕ, ◌<◌, ◌≤◌, ◌==◌, zero, suc, false, max, List, [], ◌∷◌, ◌++◌, map, fold, take, length, Contains, IsTrue, Option, Some, None, ◌⊎◌, inl, inr, refl, sym, ap, subst, ◌∙◌, append_assoc, arith}
 use Rattle.std.specs.Prelude.{nat_lt}
 use Rattle.std.specs.List.{list_any, range_with_len}
@@ -8,9 +9,9 @@ use Rattle.std.proofs.lemmas.List.Concat.{flat_map-append}
 use Rattle.std.proofs.lemmas.Bool.{cases_eq, cases_order, cond-true, cond-false, eq-eqb, false_from_ne_true, le-leb, le-ltb, lt-ltb, ltb-true, ne_eqb}
 use Rattle.std.proofs.lemmas.List.{append-nil}
 use Rattle.std.proofs.lemmas.List.Sums.{fold-append}
-use Rattle.proof_base.proofs.Ends.{by_last, count_none}
-use Rattle.proof_base.proofs.Entries.{each_before}
-use Rattle.proof_base.proofs.Members.{any_from, has_none, has_head, has_tail, has_flat, has_cut, filter_has, has_read, only}
+use Rattle.weave_data.proofs.Ends.{by_last, count_none}
+use Rattle.weave_data.proofs.Entries.{each_before}
+use Rattle.weave_data.proofs.Members.{any_from, has_none, has_head, has_tail, has_flat, has_cut, filter_has, has_read, only, take_has}
 use Rattle.vector_stamp.specs.declared.clock.Clock.{Clock}
 use Rattle.vector_stamp.specs.declared.clock.Stamp.{Stamp}
 use Rattle.vector_stamp.specs.Clocks.{first_clock, clock_after_hearing, counts_no_more, meet_of, start_clock}
@@ -35,7 +36,7 @@ use Rattle.weave_entries.specs.StoreReplay.{Judgement, judgements_of, commit_by,
 use Rattle.weave_entries.specs.StoreRule.{LastCommit}
 use Rattle.weave_account.specs.declared.account.Account.{Account}
 use Rattle.weave_account.specs.Account.{all_begun, commits_in, gate_log, session_log, shard_log, stamp_of}
-use Rattle.weave_account.specs.LowerLaws.{LowerLaws}
+use Rattle.weave_account.specs.LowerLaws.{LawsForAccounts}
 use Rattle.weave_account.proofs.Sessions.{session-begun}
 use Rattle.weave_account.specs.Clocks.{IsKnown, is_raised, raises_to}
 use Rattle.weave_account.specs.Oracle.{IsAskedByCommit, IsAskedByVisit, seen_last}
@@ -45,13 +46,14 @@ use Rattle.weave_account.proofs.Beginning.{list-there}
 use Rattle.weave_account.proofs.BegunStamps.{clock-there}
 use Rattle.weave_account.proofs.Heads.{arrived-sent}
 use Rattle.weave_account.proofs.Meeting.{visit-fits, visit-stamp}
-use Rattle.proof_base.proofs.Images.{flat-has, map-has, within-list}
+use Rattle.weave_data.proofs.Images.{flat-has, map-has, within-list}
 use Rattle.weave_account.proofs.PlacedPairs.{commit-known, judged-begun, last-known, lasts-at}
 use Rattle.weave_account.proofs.Updates.{shows}
 use Rattle.weave_account.proofs.RepliesClause.{begin-of}
 use Rattle.weave_account.proofs.Replying.{begun-rightly}
+use Rattle.weave_account.proofs.Collecting.{low-of}
 
-module _ (laws : LowerLaws) (account : Account) where
+module _ (laws : LawsForAccounts) (account : Account) where
   -- Hearing, meeting
 
   -- an epoch is not above itself
@@ -80,7 +82,7 @@ module _ (laws : LowerLaws) (account : Account) where
       meet-epoch : (a b : Clock) → a.epoch ≡ b.epoch → (meet_of a b).epoch ≡ a.epoch
       meet-epoch a b same = rw (not-less a.epoch b.epoch same, not-less b.epoch a.epoch (sym same)) refl
 
-  -- so is a known clock that heard another known one
+  -- the same holds of a known clock that heard another known one
   pub hearing-known : (home : ℕ) → home < 8 → (clock heard : Clock) → IsKnown account clock → IsKnown account heard
       → IsKnown account (clock_after_hearing home clock heard)
   hearing-known home below clock heard kc kh =
@@ -142,7 +144,7 @@ module _ (laws : LowerLaws) (account : Account) where
           max-less : (a b : ℕ) → a < b → max a b ≡ b
           max-less a b less = omega (arith, less)
 
-  -- so is the low mark of a known stamp and known running programs
+  -- the same holds of the low mark of a known stamp and known running programs
   pub low-known : (clock : Clock) (running : List Begun) → IsKnown account clock
       → ((begun : Begun) → Contains running begun → IsKnown account begun.stamp.clock)
       → IsKnown account (fold (λ low (begun : Begun). meet_of low begun.stamp.clock) clock running)
@@ -292,15 +294,11 @@ module _ (script : Script) (account : Account) (basis : Basis script account) wh
         both (Some x) None kx ky clock e = cc
         both None b kx ky clock e = cc
 
-    -- the low mark of the last processed message of a gatekeeper
-    abbrev low-of : ℕ → Option Clock
-    low-of gate = option_map (λ (message : Message). message.low) (last_of gate log)
-
     -- the low marks of which a bound is the meet are known
-    pub lows-known : (gates : ℕ) (low : Option Clock) → Contains (map low-of (range_with_len 0 gates)) low → (clock : Clock)
+    pub lows-known : (gates : ℕ) (low : Option Clock) → Contains (map (low-of log) (range_with_len 0 gates)) low → (clock : Clock)
         → low ≡ Some clock → IsKnown account clock
     lows-known gates low h clock is =
-        let image = map-has low-of (range_with_len 0 gates) low h in
+        let image = map-has (low-of log) (range_with_len 0 gates) low h in
         of-message image.of (last_of image.of log) refl clock (image.is ∙ is)
       where
         of-message : (gate : ℕ) (o : Option Message) → last_of gate log ≡ o → (clock : Clock)
@@ -311,7 +309,7 @@ module _ (script : Script) (account : Account) (basis : Basis script account) wh
 
     -- the bound of a collection is known
     pub bound-known : (gates : ℕ) (bound : Clock) → bound_of gates log ≡ Some bound → IsKnown account bound
-    bound-known gates bound e = at (map low-of (range_with_len 0 gates)) (lows-known gates) e
+    bound-known gates bound e = at (map (low-of log) (range_with_len 0 gates)) (lows-known gates) e
       where
         at : (lows : List (Option Clock))
             → ((low : Option Clock) → Contains lows low → (clock : Clock) → low ≡ Some clock → IsKnown account clock)
@@ -328,12 +326,6 @@ module _ (script : Script) (account : Account) (basis : Basis script account) wh
   seen-has (suc zero) (x ∷ stamps) s h = subst (λ k. Contains (x ∷ stamps) k) (only x s h) (has_head x stamps)
   seen-has (suc (suc n)) (x ∷ stamps) s h = has_tail x stamps s (seen-has (suc n) stamps s h)
 
-  take-has : {A : Type 0} (n : ℕ) (xs : List A) (x : A) → Contains (take n xs) x → Contains xs x
-  take-has zero xs x h = absurd (has_none x h)
-  take-has (suc n) [] x h = h
-  take-has (suc n) (y ∷ xs) x h =
-      elim (has_read y (take n xs) x h) [ inl same ↦ subst (λ k. Contains (y ∷ xs) k) same (has_head y xs) | inr more ↦ has_tail y xs x (take-has n xs x more) ]
-
   seen-begun : (shard : ℕ) (visit : Visit) → Contains (visits_of (shard_log account shard)) visit → (s : Stamp)
       → Contains (seen_last (shard_log account shard) visit) s → (r : ℕ) × (stamp_of account r ≡ Some s)
   seen-begun shard visit h s k =
@@ -346,7 +338,7 @@ module _ (script : Script) (account : Account) (basis : Basis script account) wh
       map-has (λ (u : Update). u.stamp) (updates_of v log) s (seen-has visit.updates (map (λ (u : Update). u.stamp) (updates_of v log)) s k) in
       let commit = map-has (update_of v) (take (length (updates_of v log)) naming) update.of (subst (λ us. Contains us update.of) shown update.has) in
       let in-all =
-      (filter_has (names_vertex v) (commits_in account) commit.of (take-has (length (updates_of v log)) naming commit.of commit.has)).0 in
+      (filter_has (names_vertex v) (commits_in account) commit.of (take_has (length (updates_of v log)) naming commit.of commit.has)).0 in
       let stamp-is : (commit.of).stamp ≡ s = ap (λ (u : Update). u.stamp) commit.is ∙ update.is in
       ((commit.of).request, (commit-known script account basis commit.of in-all).stamp ∙ ap Some stamp-is)
 
@@ -417,7 +409,7 @@ lower-clash a b c same higher lower = omega (arith, same, higher, lower)
 even-clash : (a b c : ℕ) → a ≡ c → b < c → a ≡ b → ⊥
 even-clash a b c same higher even = omega (arith, same, higher, even)
 
-module _ (laws : LowerLaws) (home shards : ℕ) (account : Account) (below : home < 8) (is : IsGateLog home shards (gate_log account home)) where
+module _ (laws : LawsForAccounts) (home shards : ℕ) (account : Account) (below : home < 8) (is : IsGateLog home shards (gate_log account home)) where
   -- no stamp of a gatekeeper's log has a higher epoch than its clock
   none-higher : (epoch : ℕ) → (clock_of home (gate_log account home)).epoch < epoch → ticks_of epoch (gate_log account home) ≡ 0
   none-higher epoch higher =

@@ -38,6 +38,7 @@ pub mod RightReport
 pub mod Starting
 pub mod Heads
 pub mod ExampleLists
+pub mod ExampleParts
 pub mod ExampleReader
 pub mod ExampleWriters
 pub mod ExamplePath

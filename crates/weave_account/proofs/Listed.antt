@@ -1,4 +1,5 @@
 -- What the printed order of an account lists: the commits of its store, and its finished programs.
+-- Used by ConflictsClause, FormOfScript, Heads, ListingClause, Meeting, NumbersClause, PhaseOrder and 7 more.
 use Rattle.std.proofs.Common.{◌≡◌, ℕ, zero, suc, ◌==◌, List, [], ◌∷◌, ◌++◌, Contains, IsTrue, Option, Some, None, ◌⊎◌, inl, inr, refl, sym, ap, subst, ◌∙◌}
 use Rattle.std.specs.Prelude.{IsSomeAnd, slice_get}
 use Rattle.std.specs.List.{AllByRecursion, filter_map, cons_option}
@@ -31,10 +32,10 @@ use Rattle.weave_account.specs.declared.account.Account.{Account}
 use Rattle.weave_account.specs.Account.{commits_in}
 use Rattle.weave_account.specs.Store.{Commits, IsRightVerdict, Judges}
 use Rattle.weave_account.specs.Report.{state_by_verdict, state_of_tx, IsStateOfProgram, IsStateOf, IsReplyInAccount, MatchesAccount}
-use Rattle.proof_base.proofs.Members.{cut_at, find_has, has_map}
-use Rattle.proof_base.proofs.Ordered.{find_by_key}
-use Rattle.proof_base.proofs.Images.{map-has}
-use Rattle.proof_base.proofs.Numbers.{in-head, in-tail}
+use Rattle.weave_data.proofs.Members.{cut_at, find_has, has_map}
+use Rattle.weave_data.proofs.Ordered.{find_by_key}
+use Rattle.weave_data.proofs.Images.{map-has}
+use Rattle.weave_data.proofs.Numbers.{in-head, in-tail}
 use Rattle.weave_account.proofs.Storing.{IsVerdictOf}
 use Rattle.weave_account.proofs.Replies.{reply-number}
 use Rattle.weave_account.proofs.Basis.{Basis}

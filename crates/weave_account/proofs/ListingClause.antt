@@ -1,10 +1,11 @@
 -- The clauses on listing and on the order. They rest on the clauses on gatekeepers and sessions, and on the printed
 -- order.
+-- Used by ConflictsClause, FormOfScript, RefusalsClause, RepliesClause, RightReport and VisitedPairs.
 use Rattle.std.proofs.Common.{◌≡◌, ℕ, ◌<◌, Bool, not, ◌||◌, ◌&&◌, nat_lt, nat_eq, length, List, [], ◌∷◌, Contains, IsTrue, Option, Some, None, inl, inr, refl, sym, ap, subst, ◌∙◌}
 use Rattle.std.specs.Prelude.{IsSomeAnd, slice_get}
 use Rattle.std.specs.List.{AllByRecursion, list_all, filter_map, cons_option}
 use Rattle.std.specs.Option.{option_map}
-use Rattle.proof_base.proofs.Members.{has_read, has_head, has_tail, has_none, cut_at}
+use Rattle.weave_data.proofs.Members.{has_read, has_head, has_tail, has_none, cut_at}
 use Rattle.std.proofs.lemmas.Bool.{cases_order, and_from, lt-ltb, eq-eqb, eqb-true}
 use Rattle.vector_stamp.specs.declared.clock.Stamp.{Stamp}
 use Rattle.vector_stamp.specs.Precedence.{Precedes, ByStamps}
@@ -13,27 +14,24 @@ use Rattle.program_defs.specs.declared.script.Script.{Script}
 use Rattle.report_rules.specs.declared.report.Reply.{Reply}
 use Rattle.report_rules.specs.declared.report.ReplyState.TheVariants.{Unbegun}
 use Rattle.report_rules.specs.declared.report.Report.{Report}
-use Rattle.proof_base.specs.Facts.{AllHold}
+use Rattle.weave_data.specs.Facts.{AllHold}
 use Rattle.report_rules.specs.PrintedOrder.{begun_requests, IsPrintedOrder}
 use Rattle.report_rules.specs.RightReport.{listing_clause, IsListedInOrder, order_clause}
 use Rattle.report_rules.specs.Lookups.{is_in, is_some_and, are_both, AreBoth, request_at, reply_at, same_session, is_committed_or_finished, may_be_listed, RequestPrecedes}
-use Rattle.proof_base.proofs.FactsLaws.{hold-append}
+use Rattle.weave_data.proofs.FactsLaws.{hold-append}
 use Rattle.weave_account.specs.declared.account.Account.{Account}
 use Rattle.weave_account.specs.Account.{stamp_of, pairs_in}
 use Rattle.weave_account.specs.Report.{IsStateOf, IsReplyInAccount, MatchesAccount}
 use Rattle.weave_account.proofs.Cutting.{IsNotAfter}
 use Rattle.weave_account.proofs.Listed.{in-begun}
 use Rattle.weave_account.proofs.Ordering.{not-both}
-use Rattle.proof_base.proofs.Numbers.{of-numbers, IsSorted, in-head, in-tail, in-cases, in-append_left, in-append_right, sorted-at}
-use Rattle.proof_base.proofs.Places.{facts-hold, list-all-from, unless, not-true}
+use Rattle.weave_data.proofs.Numbers.{of-numbers, IsSorted, in-head, in-tail, in-cases, in-append_left, in-append_right, sorted-at}
+use Rattle.weave_data.proofs.ListPlaces.{facts-hold, list-all-from, unless, not-true}
 use Rattle.weave_account.proofs.Printing.{order-sorted, order-has, has-order}
-use Rattle.weave_account.proofs.Replies.{reply-number, same-precedence}
-use Rattle.proof_base.proofs.Lists.{get-here}
+use Rattle.weave_account.proofs.Replies.{reply-number, same-precedence, convert}
+use Rattle.weave_data.proofs.Lists.{get-here}
 use Rattle.weave_account.proofs.Basis.{Basis}
 use Rattle.weave_account.proofs.Sessions.{sessions-rise}
-
-convert : {A B : Type 0} → A ≡ B → A → B
-convert e a = subst (λ (X : Type 0). X) e a
 
 -- to be of one session goes both ways
 pub session-other : (script : Script) (a b : ℕ) → IsTrue (same_session script a b) → IsTrue (same_session script b a)

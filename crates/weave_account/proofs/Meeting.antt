@@ -1,12 +1,13 @@
 -- Of two listed requests that meet at a vertex, one precedes the other. It rests on the clauses on the store, shards
 -- and programs.
+-- Used by `programs_read_the_graph_at_their_place`, `stamps_are_begun`, KnownClocks, OneReport, PlacedPairs and 3 more.
 use Rattle.std.proofs.Common.{◌≡◌, ℕ, zero, suc, ◌<◌, false, ◌==◌, ◌||◌, List, [], ◌∷◌, ◌++◌, length, take, drop, Contains, IsTrue, Some, ◌⊎◌, inl, inr, refl, sym, ap, subst, ◌∙◌, arith}
 use Rattle.std.specs.Prelude.{IsSomeAnd, if◌then◌else◌}
 use Rattle.std.specs.List.{filter}
 use Rattle.std.specs.Map.{keys_of}
 use Rattle.std.proofs.lemmas.Bool.{or_cases, or_left, or_right, eq-eqb, eqb-true, ne_eqb}
 use Rattle.std.proofs.lemmas.List.Elements.{Contains-append_cases}
-use Rattle.proof_base.proofs.Members.{has_head, has_tail, filter_has, has_filter, cut_at}
+use Rattle.weave_data.proofs.Members.{has_head, has_tail, filter_has, has_filter, cut_at}
 use Rattle.vector_stamp.specs.declared.clock.Stamp.{Stamp}
 use Rattle.vector_stamp.specs.Precedence.{Precedes}
 use Rattle.weave_data.specs.Names.{same_name, one_name}
@@ -21,10 +22,10 @@ use Rattle.weave_entries.specs.declared.shard_log.ShardEntry.{ShardEntry}
 use Rattle.weave_entries.specs.ShardReplay.{Visit, updates_of, visit_by, visits_of, reads_in}
 use Rattle.weave_entries.specs.ShardReplay as shard
 use Rattle.weave_entries.specs.StoreReplay.{Commit, names_vertex as names, commits_naming}
-use Rattle.proof_base.proofs.Entries.{each_before}
+use Rattle.weave_data.proofs.Entries.{each_before}
 use Rattle.report_rules.specs.declared.report.Report.{Report}
 use Rattle.program_defs.specs.Works.{is_change}
-use Rattle.report_rules.specs.Meetings.{is_transaction, WorkIsAt, IsAt, MeetAt, MeetingsAreOrdered}
+use Rattle.report_rules.specs.Meetings.{is_transaction, WorkIsAt, RequestIsAt, MeetAt, MeetingsAreOrdered}
 use Rattle.report_rules.specs.Replay.{graph_after, graph_before, graph_at_place}
 use Rattle.report_rules.specs.Lookups.{is_in, is_some_and, AreBoth, request_at, names_vertex, work_names, RequestPrecedes}
 use Rattle.weave_account.specs.declared.account.Account.{Account}
@@ -35,8 +36,8 @@ use Rattle.weave_account.specs.Report.{IsReportOfAccount}
 use Rattle.weave_account.proofs.Beginning.{program-stamp}
 use Rattle.weave_account.proofs.Cutting.{IsNotAfter, either}
 use Rattle.weave_account.proofs.Listed.{IsListedTx, IsListedProgram, listed-is}
-use Rattle.proof_base.proofs.Images.{map-has, flat-has, within-list}
-use Rattle.proof_base.proofs.Numbers.{has-in, IsSorted, in-head, in-tail, in-filter, sorted-at}
+use Rattle.weave_data.proofs.Images.{map-has, flat-has, within-list}
+use Rattle.weave_data.proofs.Numbers.{has-in, IsSorted, in-head, in-tail, in-filter, sorted-at}
 use Rattle.weave_account.proofs.Ordering.{RequestBefore, not-both}
 use Rattle.weave_account.proofs.Printing.{order-sorted, order-has}
 use Rattle.weave_account.proofs.ReplayClause.{all-read, each-comes, reads-agree}
@@ -45,16 +46,13 @@ use Rattle.weave_account.proofs.ReplayInTurn.{all-pass}
 use Rattle.weave_account.proofs.Replying.{place-of}
 use Rattle.weave_account.proofs.Sessions.{take-drop}
 use Rattle.weave_account.proofs.Storing.{work-named}
-use Rattle.weave_account.proofs.Replies.{same-precedence}
+use Rattle.weave_account.proofs.Replies.{same-precedence, convert}
 use Rattle.weave_account.proofs.Transactions.{known, naming-sorted, listed-commits}
 use Rattle.weave_account.proofs.Visiting.{seen-precede, others-follow}
 use Rattle.weave_account.proofs.Basis.{Basis}
 use Rattle.program_defs.specs.Visits.{IsListOfVisits}
 use Rattle.weave_account.specs.Programs.{visits_over}
 use Rattle.weave_account.proofs.ReadingPlace.{reads-are}
-
-convert : {A B : Type 0} → A ≡ B → A → B
-convert e a = subst (λ (X : Type 0). X) e a
 
 -- The graph at a place
 
@@ -225,7 +223,7 @@ module _ (script : Script) (account : Account) (basis : Basis script account) (r
       (subst (λ k. IsTrue (names_vertex script k v)) (sym image.is) named) in
       (image.of, has_filter (names v) (commits_in account) image.of image.has names-it, image.is)
 
-  tx-named : (v : Name) (r : ℕ) → IsListedTx script account report r → IsAt script report v r → IsTrue (names_vertex script r v)
+  tx-named : (v : Name) (r : ℕ) → IsListedTx script account report r → RequestIsAt script report v r → IsTrue (names_vertex script r v)
   tx-named v r tx at =
       let here : WorkIsAt script report v r (tx.request).work =
       subst (λ q. IsSomeAnd q (λ (request : Request). WorkIsAt script report v r request.work)) tx.request_is at in
@@ -233,7 +231,7 @@ module _ (script : Script) (account : Account) (basis : Basis script account) (r
       (subst (λ w. IsTrue (work_names v w)) (sym tx.work) (subst (λ w. WorkIsAt script report v r w) tx.work here))
 
   program-visits : (v : Name) (p : ℕ) → IsTrue (is_in p report.order) → (program : IsListedProgram script account report p)
-      → IsAt script report v p → HasVisit script account p v
+      → RequestIsAt script report v p → HasVisit script account p v
   program-visits v p h program at =
       let here : WorkIsAt script report v p (program.request).work =
       subst (λ q. IsSomeAnd q (λ (request : Request). WorkIsAt script report v p request.work)) program.request_is at in

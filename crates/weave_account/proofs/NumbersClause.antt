@@ -1,13 +1,14 @@
 -- The clause on numbers. It rests on the clause on the store: a commit's number is its place among the commits.
+-- Used by PhasesKept, RefusalsClause and RightReport.
 use Rattle.std.proofs.Common.{◌≡◌, ◌≢◌, ℕ, zero, suc, ◌+◌, ◌<◌, ◌≤◌, Bool, true, false, cond, ◌==◌, List, [], ◌∷◌, ◌++◌, length, Contains, AllPairs, IsTrue, Option, Some, None, ◌⊎◌, inl, inr, refl, sym, ap, subst, ◌∙◌, arith}
 use Rattle.std.specs.Prelude.{IsSomeAnd, slice_get}
 use Rattle.std.specs.List.{filter_map, list_any, cons_option}
 use Rattle.std.proofs.lemmas.Bool.{or_cases, and_from, lt-ltb, le-leb, eqb-true}
 use Rattle.std.proofs.lemmas.List.{append_assoc, length-append, length-map}
 use Rattle.std.proofs.lemmas.List.Elements.{Contains-append_left}
-use Rattle.proof_base.proofs.Lists.{get-here}
+use Rattle.weave_data.proofs.Lists.{get-here}
 use Rattle.std.proofs.lemmas.List.Concat.{flat_map-append}
-use Rattle.proof_base.proofs.Members.{has_head, has_tail, cut_at, has_cut, has_map}
+use Rattle.weave_data.proofs.Members.{has_head, has_tail, cut_at, has_cut, has_map}
 use Rattle.graph_ops.specs.declared.tx.Got.{Got}
 use Rattle.program_defs.specs.declared.script.Request.{Request}
 use Rattle.program_defs.specs.declared.script.Script.{Script}
@@ -22,26 +23,26 @@ use Rattle.report_rules.specs.declared.report.Reply.{Reply}
 use Rattle.report_rules.specs.declared.report.ReplyState.{ReplyState}
 use Rattle.report_rules.specs.declared.report.ReplyState.TheVariants.{Unbegun, Begun as Running, Committed, Conflict, Refused, Finished}
 use Rattle.report_rules.specs.declared.report.Report.{Report}
-use Rattle.proof_base.specs.Facts.{AllHold}
+use Rattle.weave_data.specs.Facts.{AllHold}
 use Rattle.report_rules.specs.RightReport.{is_number_in_place, numbers_clause}
 use Rattle.report_rules.specs.Lookups.{is_in, is_some_and, request_at, number_of, commits}
 use Rattle.weave_account.specs.declared.account.Account.{Account}
 use Rattle.weave_account.specs.Account.{commits_in}
 use Rattle.weave_account.specs.Store.{Commits, IsRightVerdict}
 use Rattle.weave_account.specs.Report.{IsReportOfAccount}
-use Rattle.proof_base.proofs.Images.{IsImage, map-has, flat-has}
-use Rattle.proof_base.proofs.Numbers.{has-in, in-head, in-tail}
-use Rattle.proof_base.proofs.Counting.{IsOnce, no-longer, Apart, First, Same, Second, apart}
-use Rattle.proof_base.proofs.Places.{facts-hold, not-true}
+use Rattle.weave_data.proofs.Images.{IsImage, map-has, flat-has}
+use Rattle.weave_data.proofs.Numbers.{has-in, in-head, in-tail}
+use Rattle.weave_data.proofs.Counting.{IsOnce, no-longer, Apart, First, Same, Second, apart}
+use Rattle.weave_data.proofs.ListPlaces.{facts-hold, not-true}
 use Rattle.weave_account.proofs.Listed.{IsListedProgram, IsJudgedAt, judged-at, listed-is}
-use Rattle.proof_base.proofs.Ordered.{pairs_head, pairs_tail}
+use Rattle.weave_data.proofs.Ordered.{pairs_head, pairs_tail}
 use Rattle.weave_account.proofs.Printing.{order-has}
 use Rattle.weave_account.proofs.Storing.{IsVerdictOf, IsCommitOf, requests_of_commits, commit-of}
 use Rattle.weave_account.proofs.Transactions.{known, commits-listed}
 use Rattle.weave_account.proofs.ConflictsClause.{IsVerdictState, verdict-of, reported-committed}
 use Rattle.weave_account.proofs.Basis.{Basis}
 
--- the numbers that replies tell, by their requests
+-- the requests of the replies with commit numbers
 abbrev numbered-requests : List Reply → List ℕ
 numbered-requests [] = []
 numbered-requests (reply ∷ replies) =
@@ -195,7 +196,7 @@ module _ (script : Script) (account : Account) (basis : Basis script account) (r
       → (judged_by (at.entry).author (at.entry).deed).request ≡ r
   request-at at = ap (λ (j : Judgement). j.request) at.judged_is ∙ at.request_is
 
-  -- of two places in the store one is before the other, or they are one
+  -- of two places in the store one is before the other, or they are the same
   pub places : {r s : ℕ} {j k : Judgement} (at : IsJudgedAt script account basis r j) (by : IsJudgedAt script account basis s k)
       → Apart at.before at.entry by.before by.entry
   places at by = apart at.before at.entry at.after by.before by.entry by.after (sym at.is ∙ by.is)

@@ -1,8 +1,9 @@
 -- Each commit is in flight, or its message to the shard of each vertex that it names is on the channel.
+-- Used by `commits_are_on_the_way`.
 use Rattle.std.proofs.Common.{◌≡◌, ℕ, ◌<◌, List, [], Contains, IsTrue, inl, inr, refl, sym, ap, subst, ◌∙◌, arith}
 use Rattle.std.specs.Prelude.{sum}
 use Rattle.std.proofs.lemmas.Nat.{mod_below}
-use Rattle.proof_base.proofs.Members.{filter_has, has_head}
+use Rattle.weave_data.proofs.Members.{filter_has, has_head}
 use Rattle.weave_data.specs.Names.{same_name, shard_of}
 use Rattle.weave_data.specs.declared.name.Name.{Name}
 use Rattle.graph_ops.specs.declared.part.Part.{Part}

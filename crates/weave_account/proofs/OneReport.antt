@@ -1,5 +1,6 @@
 -- The report of an account is one: its replies, its pairs and its order. It rests on the clauses on gatekeepers, the
 -- store, the oracle and shards.
+-- Used by `account_has_one_report` and crate weaver_top.
 use Rattle.std.proofs.Common.{◌≡◌, ◌≢◌, ℕ, zero, suc, ◌-◌, ◌<◌, false, List, [], ◌∷◌, ◌++◌, map, take, length, Contains, AllPairs, IsTrue, Option, Some, None, ◌⊎◌, inl, inr, refl, sym, ap, subst, ◌∙◌, arith}
 use Rattle.std.specs.Prelude.{slice_get, IsSomeAnd}
 use Rattle.std.specs.List.{AllByRecursion, filter, flat_map}
@@ -8,8 +9,8 @@ use Rattle.std.proofs.lemmas.Bool.{both_ways}
 use Rattle.std.proofs.lemmas.List.{map-append}
 use Rattle.std.proofs.lemmas.List.Concat.{flat_map-append}
 use Rattle.std.proofs.lemmas.Option.{slice_get-map}
-use Rattle.proof_base.proofs.Members.{has_head, has_cut, has_filter, has_flat, has_map, filter_has}
-use Rattle.proof_base.proofs.Ordered.{pairs_none, pairs_cons, pairs_head, pairs_tail, pairs_cases}
+use Rattle.weave_data.proofs.Members.{has_head, has_cut, has_filter, has_flat, has_map, filter_has}
+use Rattle.weave_data.proofs.Ordered.{pairs_none, pairs_cons, pairs_head, pairs_tail, pairs_cases}
 use Rattle.weave_data.specs.declared.name.Name.{Name}
 use Rattle.vector_stamp.specs.declared.clock.Stamp.{Stamp}
 use Rattle.vector_stamp.specs.Precedence.{Given}
@@ -41,8 +42,8 @@ use Rattle.weave_account.specs.Report.{IsReplyInAccount, IsReportOfAccount, IsSt
 use Rattle.weave_account.specs.Shards.{AreShardDeeds, update_of}
 use Rattle.weave_account.proofs.Basis.{Basis}
 use Rattle.weave_account.proofs.Beginning.{list-there}
-use Rattle.proof_base.proofs.Images.{flat-has, get-has}
-use Rattle.proof_base.proofs.Counting.{First, Same, Second, apart}
+use Rattle.weave_data.proofs.Images.{flat-has, get-has}
+use Rattle.weave_data.proofs.Counting.{First, Same, Second, apart}
 use Rattle.weave_account.proofs.Meeting.{visit-fits}
 use Rattle.weave_account.proofs.PhaseOrder.{twice}
 use Rattle.weave_account.proofs.PlacedPairs.{commit-known, one-request}
@@ -75,17 +76,19 @@ seen-is (suc (suc n)) (x ∷ stamps) s some e =
 -- Replies
 
 -- what a program's state says: it is finished with its answer, or running
-record IsDone (account : Account) (r : ℕ) (program : Program) (state : ReplyState) : Type 0 where
-  ended : IsTrue (is_ended account r)
-  answer : Answer
-  is : state ≡ Finished answer
-  plain : IsPlainAnswer (graph_read (reads_of account r)) program answer
+pub record IsDone (account : Account) (r : ℕ) (program : Program) (state : ReplyState) : Type 0 where
+  pub ended : IsTrue (is_ended account r)
+  pub answer : Answer
+  pub is : state ≡ Finished answer
+  pub plain : IsPlainAnswer (graph_read (reads_of account r)) program answer
 
-record IsOpen (account : Account) (r : ℕ) (state : ReplyState) : Type 0 where
-  ended : is_ended account r ≡ false
-  is : state ≡ Running
+-- what the state of a program that has not ended says: it is running
+pub record IsOpen (account : Account) (r : ℕ) (state : ReplyState) : Type 0 where
+  pub ended : is_ended account r ≡ false
+  pub is : state ≡ Running
 
-done-or-open : (account : Account) (r : ℕ) (program : Program) (state : ReplyState) → IsStateOfProgram account r program state
+-- a state of a program is one of the two
+pub done-or-open : (account : Account) (r : ℕ) (program : Program) (state : ReplyState) → IsStateOfProgram account r program state
     → IsDone account r program state ⊎ IsOpen account r state
 done-or-open account r program (Finished answer) is = inl (record { ended = is.0; answer = answer; is = refl; plain = is.1 })
 done-or-open account r program Unbegun is = inr (record { ended = is.0; is = is.1 })
@@ -179,7 +182,7 @@ module _ (script : Script) (account : Account) (basis : Basis script account) wh
       let clash : Look program.program ≡ Change (a.commit).ops = sym program.work ∙ work in
       cc
 
-  -- the marked visits of a log, each with its vertex beside what no other has
+  -- the marked visits of a log, each with its vertex and what no other has
   abbrev marks-in : List ShardEntry → List (Name × (ℕ × List Stamp))
   marks-in log =
       map (λ (visit : Visit). (visit.vertex, (visit.request, seen_last log visit))) (filter (λ (visit : Visit). visit.settled) (visits_of log))
@@ -204,6 +207,16 @@ module _ (script : Script) (account : Account) (basis : Basis script account) wh
       pairs-of-map (λ (mark : Name × (ℕ × List Stamp)). mark.1) (λ (x y : ℕ × List Stamp). x ≢ y) (flat_map marks-in account.shards)
       (subst (AllPairs (λ (x y : ℕ × List Stamp). x ≢ y)) (sym (marks-are account.shards)) basis.is.oracle.once)
 
+  -- the updates that the visit's shard has applied to its vertex
+  abbrev updates-at : ℕ → Visit → List Update
+  updates-at shard visit = updates_of visit.vertex (shard_log account shard)
+
+  -- their stamps, and those of the commits that they are
+  abbrev AreCommits : ℕ → Visit → Type 0
+  AreCommits shard visit = map (λ (u : Update). u.stamp) (updates-at shard visit)
+      ≡ map (λ (u : Update). u.stamp) (map (update_of visit.vertex)
+      (take (length (updates-at shard visit)) (commits_naming visit.vertex (commits_in account))))
+
   -- what a visit that added a pair saw last is the earlier event
   saw-earlier : (p : Pair) (given : Given) → stamp_of account p.earlier ≡ Some given.0 → (a : IsAddedByVisit account p)
       → seen_last (shard_log account a.shard) a.visit ≡ given.0 ∷ []
@@ -223,8 +236,7 @@ module _ (script : Script) (account : Account) (basis : Basis script account) wh
     where
       at : (o : Option Commit) → slice_get (commits_naming p.vertex (commits_in account)) ((a.visit).updates - 1) ≡ o
           → IsSomeAnd o (λ (commit : Commit). commit.request ≡ p.earlier)
-          → map (λ (u : Update). u.stamp) (updates_of (a.visit).vertex (shard_log account a.shard)) ≡ map (λ (u : Update). u.stamp) (map (update_of (a.visit).vertex) (take (length (updates_of (a.visit).vertex (shard_log account a.shard))) (commits_naming (a.visit).vertex (commits_in account))))
-          → (a.visit).updates - 1 < length (updates_of (a.visit).vertex (shard_log account a.shard))
+          → AreCommits a.shard a.visit → (a.visit).updates - 1 < length (updates-at a.shard a.visit)
           → seen_last (shard_log account a.shard) a.visit ≡ given.0 ∷ []
       at None e h are less = absurd h
       at (Some c) e h are less =

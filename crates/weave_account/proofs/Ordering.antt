@@ -1,4 +1,5 @@
 -- At each vertex the commits that name it are ordered by precedence, as their numbers are; and nothing precedes itself.
+-- Used by `commits_are_ordered`, ConflictsClause, InSession, ListingClause, Meeting, PhasesKept and 5 more.
 use Rattle.std.proofs.Common.{◌≡◌, ℕ, Bool, true, false, cond, List, [], ◌∷◌, ◌++◌, get_or, Contains, AllPairs, IsTrue, Option, Some, None, ◌⊎◌, inl, inr, refl, sym, ap, subst, ◌∙◌, arith}
 use Rattle.std.specs.Prelude.{reverse}
 use Rattle.std.specs.List.{filter, find}
@@ -6,7 +7,7 @@ use Rattle.std.specs.Option.{ForSome}
 use Rattle.std.proofs.lemmas.List.{append-nil, reverse-append}
 use Rattle.std.proofs.lemmas.List.Elements.{filter-append, Contains-get_or, Contains-append_cases}
 use Rattle.std.proofs.lemmas.List.Quantifiers.{all_pairs_push}
-use Rattle.proof_base.proofs.Members.{has_read, has_head, has_tail, has_none}
+use Rattle.weave_data.proofs.Members.{has_read, has_head, has_tail, has_none}
 use Rattle.vector_stamp.specs.declared.clock.Stamp.{Stamp}
 use Rattle.vector_stamp.specs.Precedence.{Precedes, Through}
 use Rattle.weave_data.specs.declared.name.Name.{Name}
@@ -19,16 +20,16 @@ use Rattle.weave_entries.specs.declared.store_log.StoreDeed.TheVariants.{Judged}
 use Rattle.weave_entries.specs.declared.verdict.Verdict.TheVariants.{Committed, Conflict, Refused}
 use Rattle.weave_entries.specs.Logs.{AtEachEntry}
 use Rattle.weave_entries.specs.StoreReplay.{Commit, judged_by, commit_by, commits_of, names_vertex as names, commits_naming, last_naming}
-use Rattle.proof_base.proofs.Ends.{by_last}
-use Rattle.proof_base.proofs.Entries.{each_before, each_last}
+use Rattle.weave_data.proofs.Ends.{by_last}
+use Rattle.weave_data.proofs.Entries.{each_before, each_last}
 use Rattle.report_rules.specs.Lookups.{AreBoth, request_at, names_vertex}
 use Rattle.weave_account.specs.declared.account.Account.{Account}
 use Rattle.weave_account.specs.Account.{stamp_of, pairs_in, Precedence}
-use Rattle.weave_account.specs.Store.{AreJudgements, IsRightVerdict, Judges}
-use Rattle.proof_base.proofs.Ordered.{pairs_across, pairs_head, pairs_tail}
-use Rattle.proof_base.proofs.Images.{last-none, map-has}
-use Rattle.proof_base.proofs.Numbers.{has-in, IsSorted}
-use Rattle.weave_account.proofs.Storing.{IsOfScript, requests_of_commits, commits-push, work-named}
+use Rattle.weave_account.specs.Store.{AreJudgements, IsRightVerdict}
+use Rattle.weave_data.proofs.Ordered.{pairs_across, pairs_head, pairs_tail}
+use Rattle.weave_data.proofs.Images.{last-none, map-has}
+use Rattle.weave_data.proofs.Numbers.{has-in, IsSorted}
+use Rattle.weave_account.proofs.Storing.{IsOfScript, requests_of_commits, commits-push, work-named, JudgesRightly}
 use Rattle.weave_account.proofs.Basis.{Basis, acyclic}
 
 -- The last of a list
@@ -69,9 +70,6 @@ abbrev pub Earlier : Account → Commit → Commit → Type 0
 Earlier account a b = Precedence account a.stamp b.stamp
 
 module _ (script : Script) (account : Account) where
-  abbrev Rule : List StoreEntry → StoreEntry → Type 0
-  Rule before entry = Judges script account before (judged_by entry.author entry.deed)
-
   -- a commit follows all that name a vertex of its own
   follows : (commits : List Commit) (v : Name) (stamp : Stamp) → AllPairs (Earlier account) (commits_naming v commits)
       → ForSome (last_naming v commits) (λ (last : Commit). Precedence account last.stamp stamp)
@@ -118,11 +116,11 @@ module _ (script : Script) (account : Account) where
       → AreJudgements script account log
       → AllPairs (Earlier account) (commits_naming v (commits_of log))
   ordered v =
-      by_last (λ log. AtEachEntry Rule log → AllPairs (Earlier account) (commits_naming v (commits_of log)))
+      by_last (λ log. AtEachEntry (JudgesRightly script account) log → AllPairs (Earlier account) (commits_naming v (commits_of log)))
       (λ each i j d below within. absurd (omega (arith, within)))
       (λ log entry more each.
       subst (λ cs. AllPairs (Earlier account) (commits_naming v cs)) (sym (commits-push log entry))
-      (ordered-deed (commits_of log) v entry.author entry.deed (each_last Rule log entry each).verdict (more (each_before Rule log (entry ∷ []) each))))
+      (ordered-deed (commits_of log) v entry.author entry.deed (each_last (JudgesRightly script account) log entry each).verdict (more (each_before (JudgesRightly script account) log (entry ∷ []) each))))
 
   -- As requests
 

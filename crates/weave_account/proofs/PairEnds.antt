@@ -1,7 +1,8 @@
 -- The stamps that the oracle's log names are those of begun requests, and different requests have different ids.
+-- Used by `begun_stamps_are_coherent` and `stamps_are_begun`.
 use Rattle.std.proofs.Common.{◌≡◌, ◌≢◌, List, ◌∷◌, map, get_or, AllPairs, Contains, subst, arith}
 use Rattle.std.proofs.lemmas.List.Elements.{Contains-get_or}
-use Rattle.proof_base.proofs.Members.{has_map}
+use Rattle.weave_data.proofs.Members.{has_map}
 use Rattle.vector_stamp.specs.declared.clock.Stamp.{Stamp}
 use Rattle.vector_stamp.specs.Order.{id_of}
 use Rattle.program_defs.specs.declared.script.Script.{Script}
@@ -39,7 +40,7 @@ module _ (script : Script) (account : Account) (basis : Basis script account) wh
       (has_map (λ (b : Begun). b.stamp) (all_begun account) b in-b) same in
       differ (one-request script account basis a b in-a in-b one)
 
-  -- no two begun requests have one id
+  -- no two begun requests have the same id
   pub ids-differ : AllPairs (λ (a b : Begun). id_of a.stamp ≢ id_of b.stamp) (all_begun account)
   ids-differ i j d below within =
       ids-apart (get_or (all_begun account) i d) (get_or (all_begun account) j d)

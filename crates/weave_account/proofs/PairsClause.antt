@@ -1,12 +1,13 @@
 -- The clause on pairs: both ends name or visit the vertex. It rests on the clauses on the oracle and the store, and
 -- for a program on those on shards and programs.
+-- Used by RightReport.
 use Rattle.std.proofs.Common.{◌≡◌, ℕ, zero, suc, ◌-◌, ◌==◌, List, [], ◌∷◌, ◌++◌, Contains, IsTrue, Option, Some, None, inl, inr, refl, sym, ap, subst, ◌∙◌}
 use Rattle.std.specs.Prelude.{IsSomeAnd, slice_get, reverse}
 use Rattle.std.specs.List.{filter_map, cons_option}
 use Rattle.std.specs.Option.{option_map}
 use Rattle.std.proofs.lemmas.Bool.{and_from, or_left, or_right, eqb-true}
 use Rattle.std.proofs.lemmas.List.Concat.{flat_map-append}
-use Rattle.proof_base.proofs.Members.{has_read, has_head, has_tail, has_none, find_has, filter_has, has_cut}
+use Rattle.weave_data.proofs.Members.{has_read, has_head, has_tail, has_none, find_has, filter_has, has_cut}
 use Rattle.vector_stamp.specs.declared.clock.Stamp.{Stamp}
 use Rattle.vector_stamp.specs.Order.{unordered}
 use Rattle.vector_stamp.specs.Precedence.{Given}
@@ -23,15 +24,15 @@ use Rattle.weave_entries.specs.StoreRule.{LastCommit, lasts_of, asked_of, asked_
 use Rattle.report_rules.specs.declared.report.Pair.{Pair}
 use Rattle.report_rules.specs.declared.report.Reply.{Reply}
 use Rattle.report_rules.specs.declared.report.Report.{Report}
-use Rattle.proof_base.specs.Facts.{AllHold}
+use Rattle.weave_data.specs.Facts.{AllHold}
 use Rattle.report_rules.specs.RightReport.{is_committed_and_names, MayBeLaterAt, IsPairInPlace, pairs_clause}
 use Rattle.report_rules.specs.Lookups.{is_some_and, are_both, AreBoth, request_at, reply_at, stamp_at}
 use Rattle.weave_account.specs.declared.account.Account.{Account}
 use Rattle.weave_account.specs.Account.{pairs_in, commits_in}
 use Rattle.weave_account.specs.Pairs.{IsAddedByCommit, IsAddedByVisit, IsPairInAccount, ArePairsOf}
 use Rattle.weave_account.specs.Report.{IsReportOfAccount}
-use Rattle.proof_base.proofs.Images.{map-has}
-use Rattle.proof_base.proofs.Places.{each-holds}
+use Rattle.weave_data.proofs.Images.{map-has}
+use Rattle.weave_data.proofs.ListPlaces.{each-holds}
 use Rattle.weave_account.proofs.SameName.{same_name-refl}
 use Rattle.weave_account.proofs.Storing.{commit-of}
 use Rattle.weave_account.proofs.Replies.{has-reply, same-stamp}

@@ -1,5 +1,6 @@
 -- The store judges a request of an earlier phase before one of a later phase. It rests on the clauses on sessions,
 -- channels and the store.
+-- Used by FinalReplies, InSession, OneReport, PhasePrecedence, PhasesKept, Requests and crate weaver_top.
 use Rattle.std.proofs.Common.{◌≡◌, ◌≢◌, ℕ, ◌<◌, ◌≤◌, ◌==◌, List, ◌∷◌, ◌++◌, Contains, AllPairs, IsTrue, Option, Some, None, refl, sym, ap, subst, ◌∙◌, append_assoc, arith}
 use Rattle.std.specs.Prelude.{IsSomeAnd}
 use Rattle.std.specs.List.{flat_map}
@@ -7,8 +8,8 @@ use Rattle.std.proofs.lemmas.Bool.{eqb-true}
 use Rattle.std.proofs.lemmas.List.{map-append}
 use Rattle.std.proofs.lemmas.List.Concat.{flat_map-append}
 use Rattle.std.proofs.lemmas.List.Elements.{Contains-append_left}
-use Rattle.proof_base.proofs.Members.{has_none, has_head, has_cut, has_map, any_has, cut_at, only}
-use Rattle.proof_base.proofs.Ordered.{pairs_across}
+use Rattle.weave_data.proofs.Members.{has_none, has_head, has_cut, has_map, any_has, cut_at, only}
+use Rattle.weave_data.proofs.Ordered.{pairs_across}
 use Rattle.program_defs.specs.declared.script.Request.{Request}
 use Rattle.program_defs.specs.declared.script.Script.{Script}
 use Rattle.program_defs.specs.declared.script.Work.TheVariants.{Change, Look}
@@ -33,9 +34,9 @@ use Rattle.weave_account.specs.Phases.{EndsPhase, IsRunByPhases}
 use Rattle.weave_account.specs.Sessions.{RepliesAs}
 use Rattle.weave_account.proofs.Basis.{Basis}
 use Rattle.weave_account.proofs.Beginning.{all-in, tx-begun, program-begun as program-begun-in}
-use Rattle.proof_base.proofs.Images.{flat-has, map-has}
-use Rattle.proof_base.proofs.Numbers.{has-in}
-use Rattle.proof_base.proofs.Counting.{First, Same, Second, apart}
+use Rattle.weave_data.proofs.Images.{flat-has, map-has}
+use Rattle.weave_data.proofs.Numbers.{has-in}
+use Rattle.weave_data.proofs.Counting.{First, Same, Second, apart}
 use Rattle.weave_account.proofs.Listed.{IsJudgedAt}
 use Rattle.weave_account.proofs.PlacedPairs.{judged-begun}
 use Rattle.weave_account.proofs.Replying.{place-of}

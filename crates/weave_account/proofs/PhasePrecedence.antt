@@ -1,15 +1,16 @@
 -- No request of a later phase precedes one of an earlier phase. It rests on the clauses on gatekeepers, clocks and
 -- the oracle.
+-- Used by `stamps_are_begun` and PhasesKept.
 use Rattle.std.proofs.Common.{◌≡◌, ◌≢◌, ℕ, ◌+◌, ◌<◌, ◌≤◌, ◌==◌, ◌&&◌, Bool, cond, List, [], ◌∷◌, ◌++◌, map, Contains, IsTrue, Option, Some, None, ◌⊎◌, inl, inr, refl, sym, ap, subst, ◌∙◌, append_assoc, arith}
 use Rattle.std.specs.List.{count_by}
 use Rattle.std.proofs.lemmas.Bool.{cases_eq, cases_lt, eq-eqb}
 use Rattle.std.proofs.lemmas.List.Concat.{flat_map-append}
 use Rattle.std.proofs.lemmas.List.Elements.{Contains-append_cases}
 use Rattle.std.proofs.lemmas.List.Sums.{fold-append}
-use Rattle.proof_base.proofs.Ends.{count_push, flat_push}
-use Rattle.proof_base.proofs.Entries.{each_before}
-use Rattle.proof_base.proofs.Members.{has_none, has_map, has_read, only, cut_at}
-use Rattle.proof_base.proofs.Ordered.{pairs_cases}
+use Rattle.weave_data.proofs.Ends.{count_push, flat_push}
+use Rattle.weave_data.proofs.Entries.{each_before}
+use Rattle.weave_data.proofs.Members.{has_none, has_map, has_read, only, cut_at}
+use Rattle.weave_data.proofs.Ordered.{pairs_cases}
 use Rattle.vector_stamp.specs.declared.clock.Clock.{Clock}
 use Rattle.vector_stamp.specs.declared.clock.Stamp.{Stamp}
 use Rattle.vector_stamp.specs.Order.{count_of, stamp_before}
@@ -35,8 +36,8 @@ use Rattle.weave_account.proofs.Basis.{Basis}
 use Rattle.weave_account.proofs.Beginning.{all-in, begun-stamp}
 use Rattle.weave_account.proofs.BegunStamps.{clock-there}
 use Rattle.weave_account.proofs.Growing.{begun-stays}
-use Rattle.proof_base.proofs.Counting.{count-more}
-use Rattle.proof_base.proofs.Images.{flat-has, map-has}
+use Rattle.weave_data.proofs.Counting.{count-more}
+use Rattle.weave_data.proofs.Images.{flat-has, map-has}
 use Rattle.weave_account.proofs.PhaseOrder.{at-end, replied-begun}
 use Rattle.weave_account.proofs.PlacedPairs.{one-request, placed-are}
 use Rattle.weave_account.proofs.RepliesClause.{begin-of}

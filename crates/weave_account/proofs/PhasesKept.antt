@@ -1,11 +1,12 @@
 -- A run by phases keeps the phases: precedence, conflicts, commit numbers and refusals.
+-- Used by `phases_are_kept`.
 use Rattle.std.proofs.Common.{◌≡◌, ℕ, zero, suc, ◌<◌, ◌≤◌, List, [], ◌∷◌, ◌++◌, length, Contains, Option, Some, None, inl, inr, refl, sym, ap, subst, ◌∙◌, append_assoc, arith}
 use Rattle.std.specs.Prelude.{reverse, slice_get}
 use Rattle.std.specs.Option.{option_and_then}
 use Rattle.std.proofs.lemmas.Bool.{cases_order}
 use Rattle.std.proofs.lemmas.List.{length-append}
 use Rattle.std.proofs.lemmas.List.Concat.{flat_map-append}
-use Rattle.proof_base.proofs.Members.{has_head, has_tail, find_has, cut_at}
+use Rattle.weave_data.proofs.Members.{has_head, has_tail, find_has, cut_at}
 use Rattle.vector_stamp.specs.declared.clock.Stamp.{Stamp}
 use Rattle.weave_data.specs.declared.name.Name.{Name}
 use Rattle.program_defs.specs.declared.script.Script.{Script}
@@ -25,20 +26,17 @@ use Rattle.weave_account.specs.Store.{Conflicts, IsRefused, IsRightVerdict}
 use Rattle.weave_account.proofs.Basis.{Basis}
 use Rattle.weave_account.proofs.Beginning.{tx-stamp}
 use Rattle.weave_account.proofs.Listed.{IsJudgedAt, judged-at}
-use Rattle.proof_base.proofs.Images.{flat-has}
-use Rattle.proof_base.proofs.Places.{all-from}
+use Rattle.weave_data.proofs.Images.{flat-has}
+use Rattle.weave_data.proofs.ListPlaces.{all-from}
 use Rattle.weave_account.proofs.NumbersClause.{IsNumberedAt, numbered-at, count-after, verdict-at}
 use Rattle.weave_account.proofs.Ordering.{RequestBefore}
 use Rattle.weave_account.proofs.PhaseOrder.{judged-in-turn}
 use Rattle.weave_account.proofs.PhasePrecedence.{later-never-precedes}
 use Rattle.weave_account.proofs.Storing.{commit-of}
-use Rattle.weave_account.proofs.Replies.{reply-number, same-precedence}
+use Rattle.weave_account.proofs.Replies.{reply-number, same-precedence, convert}
 use Rattle.weave_account.proofs.Transactions.{known}
 use Rattle.weave_account.proofs.ConflictsClause.{IsVerdictState, commits-before, reverse-has, verdict-of, reported-conflict}
 use Rattle.weave_account.proofs.RefusalsClause.{reported-refused}
-
-convert : {A B : Type 0} → A ≡ B → A → B
-convert e a = subst (λ (X : Type 0). X) e a
 
 -- the reply with a commit number is a member
 numbered-reply : (replies : List Reply) (r : ℕ) (n : ℕ)

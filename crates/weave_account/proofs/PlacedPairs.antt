@@ -1,5 +1,6 @@
 -- The pairs that are computed from the logs are those of the account. It rests on the clauses on the oracle, the
 -- store, gatekeepers and shards, and on "the updates applied are the first commits".
+-- Used by `placed_pairs_are_the_pairs`, BegunElsewhere, InSession, KnownClocks, 4 more and crate weaver_core.
 use Rattle.std.proofs.Common.{◌≡◌, ◌≢◌, ℕ, zero, suc, ◌-◌, ◌<◌, Bool, true, false, not, cond, ◌==◌, ◌&&◌, ◌||◌, List, [], ◌∷◌, ◌++◌, map, take, length, Contains, IsTrue, Option, Some, None, ◌⊎◌, inl, inr, refl, sym, ap, subst, ◌∙◌, arith}
 use Rattle.std.specs.Prelude.{slice_get, IsSomeAnd, reverse}
 use Rattle.std.specs.List.{find, filter_map, flat_map, cons_option, list_any}
@@ -8,8 +9,8 @@ use Rattle.std.proofs.lemmas.Bool.{cases_eq, or_cases, and_parts, and_from, eq-e
 use Rattle.std.proofs.lemmas.List.Concat.{flat_map-append}
 use Rattle.std.proofs.lemmas.List.Elements.{Contains-append_left}
 use Rattle.std.proofs.lemmas.Option.{slice_get-map}
-use Rattle.proof_base.proofs.Members.{has_none, has_read, has_head, has_tail, has_cut, has_map, any_from, any_has, find_has, find_lacks, filter_has, cut_at}
-use Rattle.proof_base.proofs.Ordered.{pairs_cases}
+use Rattle.weave_data.proofs.Members.{has_none, has_read, has_head, has_tail, has_cut, has_map, any_from, any_has, find_has, find_lacks, filter_has, cut_at}
+use Rattle.weave_data.proofs.Ordered.{pairs_cases}
 use Rattle.weave_data.specs.declared.name.Name.{Name}
 use Rattle.graph_ops.specs.Mentions.{named_by}
 use Rattle.graph_ops.specs.declared.op.Op.{Op}
@@ -42,7 +43,7 @@ use Rattle.weave_account.proofs.Additions.{first-place}
 use Rattle.weave_account.proofs.Basis.{Basis}
 use Rattle.weave_account.proofs.Beginning.{all-in, list-there, tx-begun}
 use Rattle.weave_account.proofs.Meeting.{visit-fits, visit-stamp}
-use Rattle.proof_base.proofs.Images.{flat-has, get-has, map-has}
+use Rattle.weave_data.proofs.Images.{flat-has, get-has, map-has}
 use Rattle.weave_account.proofs.RepliesClause.{begin-of, stamps-apart}
 use Rattle.weave_account.proofs.Replying.{place-of}
 use Rattle.weave_account.proofs.Storing.{IsOfScript, commit-of, of-script}
@@ -147,7 +148,7 @@ found-visit (first ∷ shards) earlier later log visit h v t =
     ]
 
 -- Pairs of two lists, one after the other
-are-append : (account : Account) (ps qs : List Pair) (gs hs : List Given) → ArePairsOf account ps gs → ArePairsOf account qs hs
+pub are-append : (account : Account) (ps qs : List Pair) (gs hs : List Given) → ArePairsOf account ps gs → ArePairsOf account qs hs
     → ArePairsOf account (ps ++ qs) (gs ++ hs)
 are-append account [] qs [] hs are more = more
 are-append account [] qs (g ∷ gs) hs are more = absurd are
@@ -157,6 +158,16 @@ are-append account (p ∷ ps) qs (g ∷ gs) hs are more = (are.0, are-append acc
 not-not-both : (b : Bool) → IsTrue b → IsTrue (not b) → ⊥
 not-not-both true h g = cc
 not-not-both false h g = cc
+
+-- the commit is there, and has this stamp
+abbrev IsStamped : Option Commit → Stamp → Type 0
+IsStamped commit event = option_map (λ (c : Commit). c.stamp) commit ≡ Some event
+
+-- the last commit that a visit read of its vertex, of those that its shard has applied
+abbrev last-read : Account → ℕ → Visit → Option Commit
+last-read account shard visit =
+    slice_get (take (length (updates_of visit.vertex (shard_log account shard))) (commits_naming visit.vertex (commits_in account)))
+    (visit.updates - 1)
 
 module _ (script : Script) (account : Account) (basis : Basis script account) where
   -- A stamp is of one request
@@ -171,7 +182,7 @@ module _ (script : Script) (account : Account) (basis : Basis script account) wh
         | inr after ↦ basis.laws.irreflexive s (and_parts _ _ after).1
       ]
 
-  -- two begun requests with one stamp are one
+  -- two begun requests with the same stamp are the same
   pub one-request : (a b : Begun) → Contains (all_begun account) a → Contains (all_begun account) b → a.stamp ≡ b.stamp
       → a.request ≡ b.request
   one-request a b ha hb same =
@@ -439,9 +450,7 @@ module _ (script : Script) (account : Account) (basis : Basis script account) wh
             → IsTrue w.settled → (shard : ℕ) → Contains (visits_of (shard_log account shard)) w → 0 < w.updates
             → vertex_visited account.shards event settled.later ≡ Some w.vertex
             → vertex_asked account.store settled.later place ≡ None → stamp_of account w.request ≡ Some w.stamp
-            → (o : Option Commit)
-            → slice_get (take (length (updates_of w.vertex (shard_log account shard))) (commits_naming w.vertex (commits_in account))) (w.updates - 1) ≡ o
-            → option_map (λ (c : Commit). c.stamp) o ≡ Some event → IsPlaced settled place
+            → (o : Option Commit) → last-read account shard w ≡ o → IsStamped o event → IsPlaced settled place
         commit-seen event event-is w later marked shard visited sees vertex none begun None is e = cc
         commit-seen event event-is w later marked shard visited sees vertex none begun (Some c) is e =
             let naming = commits_naming w.vertex (commits_in account) in

@@ -1,11 +1,12 @@
 -- What the printed order has and keeps.
+-- Used by ConflictsClause, FormOfScript, ListingClause, Meeting, NumbersClause, RefusalsClause and 3 more.
 use Rattle.std.proofs.Common.{◌≢◌, ℕ, Bool, true, false, not, ◌==◌, nat_eq, List, [], ◌∷◌, IsTrue, inl, inr, sym, subst}
 use Rattle.std.specs.List.{AllByRecursion}
 use Rattle.std.proofs.lemmas.Bool.{ne_eqb, eq-eqb, not_from_false, cases_eq}
 use Rattle.report_rules.specs.declared.report.Report.{Report}
 use Rattle.report_rules.specs.PrintedOrder.{begun_requests, without_request, TakesAll, IsPrintedOrder}
 use Rattle.report_rules.specs.Lookups.{is_in, may_be_listed, RequestPrecedes}
-use Rattle.proof_base.proofs.Numbers.{IsSorted, in-head, in-tail, in-cases, in-filter, filter-in, sorted-filter}
+use Rattle.weave_data.proofs.Numbers.{IsSorted, in-head, in-tail, in-cases, in-filter, filter-in, sorted-filter}
 use Rattle.weave_account.proofs.Cutting.{IsNotAfter}
 
 -- what holds of each holds of one

@@ -1,4 +1,5 @@
 -- The states that a program's visits read are those at its place in the printed order.
+-- Used by Meeting and ReplayClause.
 use Rattle.std.proofs.Common.{◌≡◌, ℕ, zero, suc, ◌<◌, ◌≤◌, Bool, true, false, ◌||◌, ◌==◌, List, [], ◌∷◌, ◌++◌, map, length, take, drop, fold, Contains, IsTrue, Option, Some, None, inl, inr, refl, sym, ap, subst, ◌∙◌, arith}
 use Rattle.std.specs.Prelude.{if◌then◌else◌, IsSomeAnd}
 use Rattle.std.specs.List.{filter}
@@ -6,7 +7,7 @@ use Rattle.std.specs.Map.{keys_of}
 use Rattle.std.proofs.lemmas.Bool.{eqb-true}
 use Rattle.std.proofs.lemmas.List.{map-append}
 use Rattle.std.proofs.lemmas.List.Elements.{Contains-append_left, Contains-append_right}
-use Rattle.proof_base.proofs.Members.{has_read, has_head, has_tail, has_none, filter_has, cut_at}
+use Rattle.weave_data.proofs.Members.{has_read, has_head, has_tail, has_none, filter_has, cut_at}
 use Rattle.vector_stamp.specs.declared.clock.Stamp.{Stamp}
 use Rattle.vector_stamp.specs.Precedence.{Precedes}
 use Rattle.weave_data.specs.Names.{same_name, one_name}
@@ -26,7 +27,7 @@ use Rattle.weave_entries.specs.Sending.{ops_on}
 use Rattle.weave_entries.specs.ShardReplay.{Update, Visit, updates_of, visit_by, visits_of, reads_in}
 use Rattle.weave_entries.specs.ShardReplay as shard
 use Rattle.weave_entries.specs.StoreReplay.{Commit, commits_naming}
-use Rattle.proof_base.proofs.Entries.{each_before}
+use Rattle.weave_data.proofs.Entries.{each_before}
 use Rattle.program_defs.specs.Works.{ops_of}
 use Rattle.report_rules.specs.declared.report.Report.{Report}
 use Rattle.report_rules.specs.Lookups.{AreBoth, request_at, names_vertex}
@@ -37,8 +38,8 @@ use Rattle.weave_account.specs.Shards.{AreShardDeeds, IsRightVisit, ShardFitsAs}
 use Rattle.weave_account.specs.Report.{IsReportOfAccount}
 use Rattle.weave_account.proofs.Beginning.{program-stamp}
 use Rattle.weave_account.proofs.Cutting.{cut}
-use Rattle.proof_base.proofs.Images.{map-has, flat-has, within-list}
-use Rattle.proof_base.proofs.Numbers.{has-in}
+use Rattle.weave_data.proofs.Images.{map-has, flat-has, within-list}
+use Rattle.weave_data.proofs.Numbers.{has-in}
 use Rattle.weave_account.proofs.Ordering.{RequestBefore, naming-requests, not-both}
 use Rattle.weave_account.proofs.Replying.{place-of}
 use Rattle.weave_account.specs.Shards.{update_of}

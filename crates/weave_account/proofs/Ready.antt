@@ -1,4 +1,5 @@
 -- When a shard is ready for a program: what each of its channels has after the program.
+-- Used by Applying, Collecting, InSession, ReplayClause, Requests, Unprocessed and crates drive_rules and weave_phase.
 use Rattle.std.proofs.Common.{◌≡◌, ℕ, zero, suc, ◌+◌, ◌<◌, ◌≤◌, Bool, true, false, not, List, [], ◌∷◌, ◌++◌, map, Contains, AllPairs, IsTrue, Option, Some, None, ◌⊎◌, inl, inr, refl, sym, ap, subst, ◌∙◌, arith}
 use Rattle.std.specs.List.{filter_map, cons_option, range_with_len}
 use Rattle.std.proofs.lemmas.Bool.{cases_eq, or_cases}
@@ -6,7 +7,7 @@ use Rattle.std.proofs.lemmas.List.{append-nil, append_assoc}
 use Rattle.std.proofs.lemmas.List.FromFn.{length-range_with_len, get_or-range_with_len}
 use Rattle.std.proofs.lemmas.List.Concat.{flat_map-append}
 use Rattle.std.proofs.lemmas.List.Elements.{Contains-append_cases}
-use Rattle.proof_base.proofs.Members.{has_read, has_head, has_tail, has_none, find_lacks, has_map}
+use Rattle.weave_data.proofs.Members.{has_read, has_head, has_tail, has_none, find_lacks, has_map}
 use Rattle.vector_stamp.specs.declared.clock.Stamp.{Stamp}
 use Rattle.vector_stamp.specs.Order.{stamp_before}
 use Rattle.weave_entries.specs.declared.gate_log.GateEntry.{GateEntry}
@@ -18,8 +19,8 @@ use Rattle.weave_entries.specs.declared.shard_log.ShardEntry.{ShardEntry}
 use Rattle.weave_entries.specs.GateReplay.{Begun, tx_by, txs_of, flight_after, flight_of}
 use Rattle.weave_entries.specs.GateRules.{FitsAs, IsGateLog}
 use Rattle.weave_entries.specs.ShardReplay.{arrived_at, processed_count, head_of, last_of, is_past, is_ready_for, first_unready}
-use Rattle.proof_base.proofs.Entries.{by_entries}
-use Rattle.proof_base.proofs.Ordered.{pairs_head, pairs_tail}
+use Rattle.weave_data.proofs.Entries.{by_entries}
+use Rattle.weave_data.proofs.Ordered.{pairs_head, pairs_tail}
 use Rattle.std.proofs.lemmas.List.Sums.{fold-append}
 
 -- A transaction that was begun is in flight, or was sent
@@ -150,7 +151,8 @@ filter_map-has {B = B} f (z ∷ xs) x y h e =
 
 -- Readiness at a gatekeeper
 
-not-not : (b : Bool) → ¬ IsTrue (not b) → IsTrue b
+-- a test whose contrary does not hold does
+pub not-not : (b : Bool) → ¬ IsTrue (not b) → IsTrue b
 not-not true f = refl
 not-not false f = absurd (f refl)
 

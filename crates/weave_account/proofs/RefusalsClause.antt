@@ -1,5 +1,6 @@
 -- The clause on refusals: the commits before the judgement, in the order of their numbers, leave the graph on which
 -- the operation was refused. It rests on the clause on the store.
+-- Used by PhasesKept and RightReport.
 use Rattle.std.proofs.Common.{◌≡◌, ◌≢◌, ℕ, zero, suc, ◌<◌, ◌≤◌, Bool, true, false, cond, not, ◌||◌, nat_lt, nat_le, ◌==◌, List, [], ◌∷◌, ◌++◌, map, length, Contains, IsTrue, Option, Some, None, Ok, Err, ◌⊎◌, inl, inr, refl, sym, ap, subst, ◌∙◌, arith}
 use Rattle.std.specs.Prelude.{IsSomeAnd, slice_get, if◌then◌else◌}
 use Rattle.std.specs.List.{filter}
@@ -8,7 +9,7 @@ use Rattle.std.proofs.lemmas.Bool.{and_from, lt-ltb, le-leb, eq-eqb, eqb-true, f
 use Rattle.std.proofs.lemmas.List.{append_assoc, length-append, map-append}
 use Rattle.std.proofs.lemmas.List.Concat.{flat_map-append}
 use Rattle.std.proofs.lemmas.List.Sums.{fold-append}
-use Rattle.proof_base.proofs.Members.{has_head, has_tail, has_cut, has_map}
+use Rattle.weave_data.proofs.Members.{has_head, has_tail, has_cut, has_map}
 use Rattle.graph_ops.specs.PlainGraph.{PlainGraph, Passed, empty_graph, transaction, graph_left}
 use Rattle.graph_ops.specs.declared.op.Op.{Op}
 use Rattle.graph_ops.specs.declared.op.Reason.{Reason}
@@ -19,12 +20,12 @@ use Rattle.weave_entries.specs.declared.store_log.StoreEntry.{StoreEntry}
 use Rattle.weave_entries.specs.declared.verdict.Verdict.{Verdict}
 use Rattle.weave_entries.specs.declared.verdict.Verdict.TheVariants as verdict
 use Rattle.weave_entries.specs.StoreReplay.{Commit, Judgement, judged_by, judgements_of, commit_by, commits_of}
-use Rattle.proof_base.proofs.Ends.{by_last}
+use Rattle.weave_data.proofs.Ends.{by_last}
 use Rattle.report_rules.specs.declared.report.Reply.{Reply}
 use Rattle.report_rules.specs.declared.report.ReplyState.{ReplyState}
 use Rattle.report_rules.specs.declared.report.ReplyState.TheVariants.{Unbegun, Begun as Running, Committed, Conflict, Refused, Finished}
 use Rattle.report_rules.specs.declared.report.Report.{Report}
-use Rattle.proof_base.specs.Facts.{AllHold}
+use Rattle.weave_data.specs.Facts.{AllHold}
 use Rattle.report_rules.specs.Replay.{requests_numbered, the_only, graph_if_passed, graph_if_work_passed, graph_after_commit, graph_of_commits, IsWorkRefused}
 use Rattle.report_rules.specs.RightReport.{keeps_number, IsRefusalInPlace, refusals_clause}
 use Rattle.report_rules.specs.Lookups.{is_some_and, is_none_or, AreBoth, request_at, same_session, number_of, commits}
@@ -32,9 +33,9 @@ use Rattle.weave_account.specs.declared.account.Account.{Account}
 use Rattle.weave_account.specs.Account.{commits_in}
 use Rattle.weave_account.specs.Store.{Commits, IsRefused, IsRightVerdict, InTurn}
 use Rattle.weave_account.specs.Report.{state_by_verdict, IsReportOfAccount}
-use Rattle.proof_base.proofs.Numbers.{in-has, in-head, sorted-at}
-use Rattle.proof_base.proofs.Counting.{IsOnce, First, Same, Second, apart}
-use Rattle.proof_base.proofs.Places.{each-holds, list-all-from, unless}
+use Rattle.weave_data.proofs.Numbers.{in-has, in-head, sorted-at}
+use Rattle.weave_data.proofs.Counting.{IsOnce, First, Same, Second, apart}
+use Rattle.weave_data.proofs.ListPlaces.{each-holds, list-all-from, unless}
 use Rattle.weave_account.proofs.Listed.{IsListedProgram, IsJudgedAt, judged-at, listed-is, verdict-commits}
 use Rattle.weave_account.proofs.ListingClause.{session-other}
 use Rattle.weave_account.proofs.NumbersClause.{IsNumberedAt, numbered-at, one-number, places, request-at, verdict-at, count-after, as-many-commits, once-from, one-more-commit}

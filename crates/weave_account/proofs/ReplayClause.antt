@@ -1,9 +1,10 @@
 -- The clause on replay. A finished program, at its place in the printed order, answers what its reply says: each
 -- vertex of its list of visits was read, in the state that it has there. It rests on the clauses on shards, channels
 -- and programs; for transactions on that on the store.
-use Rattle.std.proofs.Common.{◌≡◌, ℕ, Bool, true, false, not, List, ◌∷◌, ◌++◌, IsTrue, Some, None, inl, inr, refl, sym, subst}
+-- Used by Meeting and RightReport.
+use Rattle.std.proofs.Common.{◌≡◌, ℕ, not, List, ◌∷◌, ◌++◌, IsTrue, Some, None, inl, inr, sym, subst}
 use Rattle.std.specs.Map.{keys_of}
-use Rattle.proof_base.proofs.Members.{find_lacks}
+use Rattle.weave_data.proofs.Members.{find_lacks}
 use Rattle.weave_data.specs.declared.name.Name.{Name}
 use Rattle.graph_ops.specs.Mentions.{is_among}
 use Rattle.graph_ops.specs.Operations.{State}
@@ -15,7 +16,7 @@ use Rattle.program_defs.specs.PlainAnswer.{IsPlainAnswer}
 use Rattle.program_defs.specs.Visits.{graph_read, next_visit}
 use Rattle.report_rules.specs.declared.report.Reply.{Reply}
 use Rattle.report_rules.specs.declared.report.Report.{Report}
-use Rattle.proof_base.specs.Facts.{AllHold}
+use Rattle.weave_data.specs.Facts.{AllHold}
 use Rattle.report_rules.specs.Replay.{AnswerMatchesReply, MatchesReply}
 use Rattle.report_rules.specs.RightReport as right
 use Rattle.report_rules.specs.Lookups.{is_in, AreBoth, reply_at}
@@ -27,19 +28,16 @@ use Rattle.weave_account.proofs.Listed.{IsListedProgram, listed-is}
 use Rattle.weave_account.proofs.Printing.{order-has}
 use Rattle.weave_account.proofs.ReadingPlace.{read-at-place}
 use Rattle.weave_account.proofs.ReplayInTurn.{ComesToReply, replay-clause}
-use Rattle.proof_base.proofs.Numbers.{in-head, in-append_right}
+use Rattle.weave_data.proofs.Numbers.{in-head, in-append_right}
 use Rattle.weave_account.proofs.Transactions.{tx-comes}
 use Rattle.weave_account.proofs.Basis.{Basis}
+use Rattle.weave_account.proofs.Ready.{not-not}
 use Rattle.program_defs.specs.Agreement.{AgreeOnVisits}
-use Rattle.weave_account.specs.LowerLaws.{LowerLaws}
+use Rattle.weave_account.specs.LowerLaws.{LawsForAccounts}
 use Rattle.weave_account.specs.Programs.{visits_over}
 
-not-not : (b : Bool) → ¬ IsTrue (not b) → IsTrue b
-not-not true f = refl
-not-not false f = absurd (f refl)
-
 -- if no visit comes next, each vertex of the list of visits was read
-pub all-read : LowerLaws → (reads : List (Name × State)) (program : Program) → next_visit reads program ≡ None → (v : Name)
+pub all-read : LawsForAccounts → (reads : List (Name × State)) (program : Program) → next_visit reads program ≡ None → (v : Name)
     → IsTrue (is_among (visits_over reads program) v) → IsTrue (is_among (keys_of reads) v)
 all-read laws reads program none v visited =
     not-not (is_among (keys_of reads) v)

@@ -1,5 +1,6 @@
 -- The clause on replay from each request's own: if each listed request results in its reply on the graph of those
 -- before it, provided that these pass, the whole order does.
+-- Used by Meeting, ReplayClause and Transactions.
 use Rattle.std.proofs.Common.{◌≡◌, ℕ, List, [], ◌∷◌, ◌++◌, Option, Some, None, Ok, Err, refl, subst, ◌∙◌}
 use Rattle.graph_ops.specs.PlainGraph.{PlainGraph, TxOutcome, empty_graph, transaction}
 use Rattle.program_defs.specs.declared.script.Request.{Request}
@@ -9,10 +10,10 @@ use Rattle.program_defs.specs.declared.script.Work.TheVariants.{Change, Look}
 use Rattle.report_rules.specs.declared.report.Report.{Report}
 use Rattle.report_rules.specs.declared.report.Reply.{Reply}
 use Rattle.report_rules.specs.declared.report.ReplyState.{ReplyState}
-use Rattle.proof_base.specs.Facts.{AllHold}
+use Rattle.weave_data.specs.Facts.{AllHold}
 use Rattle.report_rules.specs.Replay.{OutcomeMatchesReply, MatchesReply, replay_from}
 use Rattle.report_rules.specs.Lookups.{AreBoth, request_at, reply_at}
-use Rattle.proof_base.proofs.Lists.{append-step}
+use Rattle.weave_data.proofs.Lists.{append-step}
 use Rattle.weave_account.proofs.Replaying.{graph_after_all, PassesWork, Passes, AllPass, all-pass-append, after-append}
 
 -- on this graph the request results in its reply

@@ -1,5 +1,6 @@
 -- Requests replayed one after another, vertex by vertex: the state at a vertex is that of the requests that name it,
 -- so it depends on these and their order alone.
+-- Used by Meeting, ReadingPlace, ReplayClause, ReplayInTurn, Storing and Transactions.
 use Rattle.std.proofs.Common.{◌≡◌, ℕ, Bool, true, false, cond, List, [], ◌∷◌, ◌++◌, IsTrue, Option, Some, None, Ok, Err, refl, sym, ap, subst, ◌∙◌}
 use Rattle.std.specs.Prelude.{⊤}
 use Rattle.std.specs.List.{filter}
@@ -19,7 +20,7 @@ use Rattle.program_defs.specs.declared.script.Work.TheVariants.{Change, Look}
 use Rattle.program_defs.specs.Works.{ops_of}
 use Rattle.report_rules.specs.Replay.{graph_after, graph_after_work}
 use Rattle.report_rules.specs.Lookups.{request_at, names_vertex, work_names, is_some_and}
-use Rattle.weave_account.specs.LowerLaws.{LowerLaws}
+use Rattle.weave_account.specs.LowerLaws.{LawsForAccounts}
 
 -- Words
 
@@ -74,7 +75,7 @@ pub after-append : (script : Script) (xs ys : List ℕ) (graph : PlainGraph)
 after-append script [] ys graph = refl
 after-append script (x ∷ xs) ys graph = after-append script xs ys (graph_after graph (request_at script x))
 
-module _ (laws : LowerLaws) where
+module _ (laws : LawsForAccounts) where
   -- One request at one vertex
 
   work-step : (graph : PlainGraph) (work : Work) (v : Name) → PassesWork graph work
@@ -141,7 +142,7 @@ abbrev pub PassesWith : PlainGraph → List Op → List Got → Type 0
 PassesWith graph ops gots = (passed : Passed) × (transaction ops graph ≡ Ok passed) × (passed.gots ≡ gots)
 
 -- it then passes with the same answers
-pub pass-alike : LowerLaws → (ops : List Op) (g h : PlainGraph) (gots : List Got)
+pub pass-alike : LawsForAccounts → (ops : List Op) (g h : PlainGraph) (gots : List Got)
     → ((v : Name) → IsTrue (is_among (named_by ops) v) → g v ≡ h v) → PassesWith g ops gots → PassesWith h ops gots
 pass-alike laws ops g h gots alike passes =
     from (transaction ops h) refl (subst (λ (o : TxOutcome). EndAlike g h o (transaction ops h)) passes.1 (laws.ends_alike ops g h alike))

@@ -1,5 +1,6 @@
 -- An account's report has a reply for each request, with its stamp, and the oracle's pairs; so what precedes in the
 -- report precedes in the account, and the other way round.
+-- Used by ConflictsClause, Listed, ListingClause, Meeting, NumbersClause, PairsClause, PhasesKept and 5 more.
 use Rattle.std.proofs.Common.{◌≡◌, ℕ, zero, suc, ◌<◌, List, [], ◌∷◌, length, get_or, Option, Some, None, ◌⊎◌, inl, inr, refl, sym, ap, subst, ◌∙◌, arith, zero-add}
 use Rattle.std.specs.Prelude.{slice_get}
 use Rattle.std.specs.List.{AllByRecursion, filter_map, cons_option, range_with_len}
@@ -22,6 +23,10 @@ use Rattle.weave_account.specs.Report.{IsReplyInAccount, MatchesAccount}
 use Rattle.weave_account.proofs.Ordering.{RequestBefore}
 use Rattle.weave_account.proofs.Replying.{none-begun}
 use Rattle.weave_account.proofs.Basis.{Basis}
+
+-- what is so is so in other words that are equal
+pub convert : {A B : Type 0} → A ≡ B → A → B
+convert e a = subst (λ (X : Type 0). X) e a
 
 -- what is there, and what isn't
 abbrev pub IsThere : {A : Type 0} → Option A → Type 0

@@ -1,5 +1,6 @@
 -- The clause on replies: each has its request's place and its gatekeeper's stamp, stamps of one home are ordered, and
 -- sessions begin in turn. It rests on the clauses on gatekeepers and sessions.
+-- Used by BegunElsewhere, FormOfScript, InSession, KnownClocks, OneReport, PairEnds, PhasePrecedence and 4 more.
 use Rattle.std.proofs.Common.{◌≡◌, ◌≢◌, ℕ, zero, suc, ◌<◌, Bool, ◌==◌, ◌&&◌, List, [], ◌∷◌, ◌++◌, length, get_or, Contains, AllPairs, IsTrue, Option, Some, None, ◌⊎◌, inl, inr, refl, sym, ap, subst, ◌∙◌, arith}
 use Rattle.std.specs.Prelude.{slice_get}
 use Rattle.std.specs.List.{find}
@@ -7,7 +8,7 @@ use Rattle.std.specs.Option.{option_map}
 use Rattle.std.proofs.lemmas.Bool.{cases_eq, and_from, and_parts, or_left, eq-eqb, eqb-true, lt-ltb, le-leb, not_from_false, ne_eqb}
 use Rattle.std.proofs.lemmas.List.{append_assoc, length-append}
 use Rattle.std.proofs.lemmas.List.Elements.{Contains-append_left, Contains-get_or}
-use Rattle.proof_base.proofs.Members.{has_head, cut_at, has_cut, find_has}
+use Rattle.weave_data.proofs.Members.{has_head, cut_at, has_cut, find_has}
 use Rattle.vector_stamp.specs.declared.clock.Stamp.{Stamp}
 use Rattle.vector_stamp.specs.Order.{stamp_before, are_apart}
 use Rattle.program_defs.specs.declared.script.Request.{Request}
@@ -19,22 +20,22 @@ use Rattle.weave_entries.specs.declared.gate_log.GateDeed.TheVariants.{BeganTx, 
 use Rattle.weave_entries.specs.GateReplay.{Begun, stamps_by, stamps_of, tx_by, program_by, begun_in}
 use Rattle.report_rules.specs.declared.report.Reply.{Reply}
 use Rattle.report_rules.specs.declared.report.Report.{Report}
-use Rattle.proof_base.specs.Facts.{AllHold}
+use Rattle.weave_data.specs.Facts.{AllHold}
 use Rattle.report_rules.specs.RightReport.{is_home_of, are_apart_where_begun, are_begun_in_turn, stands_after, is_reply_in_place, replies_clause}
 use Rattle.report_rules.specs.Lookups.{is_none_or, is_some_and, request_at, same_session}
-use Rattle.proof_base.proofs.FactsLaws.{hold-append}
-use Rattle.proof_base.proofs.Lists.{get-here}
+use Rattle.weave_data.proofs.FactsLaws.{hold-append}
+use Rattle.weave_data.proofs.Lists.{get-here}
 use Rattle.weave_account.specs.declared.account.Account.{Account}
 use Rattle.weave_account.specs.Account.{gate_log, all_begun, stamp_of}
 use Rattle.weave_account.specs.Report.{IsReplyInAccount, MatchesAccount}
 use Rattle.weave_account.proofs.ListingClause.{matches-of}
-use Rattle.proof_base.proofs.Ordered.{pairs_tail, pairs_across}
-use Rattle.proof_base.proofs.Places.{facts-hold, list-all-from, unless}
+use Rattle.weave_data.proofs.Ordered.{pairs_tail, pairs_across}
+use Rattle.weave_data.proofs.ListPlaces.{facts-hold, list-all-from, unless}
 use Rattle.weave_account.proofs.Replying.{begun-rightly, home-below}
 use Rattle.weave_account.proofs.Sessions.{pairs-either}
 use Rattle.weave_account.proofs.Replies.{as-many, reply-number}
 use Rattle.weave_account.proofs.Basis.{Basis}
-use Rattle.weave_account.specs.LowerLaws.{LowerLaws}
+use Rattle.weave_account.specs.LowerLaws.{LawsForAccounts}
 use Rattle.weave_account.proofs.Sessions.{sessions-rise}
 
 -- Begun stamps are stamps, and rise
@@ -73,7 +74,7 @@ pairs-right R [] ys pairs = pairs
 pairs-right R (x ∷ xs) ys pairs = pairs-right R xs ys (pairs_tail R x (xs ++ ys) pairs)
 
 -- the begins of a log whose stamps rise are one before another
-pub begins-rise : LowerLaws → (log : List GateEntry) → AllPairs (λ a b. IsTrue (stamp_before a b)) (stamps_of log)
+pub begins-rise : LawsForAccounts → (log : List GateEntry) → AllPairs (λ a b. IsTrue (stamp_before a b)) (stamps_of log)
     → AllPairs BeginsFirst (begun_in log)
 begins-rise laws [] pairs = λ i j d below within. absurd (omega (arith, within))
 begins-rise laws (entry ∷ log) pairs =

@@ -1,10 +1,11 @@
 -- Each begun request began rightly, at a gatekeeper of the script.
+-- Used by BegunStamps, Coherence, 12 more and crates seen_logs, sessions_account, weaver_top and workers_account.
 use Rattle.std.proofs.Common.{◌≡◌, ℕ, suc, ◌==◌, Bool, List, [], ◌∷◌, ◌++◌, get_or, Contains, IsTrue, Option, Some, None, inl, inr, refl, sym, ap, subst, ◌∙◌}
 use Rattle.std.specs.Prelude.{◌&&◌}
 use Rattle.std.specs.List.{find}
 use Rattle.std.specs.Option.{option_map}
 use Rattle.std.proofs.lemmas.Bool.{eqb-true}
-use Rattle.proof_base.proofs.Members.{has_read, has_none, cut_at, find_has}
+use Rattle.weave_data.proofs.Members.{has_read, has_none, cut_at, find_has, flat_has}
 use Rattle.program_defs.specs.declared.script.Request.{Request}
 use Rattle.program_defs.specs.declared.script.Script.{Script}
 use Rattle.program_defs.specs.declared.script.Work.{Work}
@@ -17,7 +18,7 @@ use Rattle.report_rules.specs.Lookups.{is_some_and, request_at}
 use Rattle.weave_account.specs.declared.account.Account.{Account}
 use Rattle.weave_account.specs.Account.{gate_log, all_begun, stamp_of}
 use Rattle.weave_account.specs.Gatekeepers.{BeginsRequest, BeginsAs}
-use Rattle.proof_base.proofs.Images.{flat-has, within-list}
+use Rattle.weave_data.proofs.Images.{flat-has, within-list}
 use Rattle.weave_account.proofs.Basis.{Basis}
 use Rattle.std.proofs.Common.{◌<◌, arith}
 use Rattle.weave_entries.specs.GateReplay.{begun_by}
@@ -57,6 +58,14 @@ pub place-of : {A : Type 0} (xss : List (List A)) (xs : List A) → Contains xss
 place-of [] xs h = absurd (has_none xs h)
 place-of (ys ∷ xss) xs h =
     elim (has_read ys xss xs h) [ inl same ↦ (0, same) | inr more ↦ (let r = place-of xss xs more in (suc r.0, r.1)) ]
+
+-- what began in an account is in the log of some gatekeeper
+pub has-all : (account : Account) (begun : Begun) → Contains (all_begun account) begun
+    → (home : ℕ) × Contains (begun_in (gate_log account home)) begun
+has-all account begun h =
+    let from = flat_has begun_in account.gates begun h in
+    let place = place-of account.gates from.0 from.1 in
+    (place.0, subst (λ (l : List GateEntry). Contains (begun_in l) begun) (sym place.1) from.2)
 
 module _ (script : Script) (account : Account) (basis : Basis script account) where
   -- each begun request began rightly

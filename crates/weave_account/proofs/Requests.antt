@@ -1,5 +1,6 @@
 -- Where requests begin and end: each at its own gatekeeper, and at most once. A transaction in flight has not ended
 -- anywhere. The requests of a session rise.
+-- Used by `requests_end_or_go_on`, `requests_of_a_session_rise`, Collecting and InSession.
 use Rattle.std.proofs.Common.{◌≡◌, ◌≢◌, ℕ, zero, suc, ◌+◌, ◌<◌, ◌==◌, Bool, true, false, cond, List, [], ◌∷◌, ◌++◌, map, length, get_or, AllPairs, Contains, IsTrue, Option, None, Some, inl, inr, refl, sym, ap, subst, ◌∙◌, arith}
 use Rattle.std.specs.Prelude.{◌↔◌, ◌&&◌, reverse, not, IsSomeAnd}
 use Rattle.std.specs.List.{filter, flat_map, range_with_len}
@@ -8,8 +9,8 @@ use Rattle.std.proofs.lemmas.List.{map-append}
 use Rattle.std.proofs.lemmas.List.Concat.{flat_map-append}
 use Rattle.std.proofs.lemmas.List.Elements.{Contains-append_cases, Contains-append_left}
 use Rattle.std.proofs.lemmas.Option.{slice_get_within}
-use Rattle.proof_base.proofs.Members.{any_has, any_from, cut_at, filter_has, find_has, has_filter, has_flat, has_head, has_none, has_read, has_tail, map_has, only}
-use Rattle.proof_base.proofs.Ordered.{pairs_cons, pairs_front, pairs_head, pairs_none, pairs_tail}
+use Rattle.weave_data.proofs.Members.{any_has, any_from, cut_at, filter_has, find_has, has_filter, has_flat, has_head, has_none, has_read, has_tail, map_has, only}
+use Rattle.weave_data.proofs.Ordered.{pairs_cons, pairs_front, pairs_head, pairs_none, pairs_tail}
 use Rattle.program_defs.specs.declared.script.Request.{Request}
 use Rattle.program_defs.specs.declared.script.Script.{Script}
 use Rattle.program_defs.specs.declared.script.Work.{Work}
@@ -27,7 +28,7 @@ use Rattle.weave_account.specs.Gatekeepers.{BeginsAs, request_before}
 use Rattle.weave_account.specs.Sessions.{requests_of_session}
 use Rattle.weave_account.proofs.Basis.{Basis}
 use Rattle.weave_account.proofs.ConflictsClause.{reverse-has}
-use Rattle.proof_base.proofs.Images.{flat-has}
+use Rattle.weave_data.proofs.Images.{flat-has}
 use Rattle.weave_account.proofs.PhaseOrder.{ended-deed}
 use Rattle.weave_account.proofs.Ready.{has-range, range-pairs}
 use Rattle.weave_account.proofs.RepliesClause.{pairs-right}

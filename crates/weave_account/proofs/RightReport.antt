@@ -1,17 +1,18 @@
 -- The report of an account is right: its eight clauses, one after another; it is of the script, and its meetings are
 -- ordered.
-use Rattle.std.proofs.Common.{◌≡◌, ℕ, subst}
+-- Used by `account_is_right` and `account_may_be_ordered`.
+use Rattle.std.proofs.Common.{ℕ}
 use Rattle.program_defs.specs.declared.script.Script.{Script}
 use Rattle.report_rules.specs.declared.report.Report.{Report}
 use Rattle.report_rules.specs.Meetings.{MeetingsAreOrdered}
 use Rattle.report_rules.specs.ReportOf.{IsReportOf}
 use Rattle.report_rules.specs.RightReport.{IsRightReport, replies_clause}
 use Rattle.weave_account.specs.declared.account.Account.{Account}
-use Rattle.proof_base.specs.Facts.{AllHold}
+use Rattle.weave_data.specs.Facts.{AllHold}
 use Rattle.report_rules.specs.Lookups.{RequestPrecedes}
 use Rattle.weave_account.specs.Report.{MatchesAccount, IsReportOfAccount}
 use Rattle.weave_account.proofs.Ordering.{not-both}
-use Rattle.weave_account.proofs.Replies.{same-precedence}
+use Rattle.weave_account.proofs.Replies.{same-precedence, convert}
 use Rattle.weave_account.proofs.FormOfScript.{of-script}
 use Rattle.weave_account.proofs.ListingClause.{listing, in-order}
 use Rattle.weave_account.proofs.Meeting as meeting
@@ -65,6 +66,3 @@ may-be-ordered script account basis report reported = (
   replies script account basis report reported,
   λ r p. (let q = convert (same-precedence script account report reported basis r r) p in not-both script account basis r r q q),
 )
-  where
-    convert : {A B : Type 0} → A ≡ B → A → B
-    convert e a = subst (λ (X : Type 0). X) e a

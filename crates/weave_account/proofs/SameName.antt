@@ -1,4 +1,5 @@
 -- A name is the same as itself.
+-- Used by Heads, PairsClause, VisitedPairs and crate drive_rules.
 use Rattle.std.proofs.Common.{IsTrue}
 use Rattle.std.specs.Cmp.{eq_by_cmp_equiv}
 use Rattle.std.specs.Cmp.Lexicographic.{nat_list_cmp_total}

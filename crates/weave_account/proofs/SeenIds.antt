@@ -1,9 +1,10 @@
--- No two begins in gatekeepers' logs, as far as they were seen, have one id.
+-- No two begins in gatekeepers' logs, as far as they were seen, have the same id.
+-- Used by `begun_stamps_are_coherent` and crate shard_lock.
 use Rattle.std.proofs.Common.{◌≡◌, ◌≢◌, ℕ, suc, ◌+◌, ◌<◌, ◌≤◌, List, [], ◌∷◌, ◌++◌, length, get_or, AllPairs, Contains, IsTrue, inl, inr, subst, ap, arith}
 use Rattle.std.specs.List.{flat_map}
 use Rattle.std.proofs.lemmas.List.Elements.{Contains-append_cases, Contains-get_or}
-use Rattle.proof_base.proofs.Members.{has_none, has_head, has_tail}
-use Rattle.proof_base.proofs.Ordered.{pairs_none, pairs_cons, pairs_head, pairs_tail}
+use Rattle.weave_data.proofs.Members.{has_none, has_head, has_tail}
+use Rattle.weave_data.proofs.Ordered.{pairs_none, pairs_cons, pairs_head, pairs_tail}
 use Rattle.vector_stamp.specs.declared.clock.EventId.{EventId}
 use Rattle.vector_stamp.specs.Order.{id_of, stamp_before}
 use Rattle.weave_entries.specs.declared.gate_log.GateEntry.{GateEntry}
@@ -11,7 +12,7 @@ use Rattle.weave_entries.specs.GateReplay.{Begun, begun_in}
 use Rattle.weave_entries.specs.GateRules.{IsGateLog}
 use Rattle.weave_account.specs.declared.account.Account.{Account}
 use Rattle.weave_account.specs.Account.{all_begun, gate_log}
-use Rattle.weave_account.specs.LowerLaws.{LowerLaws}
+use Rattle.weave_account.specs.LowerLaws.{LawsForAccounts}
 use Rattle.weave_account.proofs.RepliesClause.{begins-rise}
 
 module _ {A : Type 0} (R : A → A → Type 0) where
@@ -25,10 +26,10 @@ module _ {A : Type 0} (R : A → A → Type 0) where
       (pairs-joined xs ys (pairs_tail R x xs px) py (λ y z hy hz. across y z (has_tail x xs y hy) hz))
 
 -- two begins have different ids
-abbrev IdsDiffer : Begun → Begun → Type 0
+abbrev pub IdsDiffer : Begun → Begun → Type 0
 IdsDiffer a b = id_of a.stamp ≢ id_of b.stamp
 
-module _ (laws : LowerLaws) (shards : ℕ) where
+module _ (laws : LawsForAccounts) (shards : ℕ) where
   home-of : (home : ℕ) (log : List GateEntry) → home < 8 → IsGateLog home shards log → (b : Begun) → Contains (begun_in log) b
       → b.stamp.home ≡ home
   home-of home log below is b h = laws.stamps_home home shards log below is b.stamp (laws.own_stamp log b h)
@@ -66,7 +67,7 @@ module _ (laws : LowerLaws) (shards : ℕ) where
         ],
       )
 
-  -- no two begins seen have one id
+  -- no two begins seen have the same id
   pub seen-ids : (seen : Account) → length seen.gates ≤ 8 → ((home : ℕ) → IsGateLog home shards (gate_log seen home))
       → AllPairs (λ (a b : Begun). id_of a.stamp ≢ id_of b.stamp) (all_begun seen)
   seen-ids seen few logs =

@@ -1,9 +1,10 @@
 -- What is sent to a shard: empty messages, and for each commit that names a vertex of the shard one message, with the
 -- vertex's update. It rests on the clauses on channels and the store, and of these on what a hand can have seen.
+-- Used by `accounts_were_seen`, `collections_leave_what_programs_see`, `messages_can_be_taken`, Applying and 4 more.
 use Rattle.std.proofs.Common.{◌≡◌, ℕ, cond, ◌==◌, List, [], ◌∷◌, ◌++◌, Contains, IsTrue, ◌⊎◌, inl, inr, refl, sym, ap, subst, ◌∙◌}
 use Rattle.std.specs.List.{filter}
 use Rattle.std.proofs.lemmas.Bool.{cases_Bool, eqb-true}
-use Rattle.proof_base.proofs.Members.{has_read, has_none, cut_at, filter_has}
+use Rattle.weave_data.proofs.Members.{has_read, has_none, cut_at, filter_has}
 use Rattle.weave_data.specs.Names.{same_name, shard_of}
 use Rattle.weave_data.specs.declared.name.Name.{Name}
 use Rattle.graph_ops.specs.Mentions.{named_by, is_among}
@@ -27,12 +28,12 @@ use Rattle.weave_account.specs.declared.account.Account.{Account}
 use Rattle.weave_account.specs.Account.{gate_log}
 use Rattle.weave_account.specs.Store.{IsRightVerdict}
 use Rattle.weave_account.specs.Channels.{SendsAs, ChannelsClause}
-use Rattle.weave_account.specs.LowerLaws.{LowerLaws}
+use Rattle.weave_account.specs.LowerLaws.{LawsForAccounts}
 use Rattle.weave_account.specs.Seen.{HavePassed, IsMade, PassesAfter, PassesAs}
 use Rattle.graph_ops.specs.declared.op.Op.{Op}
 use Rattle.vector_stamp.specs.declared.clock.Stamp.{Stamp}
 use Rattle.weave_account.proofs.Listed.{commit-here}
-use Rattle.proof_base.proofs.Images.{map-has, flat-has}
+use Rattle.weave_data.proofs.Images.{map-has, flat-has}
 use Rattle.weave_account.proofs.Parts.{the-part, parts-of-commit}
 use Rattle.weave_account.proofs.Basis.{Basis}
 
@@ -52,7 +53,7 @@ pub record IsUpdateOf (store : List StoreEntry) (v : Name) (message : Message) :
 abbrev pub Brings : List StoreEntry → Name → Message → Type 0
 Brings store v message = (filter (λ (part : Part). same_name part.vertex v) message.parts ≡ []) ⊎ IsUpdateOf store v message
 
-module _ (laws : LowerLaws) (shards : ℕ) (store : List StoreEntry) (passes : HavePassed store)
+module _ (laws : LawsForAccounts) (shards : ℕ) (store : List StoreEntry) (passes : HavePassed store)
     (shard : ℕ) (v : Name) (here : shard_of v shards ≡ shard) where
   abbrev on-vertex : Message → List Part
   on-vertex message = filter (λ (part : Part). same_name part.vertex v) message.parts

@@ -1,4 +1,5 @@
 -- In a session requests begin in script order, and their stamps rise.
+-- Used by `facts_stay_true`, ConflictsClause, Growing, InSession, KnownClocks, ListingClause, Meeting and 4 more.
 use Rattle.std.proofs.Common.{◌≡◌, ◌≢◌, ℕ, zero, suc, ◌+◌, ◌<◌, ◌≤◌, ◌==◌, List, [], ◌∷◌, ◌++◌, map, length, take, drop, Contains, AllPairs, IsTrue, Option, Some, None, ◌⊎◌, inl, inr, refl, sym, ap, subst, ◌∙◌, arith}
 use Rattle.std.specs.Prelude.{slice_get}
 use Rattle.std.specs.List.{find, range_with_len}
@@ -9,7 +10,7 @@ use Rattle.std.proofs.lemmas.List.Concat.{flat_map-append}
 use Rattle.std.proofs.lemmas.List.Sums.{fold-append}
 use Rattle.std.proofs.lemmas.List.Elements.{Contains-append_cases, Contains-append_left}
 use Rattle.std.proofs.lemmas.Option.{slice_get_within}
-use Rattle.proof_base.proofs.Members.{has_read, has_none, filter_has, find_has, has_map}
+use Rattle.weave_data.proofs.Members.{has_read, has_none, filter_has, find_has, has_map}
 use Rattle.vector_stamp.specs.declared.clock.Stamp.{Stamp}
 use Rattle.vector_stamp.specs.Order.{stamp_before}
 use Rattle.program_defs.specs.declared.script.Request.{Request}
@@ -18,16 +19,16 @@ use Rattle.weave_entries.specs.declared.session_log.SessionEntry.{SessionEntry}
 use Rattle.weave_entries.specs.declared.session_log.SessionDeed.{SessionDeed}
 use Rattle.weave_entries.specs.declared.session_log.SessionDeed.TheVariants.{Begun, Replied}
 use Rattle.weave_entries.specs.SessionReplay.{SessionState, session_start, session_after, session_of, FitsSession, IsSessionLog, begin_by, begins_in, session_stamp_of}
-use Rattle.proof_base.proofs.Ends.{by_last}
-use Rattle.proof_base.proofs.Entries.{each_before, each_last}
+use Rattle.weave_data.proofs.Ends.{by_last}
+use Rattle.weave_data.proofs.Entries.{each_before, each_last}
 use Rattle.report_rules.specs.Lookups.{is_in, is_some_and, are_both, request_at}
 use Rattle.weave_account.specs.declared.account.Account.{Account}
 use Rattle.weave_account.specs.Account.{session_log, stamp_of}
 use Rattle.weave_account.specs.Sessions.{requests_of_session}
-use Rattle.proof_base.proofs.Ordered.{pairs_head, pairs_tail, find_by_key, pairs_push}
-use Rattle.proof_base.proofs.Images.{map-has}
-use Rattle.proof_base.proofs.Numbers.{in-has, has-in, IsSorted, in-head, in-tail, in-cases, in-append_cases, in-filter, sorted-filter, sorted-at}
-use Rattle.weave_account.specs.LowerLaws.{LowerLaws}
+use Rattle.weave_data.proofs.Ordered.{pairs_head, pairs_tail, find_by_key, pairs_push}
+use Rattle.weave_data.proofs.Images.{map-has}
+use Rattle.weave_data.proofs.Numbers.{in-has, has-in, IsSorted, in-head, in-tail, in-cases, in-append_cases, in-filter, sorted-filter, sorted-at}
+use Rattle.weave_account.specs.LowerLaws.{LawsForAccounts}
 use Rattle.weave_account.proofs.Basis.{Basis}
 use Rattle.report_rules.specs.Lookups.{same_session}
 
@@ -93,7 +94,7 @@ in-range a (suc n) y low high =
 abbrev pub BeginsBefore : (ℕ × Stamp) → (ℕ × Stamp) → Type 0
 BeginsBefore p q = (p.0 < q.0) × IsTrue (stamp_before p.1 q.1)
 
-module _ (laws : LowerLaws) (number : ℕ) (requests : List ℕ) (rising : IsSorted (λ x y. x < y) requests) where
+module _ (laws : LawsForAccounts) (number : ℕ) (requests : List ℕ) (rising : IsSorted (λ x y. x < y) requests) where
   -- what was begun are the first requests, in order, with rising stamps
   pub record Begins (state : SessionState) (begun : List (ℕ × Stamp)) : Type 0 where
     pub taken : map (λ (b : ℕ × Stamp). b.0) begun ≡ take state.begun requests
@@ -137,7 +138,7 @@ module _ (laws : LowerLaws) (number : ℕ) (requests : List ℕ) (rising : IsSor
       keep state (Begun r stamp) = refl
       keep state (Replied r) = refl
 
-  -- so it is along a session's log
+  -- this holds along a session's log
   pub begins : (log : List SessionEntry) → IsSessionLog number requests log → Begins (session_of requests log) (begins_in log)
   begins =
       by_last (λ log. IsSessionLog number requests log → Begins (session_of requests log) (begins_in log))
@@ -180,7 +181,7 @@ found begun r s e = at (find (λ (b : ℕ × Stamp). b.0 == r) begun) refl e
 apart : (q w : ℕ × Stamp) → BeginsBefore q w → q.0 ≢ w.0
 apart q w before same = let lt = before.0 in omega (arith, lt, same)
 
--- so it is in each session
+-- this holds in each session
 pub sessions-rise : (script : Script) (account : Account) → Basis script account → SessionsRise script account
 sessions-rise script account basis a b y less same e =
     let both = both-there (request_at script a) (request_at script b) same in

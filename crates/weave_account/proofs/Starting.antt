@@ -1,12 +1,13 @@
 -- Empty logs are an account. No law of the crates below is needed.
+-- Used by `empty_logs_are_an_account` and crate step_rules.
 use Rattle.std.proofs.Common.{◌≡◌, ◌≢◌, ℕ, zero, suc, List, [], ◌++◌, nat_eq, get_or, replicate, length, take, ◌↔◌, Contains, AllPairs, IsTrue, refl, sym, ap, subst, ◌∙◌}
 use Rattle.std.specs.List.{flat_map, find}
 use Rattle.std.specs.Option.{option_map}
 use Rattle.std.specs.Map.{keys_of}
 use Rattle.std.proofs.lemmas.List.{length-replicate}
-use Rattle.proof_base.proofs.Entries.{each_none}
-use Rattle.proof_base.proofs.Members.{has_none}
-use Rattle.proof_base.proofs.Ordered.{pairs_none}
+use Rattle.weave_data.proofs.Entries.{each_none}
+use Rattle.weave_data.proofs.Members.{has_none}
+use Rattle.weave_data.proofs.Ordered.{pairs_none}
 use Rattle.weave_data.specs.declared.name.Name.{Name}
 use Rattle.graph_ops.specs.Mentions.{is_among}
 use Rattle.graph_ops.specs.Operations.{State}
@@ -28,7 +29,7 @@ use Rattle.weave_entries.specs.StoreReplay.{Judgement}
 use Rattle.weave_account.specs.Store.{InTurn}
 
 -- each of the empty logs is empty
-none-at : {A : Type 0} (n i : ℕ) → get_or {A = List A} (replicate n []) i [] ≡ []
+pub none-at : {A : Type 0} (n i : ℕ) → get_or {A = List A} (replicate n []) i [] ≡ []
 none-at zero i = refl
 none-at (suc n) zero = refl
 none-at (suc n) (suc i) = none-at n i

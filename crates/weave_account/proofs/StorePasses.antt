@@ -1,4 +1,5 @@
 -- What a store judged as a commit passed after the commits before it.
+-- Used by `store_logs_have_passed`.
 use Rattle.std.proofs.Common.{◌≡◌, ℕ, List, Ok, sym}
 use Rattle.graph_ops.specs.PlainGraph.{PlainGraph, transaction}
 use Rattle.graph_ops.specs.declared.op.Op.{Op}

@@ -1,11 +1,12 @@
 -- The commits of an account's store, as requests of the script: they replay to the store's graph, and at each vertex
 -- each precedes each later one.
+-- Used by ConflictsClause, Heads, Listed, Meeting, NumbersClause, OneReport, Ordering, PairsClause and 6 more.
 use Rattle.std.proofs.Common.{◌≡◌, ◌≢◌, ℕ, List, [], ◌∷◌, ◌++◌, map, Contains, AllPairs, Option, Some, None, inl, inr, refl, sym, ap, subst, ◌∙◌}
 use Rattle.std.specs.Prelude.{IsSomeAnd, ⊤}
 use Rattle.std.proofs.lemmas.List.{append-nil, map-append}
 use Rattle.std.proofs.lemmas.List.Concat.{flat_map-append}
 use Rattle.std.proofs.lemmas.List.Sums.{fold-append}
-use Rattle.proof_base.proofs.Members.{has_read, has_none, cut_at}
+use Rattle.weave_data.proofs.Members.{has_read, has_none, cut_at}
 use Rattle.vector_stamp.specs.declared.clock.Stamp.{Stamp}
 use Rattle.weave_data.specs.declared.name.Name.{Name}
 use Rattle.graph_ops.specs.Mentions.{named_by, is_among}
@@ -23,8 +24,8 @@ use Rattle.weave_entries.specs.declared.verdict.Verdict.TheVariants.{Committed, 
 use Rattle.weave_entries.specs.GateReplay.{Begun}
 use Rattle.weave_entries.specs.Logs.{AtEachEntry}
 use Rattle.weave_entries.specs.StoreReplay.{Commit, Judgement, judged_by, commit_by, commits_of, graph_with_commit, graph_committed}
-use Rattle.proof_base.proofs.Ends.{by_last}
-use Rattle.proof_base.proofs.Entries.{each_before, each_last}
+use Rattle.weave_data.proofs.Ends.{by_last}
+use Rattle.weave_data.proofs.Entries.{each_before, each_last}
 use Rattle.report_rules.specs.Replay.{graph_after, graph_after_work}
 use Rattle.report_rules.specs.Lookups.{request_at, work_names, is_some_and}
 use Rattle.weave_account.specs.declared.account.Account.{Account}
@@ -32,7 +33,7 @@ use Rattle.weave_account.specs.Account.{all_begun, stamp_of}
 use Rattle.weave_account.specs.Store.{AreJudgements, IsRightVerdict, Judges}
 use Rattle.weave_account.proofs.Replaying.{graph_after_all, PassesWork, Passes, AllPass, all-pass-append, after-append}
 use Rattle.weave_account.proofs.Beginning.{tx-stamp}
-use Rattle.proof_base.proofs.Images.{flat-has}
+use Rattle.weave_data.proofs.Images.{flat-has}
 
 -- the commits as requests
 abbrev pub requests_of_commits : List Commit → List ℕ
@@ -100,10 +101,11 @@ pub work-named : (q : Option Request) (ops : List Op) (v : Name) → IsSomeAnd q
 work-named None ops v is = absurd is
 work-named (Some request) ops v is = ap (work_names v) is
 
-module _ (script : Script) (account : Account) (once : AllPairs (λ (a b : Begun). a.request ≢ b.request) (all_begun account)) where
-  abbrev Rule : List StoreEntry → StoreEntry → Type 0
-  Rule before entry = Judges script account before (judged_by entry.author entry.deed)
+-- what the clause on the store says at each entry
+abbrev pub JudgesRightly : Script → Account → List StoreEntry → StoreEntry → Type 0
+JudgesRightly script account before entry = Judges script account before (judged_by entry.author entry.deed)
 
+module _ (script : Script) (account : Account) (once : AllPairs (λ (a b : Begun). a.request ≢ b.request) (all_begun account)) where
   -- Each is of the script
 
   -- each commit is of a begun request of the script
@@ -165,8 +167,8 @@ module _ (script : Script) (account : Account) (once : AllPairs (λ (a b : Begun
       → AreJudgements script account log
       → Replays (commits_of log)
   replays =
-      by_last (λ log. AtEachEntry Rule log → Replays (commits_of log))
+      by_last (λ log. AtEachEntry (JudgesRightly script account) log → Replays (commits_of log))
       (λ each. record { passes = tt; graph = refl })
       (λ log entry more each.
-      let rule = each_last Rule log entry each in
-      subst Replays (sym (commits-push log entry)) (replays-deed (commits_of log) entry.author entry.deed rule.work rule.verdict (more (each_before Rule log (entry ∷ []) each))))
+      let rule = each_last (JudgesRightly script account) log entry each in
+      subst Replays (sym (commits-push log entry)) (replays-deed (commits_of log) entry.author entry.deed rule.work rule.verdict (more (each_before (JudgesRightly script account) log (entry ∷ []) each))))

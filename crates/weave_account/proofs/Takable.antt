@@ -1,5 +1,6 @@
 -- What a message that is made of a judgement has: its vertices are distinct, and its counts are at most the number of
 -- commits.
+-- Used by `messages_can_be_taken`.
 use Rattle.std.proofs.Common.{◌≡◌, ◌≢◌, ℕ, ◌<◌, ◌≤◌, Bool, true, false, cond, List, [], ◌∷◌, map, length, AllPairs, Contains, inl, inr, sym, ap, subst, ◌∙◌, arith}
 use Rattle.std.specs.Prelude.{◌-◌, ◌^◌}
 use Rattle.std.specs.List.{filter}
@@ -7,8 +8,8 @@ use Rattle.std.proofs.lemmas.List.Elements.{All-from_recursion}
 use Rattle.std.proofs.lemmas.List.{length-append}
 use Rattle.std.proofs.lemmas.List.Concat.{flat_map-append}
 use Rattle.std.proofs.lemmas.List.Sums.{count_by-le-length, length-filter}
-use Rattle.proof_base.proofs.Members.{has_none, filter_has, cut_at}
-use Rattle.proof_base.proofs.Ordered.{pairs_none, pairs_cons, pairs_head, pairs_tail}
+use Rattle.weave_data.proofs.Members.{has_none, filter_has, cut_at}
+use Rattle.weave_data.proofs.Ordered.{pairs_none, pairs_cons, pairs_head, pairs_tail}
 use Rattle.weave_data.specs.declared.name.Name.{Name}
 use Rattle.graph_ops.specs.Mentions.{named_by}
 use Rattle.graph_ops.specs.declared.op.Op.{Op}
@@ -17,49 +18,46 @@ use Rattle.weave_entries.specs.declared.gate_log.GateEntry.{GateEntry}
 use Rattle.weave_entries.specs.declared.message.Addressed.{Addressed}
 use Rattle.weave_entries.specs.declared.message.Message.{Message}
 use Rattle.weave_entries.specs.declared.store_log.StoreEntry.{StoreEntry}
-use Rattle.weave_entries.specs.declared.verdict.Counted.{Counted}
 use Rattle.weave_entries.specs.declared.verdict.Verdict.{Verdict}
 use Rattle.weave_entries.specs.declared.verdict.Verdict.TheVariants.{Committed, Conflict, Refused}
 use Rattle.weave_entries.specs.GateReplay.{Begun}
 use Rattle.weave_entries.specs.Sending.{keeps, message_to, messages_of, part_for, parts_for, shards_named}
 use Rattle.weave_entries.specs.StoreReplay.{Commit, Judgement, judged_by, commit_by, commits_of, names_vertex as names, count_naming}
-use Rattle.weave_account.specs.LowerLaws.{LowerLaws}
+use Rattle.weave_account.specs.LowerLaws.{LawsForAccounts}
 use Rattle.weave_account.specs.Seen.{HavePassed, IsMade, PassesAs}
 use Rattle.weave_entries.specs.ShardRules.{IsTakable}
-use Rattle.proof_base.proofs.Images.{map-has}
-use Rattle.proof_base.proofs.Places.{all-from}
+use Rattle.weave_data.proofs.Images.{map-has}
+use Rattle.weave_data.proofs.ListPlaces.{all-from}
+use Rattle.weave_account.proofs.Parts.{counted}
 
 -- Of the parts for some vertices
 
 module _ (shards shard : ℕ) (ops : List Op) (before : List Commit) where
-  abbrev counted : Name → Counted
-  counted w = record { vertex = w; before = count_naming w before }
-
   abbrev parts-of : List Name → List Part
-  parts-of ns = map (part_for ops) (filter (keeps shards shard) (map counted ns))
+  parts-of ns = map (part_for ops) (filter (keeps shards shard) (map (counted before) ns))
 
   -- each is for one of them, with the number of commits that named it
   record IsFor (ns : List Name) (part : Part) : Type 0 where
     vertex : Name
     has : Contains ns vertex
-    is : part_for ops (counted vertex) ≡ part
+    is : part_for ops (counted before vertex) ≡ part
 
   part-is : (ns : List Name) (part : Part) → Contains (parts-of ns) part → IsFor ns part
   part-is ns part h =
-      let image = map-has (part_for ops) (filter (keeps shards shard) (map counted ns)) part h in
-      let kept = filter_has (keeps shards shard) (map counted ns) image.of image.has in
-      let name = map-has counted ns image.of kept.0 in
+      let image = map-has (part_for ops) (filter (keeps shards shard) (map (counted before) ns)) part h in
+      let kept = filter_has (keeps shards shard) (map (counted before) ns) image.of image.has in
+      let name = map-has (counted before) ns image.of kept.0 in
       record { vertex = name.of; has = name.has; is = ap (part_for ops) name.is ∙ image.is }
 
   -- and no two are for one
   apart : (ns : List Name) → AllPairs (λ a b. a ≢ b) ns → AllPairs (λ (one other : Part). one.vertex ≢ other.vertex) (parts-of ns)
   apart [] u = pairs_none (λ (one other : Part). one.vertex ≢ other.vertex)
-  apart (n ∷ ns) u = at (keeps shards shard (counted n)) (apart ns (pairs_tail (λ a b. a ≢ b) n ns u))
+  apart (n ∷ ns) u = at (keeps shards shard (counted before n)) (apart ns (pairs_tail (λ a b. a ≢ b) n ns u))
     where
       at : (b : Bool) → AllPairs (λ (one other : Part). one.vertex ≢ other.vertex) (parts-of ns)
-          → AllPairs (λ (one other : Part). one.vertex ≢ other.vertex) (map (part_for ops) (cond b (counted n ∷ filter (keeps shards shard) (map counted ns)) (filter (keeps shards shard) (map counted ns))))
+          → AllPairs (λ (one other : Part). one.vertex ≢ other.vertex) (map (part_for ops) (cond b (counted before n ∷ filter (keeps shards shard) (map (counted before) ns)) (filter (keeps shards shard) (map (counted before) ns))))
       at false more = more
-      at true more = pairs_cons (λ (one other : Part). one.vertex ≢ other.vertex) (part_for ops (counted n)) (parts-of ns)
+      at true more = pairs_cons (λ (one other : Part). one.vertex ≢ other.vertex) (part_for ops (counted before n)) (parts-of ns)
           (λ part h same. (let of = part-is ns part h in pairs_head (λ a b. a ≢ b) n ns of.vertex u of.has (same ∙ sym (ap (λ (p : Part). p.vertex) of.is)))) more
 
   few : (ns : List Name) (part : Part) → Contains (parts-of ns) part → part.before ≤ length before
@@ -72,7 +70,7 @@ module _ (shards shard : ℕ) (ops : List Op) (before : List Commit) where
 
 -- Of a message that is made of a judgement
 
-module _ (laws : LowerLaws) (shards : ℕ) (store : List StoreEntry) (passes : HavePassed store) (shard : ℕ) where
+module _ (laws : LawsForAccounts) (shards : ℕ) (store : List StoreEntry) (passes : HavePassed store) (shard : ℕ) where
   -- what a message can be taken by
   pub record IsFit (message : Message) : Type 0 where
     pub apart_parts : AllPairs (λ (one other : Part). one.vertex ≢ other.vertex) message.parts

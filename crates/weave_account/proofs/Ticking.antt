@@ -1,4 +1,5 @@
 -- A tick keeps what is known, once it was made.
+-- Used by `clocks_are_known`.
 use Rattle.std.proofs.Common.{◌≡◌, ℕ, ◌+◌, ◌<◌, inl, inr, refl, sym, ap, ◌∙◌, arith}
 use Rattle.std.proofs.lemmas.Bool.{cases_eq}
 use Rattle.vector_stamp.specs.declared.clock.Clock.{Clock}
@@ -10,11 +11,11 @@ use Rattle.weave_account.specs.declared.account.Account.{Account}
 use Rattle.weave_account.specs.Account.{gate_log}
 use Rattle.weave_account.specs.Clocks.{IsKnown}
 use Rattle.weave_account.specs.GoesOn.{GoesOn}
-use Rattle.weave_account.specs.LowerLaws.{LowerLaws}
+use Rattle.weave_account.specs.LowerLaws.{LawsForAccounts}
 use Rattle.weave_account.proofs.Growing.{known-stays}
 
 -- a known clock that ticked is known, if the gatekeeper's log has that tick more
-pub tick-known : (script : Script) (laws : LowerLaws) (account next : Account) → GoesOn account next → (home : ℕ) → home < 8
+pub tick-known : (script : Script) (laws : LawsForAccounts) (account next : Account) → GoesOn account next → (home : ℕ) → home < 8
     → (clock : Clock) → IsKnown account clock
     → ticks_of clock.epoch (gate_log next home) ≡ ticks_of clock.epoch (gate_log account home) + 1
     → IsKnown next (clock_after_tick home clock)

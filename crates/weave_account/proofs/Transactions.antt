@@ -1,5 +1,6 @@
 -- A listed transaction, replayed at its place in the printed order, results in its reply: the commits that name its
 -- vertices and are listed before it are those with lesser numbers. It rests on the clause on the store.
+-- Used by ConflictsClause, FormOfScript, Meeting, NumbersClause, PairsClause, PhasesKept, ReadingPlace and 2 more.
 use Rattle.std.proofs.Common.{◌≡◌, ℕ, Bool, cond, List, [], ◌∷◌, ◌++◌, Contains, IsTrue, Option, Some, None, inl, inr, refl, sym, ap, subst, ◌∙◌}
 use Rattle.std.specs.Prelude.{IsSomeAnd}
 use Rattle.std.specs.List.{filter}
@@ -19,7 +20,7 @@ use Rattle.weave_entries.specs.declared.store_log.StoreEntry.{StoreEntry}
 use Rattle.weave_entries.specs.declared.verdict.Counted.{Counted}
 use Rattle.weave_entries.specs.declared.verdict.Verdict.TheVariants as verdict
 use Rattle.weave_entries.specs.StoreReplay.{Commit, Judgement, judged_by, judgement_of, commit_by, commits_of, commits_naming}
-use Rattle.proof_base.proofs.Entries.{each_before}
+use Rattle.weave_data.proofs.Entries.{each_before}
 use Rattle.report_rules.specs.declared.report.Reply.{Reply}
 use Rattle.report_rules.specs.declared.report.ReplyState.{ReplyState}
 use Rattle.report_rules.specs.declared.report.ReplyState.TheVariants.{Committed}
@@ -34,14 +35,14 @@ use Rattle.weave_account.specs.Store.{AreJudgements}
 use Rattle.weave_account.specs.Report.{state_by_verdict, state_of_tx, IsStateOf, IsReportOfAccount}
 use Rattle.weave_account.proofs.Cutting.{IsNotAfter, cut}
 use Rattle.weave_account.proofs.Listed.{StandsInStore, IsListedTx, verdict-commits, judgement-found, commit-stands, listed-is, in-begun}
-use Rattle.proof_base.proofs.Members.{filter_has, has_cut}
-use Rattle.proof_base.proofs.Images.{map-has, flat-has}
-use Rattle.proof_base.proofs.Numbers.{has-in, IsSorted, in-head, in-cases, in-append_right, sorted-at}
+use Rattle.weave_data.proofs.Members.{filter_has, has_cut}
+use Rattle.weave_data.proofs.Images.{map-has, flat-has}
+use Rattle.weave_data.proofs.Numbers.{has-in, IsSorted, in-head, in-cases, in-append_right, sorted-at}
 use Rattle.weave_account.proofs.Ordering.{RequestBefore, ordered, naming-requests, sorted-requests, not-both}
 use Rattle.weave_account.proofs.Printing.{order-sorted, order-has, has-order}
 use Rattle.weave_account.proofs.ReplayInTurn.{ComesToReply}
 use Rattle.weave_account.proofs.Storing.{IsOfScript, requests_of_commits, commit-of, of-script, replays}
-use Rattle.weave_account.proofs.Replies.{has-reply, same-precedence}
+use Rattle.weave_account.proofs.Replies.{has-reply, same-precedence, convert}
 use Rattle.weave_account.proofs.Basis.{Basis}
 
 -- the second part of a sorted list is sorted
@@ -53,9 +54,6 @@ sorted-right R (x ∷ xs) ys s = sorted-right R xs ys s.1
 pub sorted-map : (R S : ℕ → ℕ → Type 0) → ((a b : ℕ) → R a b → S a b) → (xs : List ℕ) → IsSorted R xs → IsSorted S xs
 sorted-map R S f [] s = tt
 sorted-map R S f (x ∷ xs) s = ((λ y h. f x y (s.0 y h)), sorted-map R S f xs s.1)
-
-convert : {A B : Type 0} → A ≡ B → A → B
-convert e a = subst (λ (X : Type 0). X) e a
 
 matches-committed : (account : Account) (r : ℕ) (stamp : Stamp) (work : Work) (ops : List Op) (state : ReplyState) (stamped : Option Stamp)
     → stamped ≡ Some stamp → work ≡ Change ops → IsStateOf account r stamped work state

@@ -1,10 +1,11 @@
 -- Nothing unprocessed at a visit precedes the program: a commit whose update the shard hasn't applied is still in
 -- flight, or its message is on the channel after what made the channel ready, or is that. It rests on the clauses on
 -- gatekeepers, channels, the store and shards.
+-- Used by OnTheWay and Visiting.
 use Rattle.std.proofs.Common.{◌≡◌, ◌≢◌, ℕ, ◌<◌, ◌≤◌, cond, ◌==◌, List, [], ◌∷◌, ◌++◌, map, length, Contains, AllPairs, IsTrue, Some, None, ◌⊎◌, inl, inr, refl, sym, ap, subst, ◌∙◌, arith}
 use Rattle.std.specs.List.{filter, list_any, range_with_len}
 use Rattle.std.proofs.lemmas.Bool.{or_cases, or_left, or_right, eq-eqb}
-use Rattle.proof_base.proofs.Members.{has_head, has_cut, has_filter, has_map, has_flat}
+use Rattle.weave_data.proofs.Members.{has_head, has_cut, has_filter, has_map, has_flat}
 use Rattle.vector_stamp.specs.declared.clock.Stamp.{Stamp}
 use Rattle.vector_stamp.specs.Order.{stamp_before}
 use Rattle.weave_data.specs.Names.{same_name, one_name, shard_of}
@@ -27,14 +28,16 @@ use Rattle.weave_entries.specs.Sending.{keeps, shards_named, parts_for, message_
 use Rattle.weave_entries.specs.ShardReplay.{arrivals_of, processed_of, updates_of, first_unready}
 use Rattle.weave_entries.specs.StoreReplay.{Commit, Judgement, judged_by, judgements_of, commit_by, commits_of, names_vertex as names, count_naming}
 use Rattle.weave_entries.specs.StoreRule.{counts_of}
+use Rattle.weave_entries.specs.declared.message.Message.{Message}
+use Rattle.weave_entries.specs.GateRules.{IsChannel}
 use Rattle.weave_account.specs.declared.account.Account.{Account}
 use Rattle.weave_account.specs.Account.{gate_log}
-use Rattle.weave_account.specs.OnTheWay.{IsInFlight}
+use Rattle.weave_account.specs.OnTheWay.{CommitIsInFlight}
 use Rattle.weave_account.specs.Store.{Commits, IsRightVerdict}
 use Rattle.weave_account.specs.Channels.{SendsJudged}
 use Rattle.weave_account.specs.Shards.{AreShardDeeds}
 use Rattle.weave_account.proofs.Listed.{verdict-commits}
-use Rattle.proof_base.proofs.Images.{flat-has, within-list}
+use Rattle.weave_data.proofs.Images.{flat-has, within-list}
 use Rattle.weave_account.proofs.Parts.{the-part, parts-of-commit}
 use Rattle.weave_account.proofs.Ready.{WasSent, gone, either-sent, range-pairs, range-low, filter_map-has, IsPast, ready-at, has-range}
 use Rattle.weave_account.proofs.Sent.{IsUpdateOf}
@@ -43,7 +46,6 @@ use Rattle.weave_account.proofs.Storing.{IsCommitOf, commit-of}
 use Rattle.weave_account.proofs.Applying.{arrived, applied}
 use Rattle.weave_account.proofs.Updates.{Shows, shows}
 use Rattle.weave_account.proofs.Basis.{Basis}
-use Rattle.weave_account.proofs.Ready.{stamps_in}
 
 -- a commit at its place in the store
 pub record IsCommitAt (account : Account) (commit : Commit) : Type 0 where
@@ -63,11 +65,22 @@ module _ (script : Script) (account : Account) (basis : Basis script account) (s
     pub place_is : update.before ≡ before
     pub commit_is : update.commit ≡ commit
 
+  -- a message is among those sent, and has the update of the commit, after these entries
+  abbrev SendsUpdate : List Addressed → Addressed → List StoreEntry → Commit → Type 0
+  SendsUpdate sent addressed before commit =
+      Contains sent addressed × ((update : IsUpdateOf account.store v addressed.message) × (update.before ≡ before) × (update.commit ≡ commit))
+
+  -- a message is on a gatekeeper's channel
+  abbrev IsOnChannel : ℕ → ℕ → Message → Type 0
+  IsOnChannel home number message =
+      Contains (addressed_to shard (gate_log account home)) (record { shard = shard; number = number; message = message })
+
   -- the message of a commit to the shard
   message-there : (log : List GateEntry) (begun : Begun) (commit : Commit) (place : IsCommitAt account commit) (ops : List Op)
       → ops ≡ commit.ops → begun.stamp ≡ commit.stamp → IsTrue (names v commit)
       → (number : ℕ) (answers : List Got) (counts : List Counted) → counts ≡ counts_of ops (commits_of place.before)
-      → Contains (messages_of script.shards log begun ops (Committed number answers counts)) (message_to script.shards log begun ops counts shard) × ((update : IsUpdateOf account.store v (message_to script.shards log begun ops counts shard).message) × (update.before ≡ place.before) × (update.commit ≡ commit))
+      → SendsUpdate (messages_of script.shards log begun ops (Committed number answers counts))
+      (message_to script.shards log begun ops counts shard) place.before commit
   message-there log begun commit place ops ops-are stamp-is named number answers counts counts-are =
       let named-ops : IsTrue (is_among (named_by ops) v) = subst (λ k. IsTrue (is_among (named_by k) v)) (sym ops-are) named in
       let kept : IsTrue (list_any (keeps script.shards shard) counts) = subst (λ cs. IsTrue (list_any (keeps script.shards shard) cs)) (sym counts-are) (keeps-some (named_by ops) named-ops) in (
@@ -148,7 +161,7 @@ module _ (script : Script) (account : Account) (basis : Basis script account) (s
 
   -- where a commit is: in flight, or on the channel
   pub under-way : (commit : Commit) (place : IsCommitAt account commit) → IsTrue (names v commit)
-      → (home : ℕ) × (IsInFlight account commit home ⊎ IsSentTo home commit place.before)
+      → (home : ℕ) × (CommitIsInFlight account commit home ⊎ IsSentTo home commit place.before)
   under-way commit place named =
       let rule = basis.is.store.judges place.before place.entry place.after place.is in
       let judged : Judgement = judged_by (place.entry).author (place.entry).deed in
@@ -187,25 +200,23 @@ module _ (script : Script) (account : Account) (basis : Basis script account) (s
             (has_map (λ (a : Addressed). a.message) (addressed_to shard (gate_log account home)) made made-sent) in
             subst (λ s. IsTrue (stamp_before stamp s)) of.stamp
             (basis.laws.transitive stamp (past.message).stamp begun.stamp past.later before-flight)
-        | inr sent ↦ by-channel log shown stamp home past made-sent channel.numbers channel.stamps commit place.before unapplied (on-channel home commit place named begun of.request sent)
+        | inr sent ↦ by-channel log shown stamp home past made-sent channel commit place.before unapplied (on-channel home commit place named begun of.request sent)
       ]
     where
       by-channel : (log : List ShardEntry) → Shows script account basis shard v here (arrivals_of log) (processed_of log)
           → (stamp : Stamp) (home : ℕ) (past : IsPast stamp log home)
-          → Contains (addressed_to shard (gate_log account home)) (record { shard = shard; number = past.number; message = past.message })
-          → map (λ (a : Addressed). a.number) (addressed_to shard (gate_log account home)) ≡ range_with_len 1 (length (map (λ (a : Addressed). a.message) (addressed_to shard (gate_log account home))))
-          → AllPairs (λ a b. IsTrue (stamp_before a b)) (stamps_in (addressed_to shard (gate_log account home)))
+          → IsOnChannel home past.number past.message → IsChannel shard (gate_log account home)
           → (commit : Commit) (before : List StoreEntry) → length (updates_of v log) ≤ count_naming v (commits_of before)
           → IsSentTo home commit before → IsTrue (stamp_before stamp commit.stamp)
-      by-channel log shown stamp home past made-sent numbers stamps commit before unapplied on =
+      by-channel log shown stamp home past made-sent channel commit before unapplied on =
           let made : Addressed = record { shard = shard; number = past.number; message = past.message } in
           let all = addressed_to shard (gate_log account home) in
           let numbers-rise : AllPairs (λ a b. a < b) (map (λ (a : Addressed). a.number) all) =
-          subst (AllPairs (λ a b. a < b)) (sym numbers) (range-pairs 1 (length (map (λ (a : Addressed). a.message) all))) in
+          subst (AllPairs (λ a b. a < b)) (sym channel.numbers) (range-pairs 1 (length (map (λ (a : Addressed). a.message) all))) in
           let low : 1 ≤ (on.addressed).number =
           range-low 1 (length (map (λ (a : Addressed). a.message) all)) (on.addressed).number
-          (subst (λ ns. Contains ns (on.addressed).number) numbers (has_map (λ (a : Addressed). a.number) all on.addressed on.has)) in
-          elim (either-sent all numbers-rise stamps on.addressed made on.has made-sent) [
+          (subst (λ ns. Contains ns (on.addressed).number) channel.numbers (has_map (λ (a : Addressed). a.number) all on.addressed on.has)) in
+          elim (either-sent all numbers-rise channel.stamps on.addressed made on.has made-sent) [
             | inl same ↦ subst (λ s. IsTrue (stamp_before stamp s)) (sym (ap (λ (a : Addressed). (a.message).stamp) same) ∙ on.stamp_is) past.later
             | inr (inr later) ↦ subst (λ s. IsTrue (stamp_before stamp s)) on.stamp_is (basis.laws.transitive stamp (past.message).stamp ((on.addressed).message).stamp past.later later.1)
             | inr (inl earlier) ↦
@@ -215,7 +226,7 @@ module _ (script : Script) (account : Account) (basis : Basis script account) (s
                 shown.all home (on.addressed).number low (omega (arith, lt, within)) in
                 let there = shown.there (home, (on.addressed).number) done in
                 let sent-there = shown.sent home (on.addressed).number there.0 there.1 in
-                let one : record { shard = shard; number = (on.addressed).number; message = there.0 } ≡ on.addressed = elim (either-sent all numbers-rise stamps (record { shard = shard; number = (on.addressed).number; message = there.0 }) on.addressed sent-there on.has) [
+                let one : record { shard = shard; number = (on.addressed).number; message = there.0 } ≡ on.addressed = elim (either-sent all numbers-rise channel.stamps (record { shard = shard; number = (on.addressed).number; message = there.0 }) on.addressed sent-there on.has) [
                   | inl is ↦ is
                   | inr (inl less) ↦ absurd (let l = less.0 in omega (arith, l))
                   | inr (inr more) ↦ absurd (let l = more.0 in omega (arith, l))

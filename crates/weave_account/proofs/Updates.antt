@@ -1,5 +1,6 @@
 -- The updates applied to a vertex in an account are the first commits that name it, in the order of their numbers. It
 -- rests on the clauses on channels, the store and shards.
+-- Used by KnownClocks, OneReport, PlacedPairs, ReadingPlace, Unprocessed, Visiting and VisitsStay.
 use Rattle.std.proofs.Common.{◌≡◌, ℕ, ◌≤◌, List, ◌++◌, length, Contains}
 use Rattle.weave_data.specs.Names.{shard_of}
 use Rattle.weave_data.specs.declared.name.Name.{Name}
@@ -44,7 +45,7 @@ module _ (script : Script) (account : Account) (basis : Basis script account) (s
   abbrev pub Shows : List Arrival → List (ℕ × ℕ) → Type 0
   Shows arrivals numbers = applying.Shows account.store v WasSent sent-brings arrivals numbers
 
-  -- so it is of each log of the shard
+  -- this holds of each log of the shard
   pub shows : (log : List ShardEntry)
       → AreShardDeeds script account shard log
       → Shows (arrivals_of log) (processed_of log)

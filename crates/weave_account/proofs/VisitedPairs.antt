@@ -1,9 +1,10 @@
--- The later end of a pair that a visit added: a program, which visits the vertex at its place where it is finished.
+-- The later end of a pair that a visit added: a program, which visits the vertex at its place if it is finished.
+-- Used by OneReport, PhaseOrder, PlacedPairs and RightReport.
 use Rattle.std.proofs.Common.{◌≡◌, ℕ, ◌==◌, ◌&&◌, List, [], ◌∷◌, take, Contains, IsTrue, Option, Some, None, inl, inr, refl, sym, ap, subst, ◌∙◌}
 use Rattle.std.specs.List.{filter}
 use Rattle.std.specs.Map.{keys_of}
 use Rattle.std.proofs.lemmas.Bool.{and_parts, or_left, or_right, eq-eqb}
-use Rattle.proof_base.proofs.Members.{has_read, has_none, cut_at, has_map, has_filter, has_flat}
+use Rattle.weave_data.proofs.Members.{has_read, has_none, cut_at, has_map, has_filter, has_flat}
 use Rattle.weave_data.specs.Names.{same_name}
 use Rattle.weave_data.specs.declared.name.Name.{Name}
 use Rattle.graph_ops.specs.Mentions.{is_among}
@@ -39,7 +40,7 @@ use Rattle.weave_account.proofs.Beginning.{list-there}
 use Rattle.weave_account.proofs.Listed.{listed-is, in-begun}
 use Rattle.weave_account.proofs.ListingClause.{final-begun}
 use Rattle.weave_account.proofs.Meeting.{visit-there, read-visited-there}
-use Rattle.proof_base.proofs.Images.{flat-has}
+use Rattle.weave_data.proofs.Images.{flat-has}
 use Rattle.weave_account.proofs.SameName.{same_name-refl}
 use Rattle.weave_account.proofs.Printing.{has-order}
 use Rattle.weave_account.proofs.Replies.{has-reply}

@@ -1,12 +1,13 @@
 -- What a visit reads: of the commits that name its vertex the first ones precede the program, and the program
 -- precedes all others. It rests on the clause on shards, and on "nothing unprocessed precedes".
+-- Used by Meeting, OneReport, ReadingPlace, RefusalsClause and VisitsSee.
 use Rattle.std.proofs.Common.{◌≡◌, ℕ, zero, suc, ◌-◌, ◌<◌, ◌≤◌, cond, List, [], ◌∷◌, ◌++◌, map, length, take, drop, Contains, AllPairs, IsTrue, Some, inl, inr, refl, sym, ap, subst, ◌∙◌, arith}
 use Rattle.std.specs.Prelude.{slice_get}
 use Rattle.std.specs.Option.{option_map}
 use Rattle.std.proofs.lemmas.Bool.{cases_lt}
 use Rattle.std.proofs.lemmas.List.{length-map}
 use Rattle.std.proofs.lemmas.Option.{slice_get-map}
-use Rattle.proof_base.proofs.Members.{has_read, has_head, has_tail, has_none, filter_has, cut_at}
+use Rattle.weave_data.proofs.Members.{has_read, has_head, has_tail, has_none, filter_has, cut_at}
 use Rattle.vector_stamp.specs.declared.clock.Stamp.{Stamp}
 use Rattle.vector_stamp.specs.Order.{stamp_before}
 use Rattle.vector_stamp.specs.Precedence.{ByStamps, Through}
@@ -24,8 +25,8 @@ use Rattle.std.proofs.lemmas.List.Elements.{filter-append, Contains-append_cases
 use Rattle.weave_account.specs.declared.account.Account.{Account}
 use Rattle.weave_account.specs.Account.{pairs_in, commits_in, Precedence}
 use Rattle.weave_account.specs.Shards.{AreShardDeeds, update_at, IsRightVisit}
-use Rattle.proof_base.proofs.Ordered.{pairs_across}
-use Rattle.proof_base.proofs.Images.{flat-has}
+use Rattle.weave_data.proofs.Ordered.{pairs_across}
+use Rattle.weave_data.proofs.Images.{flat-has}
 use Rattle.weave_account.proofs.Ordering.{Earlier, ordered}
 use Rattle.weave_account.specs.Shards.{update_of}
 use Rattle.weave_account.proofs.Sessions.{take-more, cut-here, take-drop}

@@ -1,4 +1,5 @@
 -- The clause on visits in its literal form.
+-- Used by `visits_see_what_precedes`.
 use Rattle.std.proofs.Common.{◌≡◌, ℕ, ◌<◌, Bool, List, ◌∷◌, ◌++◌, take, drop, Contains, sym, subst, arith}
 use Rattle.vector_stamp.specs.declared.clock.Stamp.{Stamp}
 use Rattle.weave_data.specs.declared.name.Name.{Name}
@@ -6,12 +7,12 @@ use Rattle.program_defs.specs.declared.script.Script.{Script}
 use Rattle.weave_entries.specs.declared.shard_log.ShardEntry.{ShardEntry}
 use Rattle.weave_entries.specs.declared.shard_log.ShardDeed.TheVariants.{Visited}
 use Rattle.weave_entries.specs.StoreReplay.{Commit, commits_naming}
-use Rattle.proof_base.proofs.Entries.{each_before}
+use Rattle.weave_data.proofs.Entries.{each_before}
 use Rattle.weave_account.specs.declared.account.Account.{Account}
 use Rattle.weave_account.specs.Account.{Precedence, shard_log, commits_in}
 use Rattle.weave_account.specs.Shards.{AreShardDeeds, IsRightVisit, ShardFitsAs}
-use Rattle.proof_base.proofs.Members.{has_cut}
-use Rattle.proof_base.proofs.Images.{within-list}
+use Rattle.weave_data.proofs.Members.{has_cut}
+use Rattle.weave_data.proofs.Images.{within-list}
 use Rattle.weave_account.proofs.Visiting.{seen-precede, others-follow}
 use Rattle.weave_account.proofs.Basis.{Basis}
 

@@ -1,10 +1,11 @@
 -- What visits saw and read stays the same while the logs go on. It rests on the clause on shards.
+-- Used by `facts_stay_true` and crates seen_logs and weaver_hands.
 use Rattle.std.proofs.Common.{◌≡◌, ℕ, zero, suc, ◌≤◌, ◌==◌, List, [], ◌∷◌, ◌++◌, map, length, get_or, take, Contains, IsTrue, ◌⊎◌, inl, inr, refl, sym, ap, subst, ◌∙◌, arith}
 use Rattle.std.specs.List.{filter, flat_map}
-use Rattle.std.proofs.lemmas.List.{append-nil, length-append, length-map, map-append}
+use Rattle.std.proofs.lemmas.List.{append-nil, length-append, length-map, map-append, take-append-le}
 use Rattle.std.proofs.lemmas.List.Concat.{flat_map-append}
 use Rattle.std.proofs.lemmas.List.Elements.{Contains-append_left, filter-append}
-use Rattle.proof_base.proofs.Members.{has_head, has_tail, filter_has}
+use Rattle.weave_data.proofs.Members.{has_head, has_tail, filter_has}
 use Rattle.weave_data.specs.declared.name.Name.{Name}
 use Rattle.graph_ops.specs.Operations.{State}
 use Rattle.vector_stamp.specs.declared.clock.Stamp.{Stamp}
@@ -26,26 +27,20 @@ use Rattle.weave_account.proofs.Meeting.{visit-fits}
 use Rattle.weave_account.proofs.Updates.{go-on, grows}
 
 -- the last of the first n elements is that of a longer list
-seen-front : (n : ℕ) (xs ys : List Stamp) → n ≤ length xs → last_seen n (xs ++ ys) ≡ last_seen n xs
+pub seen-front : (n : ℕ) (xs ys : List Stamp) → n ≤ length xs → last_seen n (xs ++ ys) ≡ last_seen n xs
 seen-front zero xs ys le = refl
 seen-front (suc n) [] ys le = absurd (omega (arith, le))
 seen-front (suc zero) (x ∷ xs) ys le = refl
 seen-front (suc (suc n)) (x ∷ xs) ys le = seen-front (suc n) xs ys (omega (arith, le))
 
--- the first elements are those of a longer list
-take-within : {A : Type 0} (n : ℕ) (xs ys : List A) → n ≤ length xs → take n (xs ++ ys) ≡ take n xs
-take-within zero xs ys le = refl
-take-within (suc n) [] ys le = absurd (omega (arith, le))
-take-within (suc n) (x ∷ xs) ys le = ap (λ zs. x ∷ zs) (take-within n xs ys (omega (arith, le)))
-
 -- two images of a list, alike at each member
-map-alike : {A B : Type 0} (f g : A → B) (xs : List A) → ((x : A) → Contains xs x → f x ≡ g x) → map f xs ≡ map g xs
+pub map-alike : {A B : Type 0} (f g : A → B) (xs : List A) → ((x : A) → Contains xs x → f x ≡ g x) → map f xs ≡ map g xs
 map-alike f g [] same = refl
 map-alike f g (x ∷ xs) same =
     ap (λ y. y ∷ map f xs) (same x (has_head x xs)) ∙ ap (λ ys. g x ∷ ys) (map-alike f g xs (λ y h. same y (has_tail x xs y h)))
 
 -- the images of two lists of lists, put together, if they are alike at each place
-flat-alike : {A B : Type 0} (f : List A → List B) → f [] ≡ [] → (xss yss : List (List A))
+pub flat-alike : {A B : Type 0} (f : List A → List B) → f [] ≡ [] → (xss yss : List (List A))
     → ((i : ℕ) → f (get_or xss i []) ≡ f (get_or yss i [])) → flat_map f xss ≡ flat_map f yss
 flat-alike f empty [] [] same = refl
 flat-alike f empty [] (ys ∷ yss) same =
@@ -56,11 +51,11 @@ flat-alike f empty (xs ∷ xss) (ys ∷ yss) same =
     ap (λ l. l ++ flat_map f xss) (same 0) ∙ ap (λ l. f ys ++ l) (flat-alike f empty xss yss (λ i. same (suc i)))
 
 -- a vertex with its state after updates
-abbrev with-state : Name → List Update → Name × State
+abbrev pub with-state : Name → List Update → Name × State
 with-state v us = (v, state_of_updates us)
 
 -- what a visit reads at the end of a log
-abbrev read-in : List ShardEntry → Visit → Name × State
+abbrev pub read-in : List ShardEntry → Visit → Name × State
 read-in log visit = (visit.vertex, state_of_updates (take visit.updates (updates_of visit.vertex log)))
 
 -- a program, and what a visit of it saw last
@@ -141,7 +136,7 @@ module _ (script : Script) (account next : Account) (basis : Basis script accoun
   read-stays shard visit h =
       let longer = updates-go-on shard visit h in
       ap (with-state visit.vertex)
-      (ap (take visit.updates) longer.are ∙ take-within visit.updates (updates_of visit.vertex (shard_log account shard)) longer.rest longer.within)
+      (ap (take visit.updates) longer.are ∙ take-append-le visit.updates (updates_of visit.vertex (shard_log account shard)) longer.rest longer.within)
 
   -- what a request read in a shard goes on
   pub reads-go-on : (r shard : ℕ) → IsBeginningOf (reads_in r (shard_log account shard)) (reads_in r (shard_log next shard))
@@ -190,7 +185,7 @@ module _ (script : Script) (account next : Account) (basis : Basis script accoun
       ap (λ visits. map (seen-in (shard_log next shard)) (filter (λ (visit : Visit). visit.settled) visits)) (same shard)
       ∙ map-alike (seen-in (shard_log next shard)) (seen-in (shard_log account shard)) its (λ visit h. ap (λ stamps. (visit.request, stamps)) (seen-stays shard visit (filter_has (λ (visit : Visit). visit.settled) (visits_of (shard_log account shard)) visit h).0)))
 
-  -- a request that has as many reads in each shard has the same ones
+  -- a request that has the same number of reads in each shard has the same ones
   pub reads-same : (r : ℕ)
       → ((shard : ℕ) → length (reads_in r (shard_log next shard)) ≡ length (reads_in r (shard_log account shard)))
       → reads_of next r ≡ reads_of account r

@@ -1,8 +1,7 @@
 -- A loop in time: a gatekeeper hears of an event before the one that this event rests on was made. Every count is
 -- known at the end, and stamps rise.
-use Rattle.std.proofs.Common.{ℕ, [], ◌∷◌, IsTrue, None, refl}
+use Rattle.std.proofs.Common.{[], ◌∷◌, IsTrue, None, refl}
 use Rattle.std.specs.Prelude.{codes}
-use Rattle.vector_stamp.specs.declared.clock.Clock.{Clock}
 use Rattle.vector_stamp.specs.declared.clock.Stamp.{Stamp}
 use Rattle.vector_stamp.specs.Clocks.{counts_no_more}
 use Rattle.program_defs.specs.declared.script.Request.{Request}
@@ -15,9 +14,7 @@ use Rattle.weave_entries.specs.declared.store_log.StoreDeed.TheVariants.{Judged}
 use Rattle.weave_entries.specs.declared.verdict.Verdict.TheVariants.{Committed}
 use Rattle.weave_account.specs.declared.account.Account.{Account}
 use Rattle.weave_account.specs.IsAccount.{IsAccount}
-
-abbrev clock : ℕ → ℕ → ℕ → Clock
-clock a b c = record { epoch = 0; counts = a ∷ b ∷ c ∷ 0 ∷ 0 ∷ 0 ∷ 0 ∷ 0 ∷ [] }
+use Rattle.weave_account.proofs.ExampleParts.{clock-in}
 
 -- two empty transactions of one session: the first at gatekeeper 1, the second at gatekeeper 0
 abbrev first : Request
@@ -31,13 +28,13 @@ script = record { gates = 3; shards = 1; requests = first ∷ second ∷ []; pha
 
 -- the first has counted an event of gatekeeper 0, which is the begin of the second
 abbrev begins-first : Stamp
-begins-first = record { home = 1; clock = clock 1 1 0 }
+begins-first = record { home = 1; clock = clock-in 0 1 1 0 }
 
 abbrev begins-second : Stamp
-begins-second = record { home = 0; clock = clock 1 1 1 }
+begins-second = record { home = 0; clock = clock-in 0 1 1 1 }
 
 abbrev hears-third : GateEntry
-hears-third = record { author = 0; deed = Heard (clock 0 0 1) }
+hears-third = record { author = 0; deed = Heard (clock-in 0 0 0 1) }
 
 abbrev begins-after : GateEntry
 begins-after = record { author = 0; deed = BeganTx 1 begins-second }
@@ -46,8 +43,8 @@ abbrev account : Account
 account = record {
   gates =
       (hears-third ∷ begins-after ∷ [])
-      ∷ (record { author = 0; deed = Heard (clock 1 0 0) } ∷ record { author = 0; deed = BeganTx 0 begins-first } ∷ record { author = 0; deed = Sent 0 [] } ∷ [])
-      ∷ (record { author = 0; deed = Nop 0 1 (record { home = 2; clock = clock 0 0 1 }) (clock 0 0 1) } ∷ [])
+      ∷ (record { author = 0; deed = Heard (clock-in 0 1 0 0) } ∷ record { author = 0; deed = BeganTx 0 begins-first } ∷ record { author = 0; deed = Sent 0 [] } ∷ [])
+      ∷ (record { author = 0; deed = Nop 0 1 (record { home = 2; clock = clock-in 0 0 0 1 }) (clock-in 0 0 0 1) } ∷ [])
       ∷ [];
   store = record { author = 0; deed = Judged 0 begins-first [] [] (Committed 1 [] []) } ∷ [];
   oracle = [];
@@ -59,6 +56,6 @@ account = record {
 
 pub loop-in-time : ¬ IsAccount script account
 loop-in-time is =
-    let hears : IsTrue (counts_no_more 0 (clock 0 0 1) (clock 1 1 0)) =
+    let hears : IsTrue (counts_no_more 0 (clock-in 0 0 0 1) (clock-in 0 1 1 0)) =
     (is.gatekeepers.begins 0 (hears-third ∷ []) begins-after [] refl).hears_no_more begins-first refl in
     cc

@@ -1,7 +1,7 @@
 -- Logs that are no account, each shown by one clause.
 use Rattle.std.proofs.Common.{◌≡◌, ℕ, true, false, List, [], ◌∷◌, ◌++◌, map, length, Contains, IsTrue, Some, inl, inr, refl, sym, ap, subst, ◌∙◌, arith}
 use Rattle.std.specs.List.{flat_map}
-use Rattle.proof_base.proofs.Members.{has_none, has_read, has_head, only}
+use Rattle.weave_data.proofs.Members.{has_none, has_read, has_head, only}
 use Rattle.vector_stamp.specs.declared.clock.Stamp.{Stamp}
 use Rattle.vector_stamp.specs.Precedence.{Precedes, precedes}
 use Rattle.graph_ops.specs.declared.part.Part.{Part}
@@ -23,10 +23,12 @@ use Rattle.weave_entries.specs.Sending.{messages_of}
 use Rattle.weave_account.specs.declared.account.Account.{Account}
 use Rattle.weave_account.specs.Account.{Precedence, shard_log}
 use Rattle.weave_account.specs.IsAccount.{IsAccount}
-use Rattle.weave_account.specs.LowerLaws.{LowerLaws}
+use Rattle.weave_account.specs.LowerLaws.{LawsForAccounts}
 use Rattle.weave_account.proofs.ExampleReader as reader
 use Rattle.weave_account.proofs.ExampleWriters as writers
 use Rattle.weave_account.proofs.ExampleMarked as marks
+use Rattle.weave_account.proofs.Applying.{same-head}
+use Rattle.weave_account.proofs.ExampleParts.{clock}
 use Rattle.std.proofs.lemmas.List.{length-append}
 use Rattle.std.specs.Prelude.{codes}
 use Rattle.graph_ops.specs.declared.op.Op.TheVariants.{Create, Set}
@@ -41,22 +43,19 @@ use Rattle.weave_entries.specs.GateReplay.{Begun, txs_of}
 -- Of two unordered writers
 
 -- the second commits, and the oracle has no pair
-pub no-pair : LowerLaws → ¬ IsAccount writers.script (record writers.account { oracle = [] })
+pub no-pair : LawsForAccounts → ¬ IsAccount writers.script (record writers.account { oracle = [] })
 no-pair laws is =
     let before : Precedence (record writers.account { oracle = [] }) writers.x writers.y =
     (is.store.judges (writers.j1 ∷ []) writers.j2 [] refl).verdict.after_last writers.v refl _ refl in
     let test : IsTrue (precedes [] writers.x writers.y) = (laws.decided [] writers.x writers.y).0 before in
     cc
 
--- the oracle was asked of a stamp beside that of the last commit
+-- the oracle was asked of a stamp besides that of the last commit
 abbrev zero-stamp : Stamp
-zero-stamp = record { home = 0; clock = writers.clock 0 0 }
+zero-stamp = record { home = 0; clock = clock 0 0 }
 
 abbrev asked-of-two : OracleEntry
 asked-of-two = record { author = 0; deed = Settled (zero-stamp ∷ writers.x ∷ []) writers.y (1 ∷ []) }
-
-same-head : {A : Type 0} (x y : A) → x ∷ [] ≡ y ∷ [] → x ≡ y
-same-head x y e = cc
 
 pub other-earlier : ¬ IsAccount writers.script (record writers.account { oracle = asked-of-two ∷ [] })
 other-earlier is = elim (is.oracle.asked asked-of-two (has_head asked-of-two [])) [
@@ -94,7 +93,7 @@ other-earlier is = elim (is.oracle.asked asked-of-two (has_head asked-of-two [])
 -- what one transaction sends is made from the other one's operations
 abbrev of-other : GateEntry
 of-other =
-    record { author = 0; deed = Sent 0 (record { shard = 0; number = 1; message = record writers.m2 { request = Some 0; stamp = writers.x; low = writers.clock 1 0 } } ∷ []) }
+    record { author = 0; deed = Sent 0 (record { shard = 0; number = 1; message = record writers.m2 { request = Some 0; stamp = writers.x; low = clock 1 0 } } ∷ []) }
 
 pub others-verdict : ¬ IsAccount writers.script (record writers.account { gates = (writers.g1 ∷ of-other ∷ []) ∷ (writers.h1 ∷ writers.h2 ∷ []) ∷ [] })
 others-verdict is =
@@ -119,7 +118,7 @@ abbrev skips : Account
 skips =
     record reader.account { shards = (reader.s1 ∷ reader.s2 ∷ reader.s3 ∷ record { author = 0; deed = Visited 1 (reader.stamp 2) reader.v 0 false } ∷ []) ∷ [] }
 
-pub too-early : LowerLaws → ¬ IsAccount reader.script skips
+pub too-early : LawsForAccounts → ¬ IsAccount reader.script skips
 too-early laws is =
     let before : Precedence skips (reader.stamp 2) (reader.stamp 1) =
     (is.shards.deeds 0 (reader.s1 ∷ reader.s2 ∷ reader.s3 ∷ []) (record { author = 0; deed = Visited 1 (reader.stamp 2) reader.v 0 false }) [] refl).before_skipped _ refl in
@@ -251,10 +250,10 @@ pub marked-twice : ¬ IsAccount marks.script (record marks.account { shards = ma
 marked-twice is = is.oracle.once 0 1 (0, []) (omega arith) (omega arith) refl
 
 -- they see the transaction, and the oracle has no pair
-pub sees-unordered : LowerLaws → ¬ IsAccount marks.script (record marks.account { oracle = [] })
+pub sees-unordered : LawsForAccounts → ¬ IsAccount marks.script (record marks.account { oracle = [] })
 sees-unordered laws is =
     let four-before : List ShardEntry =
-    marks.arrives marks.of-b ∷ marks.applies ∷ marks.first-empty (marks.at-first 2 1) (marks.clock 2 1) ∷ marks.second-empty (marks.at-second 0 2) (marks.clock 0 1) ∷ [] in
+    marks.arrives marks.of-b ∷ marks.applies ∷ marks.first-empty (marks.at-first 2 1) (clock 2 1) ∷ marks.second-empty (marks.at-second 0 2) (clock 0 1) ∷ [] in
     let before : Precedence (record marks.account { oracle = [] }) (marks.at-first 1 0) (marks.at-second 0 1) =
     (is.shards.deeds 0 four-before (marks.visits-b false) [] refl).after_seen (omega arith) _ refl in
     let test : IsTrue (precedes [] (marks.at-first 1 0) (marks.at-second 0 1)) =
@@ -301,7 +300,7 @@ abbrev conflicts : StoreEntry
 conflicts =
     record { author = 0; deed = Judged 1 writers.y (Set writers.v (codes "k") (codes "x") ∷ []) (writers.v ∷ []) (Conflict writers.v 0) }
 
-pub conflict-with-unordered : LowerLaws
+pub conflict-with-unordered : LawsForAccounts
     → ¬ IsAccount writers.script (record writers.account { store = writers.j1 ∷ conflicts ∷ []; oracle = [] })
 conflict-with-unordered laws is =
     let verdict = (is.store.judges (writers.j1 ∷ []) conflicts [] refl).verdict in

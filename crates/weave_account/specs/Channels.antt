@@ -8,18 +8,21 @@ use Rattle.weave_entries.specs.declared.message.Addressed.{Addressed}
 use Rattle.weave_entries.specs.Logs.{AtEachEntry}
 use Rattle.weave_entries.specs.Sending.{messages_of}
 use Rattle.weave_entries.specs.StoreReplay.{Judgement, judgements_of}
+use Rattle.weave_entries.specs.GateReplay.{Begun}
 use Rattle.weave_account.specs.declared.account.Account.{Account}
 use Rattle.weave_account.specs.Account.{gate_log}
 
 -- what is sent was judged, and its messages are those of its operations and its verdict. That its author asked for
 -- the judgement follows: both began it.
-pub record SendsJudged (account : Account) (shards : ℕ) (before : List GateEntry) (author r : ℕ) (messages : List Addressed) : Type 0 where
+pub record SendsJudged (account : Account) (shards : ℕ) (before : List GateEntry) (author r : ℕ)
+    (messages : List Addressed) : Type 0 where
   pub judged : Judgement
   pub is_judged : Contains (judgements_of account.store) judged
   pub request_is : judged.request ≡ r
-  pub messages_are : messages ≡ messages_of shards before (record { author = author; request = r; stamp = judged.stamp }) judged.ops judged.verdict
+  pub messages_are : (let tx : Begun = record { author = author; request = r; stamp = judged.stamp } in
+      messages ≡ messages_of shards before tx judged.ops judged.verdict)
 
--- a deed sends so, if it sends
+-- what a deed sends, if it sends, is sent like this
 abbrev pub SendsAs : Account → ℕ → List GateEntry → ℕ → GateDeed → Type 0
 SendsAs account shards before author (Sent r messages) = SendsJudged account shards before author r messages
 SendsAs account shards before author _ = ⊤
@@ -28,4 +31,6 @@ SendsAs account shards before author _ = ⊤
 -- gatekeeper's log.
 abbrev pub ChannelsClause : Script → Account → Type 0
 ChannelsClause script account =
-    (home : ℕ) → AtEachEntry (λ before (entry : GateEntry). SendsAs account script.shards before entry.author entry.deed) (gate_log account home)
+    (home : ℕ) → AtEachEntry
+    (λ before (entry : GateEntry). SendsAs account script.shards before entry.author entry.deed)
+    (gate_log account home)

@@ -1,4 +1,4 @@
--- What the logs of gatekeepers keep together, beside what each such log keeps by itself: each request begins once, at
+-- What the logs of gatekeepers keep together, besides what each such log keeps by itself: each request begins once, at
 -- its own gatekeeper, after what its session had begun last.
 use Rattle.std.specs.Prelude.{◌≡◌, ◌≢◌, ℕ, Bool, ◌==◌, ◌&&◌, List, reverse, find, length, AllPairs, IsTrue, Option, ⊤}
 use Rattle.std.specs.List.{range_with_len}
@@ -31,14 +31,17 @@ last_stamp script account r = option_and_then (stamp_of account) (request_before
 -- A request begins at its own gatekeeper, as the kind of work that it is. The stamp of the request before it in its
 -- session, if any, is heard first, and counts no more of the gatekeeper's events than it made. The new stamp's numbers
 -- have 64 bits.
-pub record BeginsRequest (script : Script) (account : Account) (is_kind : Work → Bool) (home : ℕ) (before : List GateEntry)
+pub record BeginsRequest (script : Script) (account : Account) (is_kind : Work
+    → Bool) (home : ℕ) (before : List GateEntry)
     (r : ℕ) (stamp : Stamp) : Type 0 where
-  pub own : IsTrue (is_some_and (λ (request : Request). (request.gate == home) && is_kind request.work) (request_at script r))
+  pub own : IsTrue (is_some_and (λ (request : Request). (request.gate == home) && is_kind request.work)
+      (request_at script r))
   pub stamp_is : stamp ≡ begun_stamp home (clock_of home before) (last_stamp script account r)
-  pub hears_no_more : ForSome (last_stamp script account r) (λ last. IsTrue (counts_no_more home (clock_of home before) last.clock))
+  pub hears_no_more : ForSome (last_stamp script account r)
+      (λ last. IsTrue (counts_no_more home (clock_of home before) last.clock))
   pub small : IsTrue (has_64_bits stamp.clock)
 
--- a deed begins a request so, if it begins one: a transaction by `BeganTx`, a program by `BeganProgram`
+-- a request that a deed begins, begins like this: a transaction by `BeganTx`, a program by `BeganProgram`
 abbrev pub BeginsAs : Script → Account → ℕ → List GateEntry → GateDeed → Type 0
 BeginsAs script account home before (BeganTx r stamp) = BeginsRequest script account is_change home before r stamp
 BeginsAs script account home before (BeganProgram r stamp) = BeginsRequest script account is_look home before r stamp
@@ -55,5 +58,6 @@ pub record GatekeepersClause (script : Script) (account : Account) : Type 0 wher
   pub as_many : length account.gates ≡ script.gates
   pub logs : (home : ℕ) → IsGateLog home script.shards (gate_log account home)
   pub begins : (home : ℕ)
-      → AtEachEntry (λ before (entry : GateEntry). BeginsAs script account home before entry.deed) (gate_log account home)
+      → AtEachEntry (λ before (entry : GateEntry). BeginsAs script account home before entry.deed)
+      (gate_log account home)
   pub once : BeginEachOnce account

@@ -1,4 +1,4 @@
--- The laws of the crates below that the laws of accounts stand on, in one. No public contract cites this.
+-- The laws of the crates below that the laws of accounts rely on, in one record. No public contract cites this.
 use Rattle.std.specs.Prelude.{◌≡◌, ◌≢◌, ◌↔◌, ◌⊎◌, ℕ, ◌<◌, ◌≤◌, max, min, List, [], map, take, length, AllPairs, Contains, IsTrue, Some, Ok, is_ok, slice_get}
 use Rattle.weave_data.specs.declared.name.Name.{Name}
 use Rattle.graph_ops.specs.declared.op.Op.{Op}
@@ -34,7 +34,7 @@ use Rattle.weave_entries.specs.OracleRules.{IsOracleLog}
 
 -- stamps and precedence are ordered, logs of gatekeepers and the oracle keep what their rules imply, transactions
 -- depend on the vertices that they name, and programs on those that they visit
-pub record LowerLaws : Type 0 where
+pub record LawsForAccounts : Type 0 where
   -- Stamps and precedence
   pub irreflexive : (a : Stamp) → ¬ IsTrue (stamp_before a a)
   pub transitive : (a b c : Stamp) → IsTrue (stamp_before a b) → IsTrue (stamp_before b c) → IsTrue (stamp_before a c)
@@ -44,7 +44,8 @@ pub record LowerLaws : Type 0 where
   pub each_count : (a b : Clock) → IsTrue (is_before a b)
       → (a.epoch < b.epoch) ⊎ ((a.epoch ≡ b.epoch) × ((gate : ℕ) → count_of gate a ≤ count_of gate b))
   pub same_stamps : (a b : Stamp) → IsTrue (same_stamp a b) ↔ (a ≡ b)
-  pub coherent_apart : (stamps : List Stamp) (a b : Stamp) → AreCoherent stamps → Contains stamps a → Contains stamps b → a ≢ b
+  pub coherent_apart : (stamps : List Stamp) (a b : Stamp) → AreCoherent stamps → Contains stamps a → Contains stamps b
+      → a ≢ b
       → IsTrue (are_apart a b)
   pub in_place : (pairs : List Given) (earlier : List Stamp) (later : Stamp) (place : ℕ) (event : Stamp)
       → Contains (additions_from 0 pairs earlier later) (place, event) → slice_get earlier place ≡ Some event
@@ -66,16 +67,20 @@ pub record LowerLaws : Type 0 where
       → clock.epoch < heard.epoch → gate ≢ home
       → count_of gate (clock_after_hearing home clock heard) ≡ count_of gate heard
   -- Logs of gatekeepers
-  pub rise : (home shards : ℕ) (log : List GateEntry) → home < 8 → IsGateLog home shards log → StampsRise (stamps_of log)
-  pub coherent : (home shards : ℕ) (log : List GateEntry) → home < 8 → IsGateLog home shards log → AreCoherent (stamps_of log)
+  pub rise : (home shards : ℕ) (log : List GateEntry) → home < 8 → IsGateLog home shards log
+      → StampsRise (stamps_of log)
+  pub coherent : (home shards : ℕ) (log : List GateEntry) → home < 8 → IsGateLog home shards log
+      → AreCoherent (stamps_of log)
   pub stamps_under : (home shards : ℕ) (log : List GateEntry) → home < 8 → IsGateLog home shards log → (stamp : Stamp)
       → Contains (stamps_of log) stamp → IsTrue (is_at_most stamp.clock (clock_of home log))
   pub stamps_home : (home shards : ℕ) (log : List GateEntry) → home < 8 → IsGateLog home shards log → (stamp : Stamp)
       → Contains (stamps_of log) stamp → stamp.home ≡ home
   pub eight_each : (home shards : ℕ) (log : List GateEntry) → home < 8 → IsGateLog home shards log → (stamp : Stamp)
       → Contains (stamps_of log) stamp → HasEightCounts stamp.clock
-  pub own_stamp : (log : List GateEntry) (begun : Begun) → Contains (begun_in log) begun → Contains (stamps_of log) begun.stamp
-  pub channel : (home shards shard : ℕ) (log : List GateEntry) → home < 8 → IsGateLog home shards log → IsChannel shard log
+  pub own_stamp : (log : List GateEntry) (begun : Begun) → Contains (begun_in log) begun
+      → Contains (stamps_of log) begun.stamp
+  pub channel : (home shards shard : ℕ) (log : List GateEntry) → home < 8 → IsGateLog home shards log
+      → IsChannel shard log
   pub before_flight : (home shards shard : ℕ) (log : List GateEntry) → home < 8 → IsGateLog home shards log
       → (flight : Begun) → flight_of log ≡ Some flight → (message : Message) → Contains (channel_of shard log) message
       → IsTrue (stamp_before message.stamp flight.stamp)

@@ -12,14 +12,15 @@ use Rattle.weave_account.specs.Account.{gate_log}
 
 -- its message is on the channel from this gatekeeper to the vertex's shard, with the vertex's operations and the
 -- number of commits at the vertex before it
-pub record IsOnChannel (script : Script) (account : Account) (commit : Commit) (v : Name) (count home : ℕ) : Type 0 where
-  pub addressed : Addressed
-  pub sent : Contains (addressed_to (shard_of v script.shards) (gate_log account home)) addressed
-  pub stamp_is : addressed.message.stamp ≡ commit.stamp
-  pub part_there : Contains addressed.message.parts (record { vertex = v; before = count; ops = ops_on v commit.ops })
+pub record IsOnChannel (script : Script) (account : Account) (commit : Commit) (v : Name) (count home : ℕ) : Type 0
+  where
+    pub addressed : Addressed
+    pub sent : Contains (addressed_to (shard_of v script.shards) (gate_log account home)) addressed
+    pub stamp_is : addressed.message.stamp ≡ commit.stamp
+    pub part_there : Contains addressed.message.parts (record { vertex = v; before = count; ops = ops_on v commit.ops })
 
 -- the commit is in flight at this gatekeeper
-pub record IsInFlight (account : Account) (commit : Commit) (home : ℕ) : Type 0 where
+pub record CommitIsInFlight (account : Account) (commit : Commit) (home : ℕ) : Type 0 where
   pub flight : Begun
   pub flies : flight_of (gate_log account home) ≡ Some flight
   pub request_is : flight.request ≡ commit.request
@@ -28,4 +29,4 @@ pub record IsInFlight (account : Account) (commit : Commit) (home : ℕ) : Type 
 -- it is in flight at a gatekeeper, or on the channel from there
 pub record IsOnTheWay (script : Script) (account : Account) (commit : Commit) (v : Name) (count : ℕ) : Type 0 where
   pub home : ℕ
-  pub place : IsInFlight account commit home ⊎ IsOnChannel script account commit v count home
+  pub place : CommitIsInFlight account commit home ⊎ IsOnChannel script account commit v count home

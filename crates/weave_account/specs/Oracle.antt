@@ -52,7 +52,8 @@ pub record HasItsEntry (account : Account) (log : List ShardEntry) (visit : Visi
 -- the visits of a shard that are marked as settled, each with its program and what it saw last
 abbrev pub marked_in : List ShardEntry → List (ℕ × List Stamp)
 marked_in log =
-    map (λ (visit : Visit). (visit.request, seen_last log visit)) (filter (λ (visit : Visit). visit.settled) (visits_of log))
+    map (λ (visit : Visit). (visit.request, seen_last log visit))
+    (filter (λ (visit : Visit). visit.settled) (visits_of log))
 
 -- Oracle: the log keeps the oracle's rule, so each pair was added when stamps and the pairs before left its two open.
 -- Each entry is that of one commit or of one marked visit, and each marked visit has one.

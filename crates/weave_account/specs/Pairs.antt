@@ -13,7 +13,8 @@ use Rattle.weave_account.specs.Account.{shard_log, stamp_of, commits_in}
 
 -- the first of these vertices at which the last of these commits is that request
 abbrev pub first_after : List Commit → ℕ → List Name → Option Name
-first_after before r vertices = find (λ v. is_some_and (λ (last : Commit). last.request == r) (last_naming v before)) vertices
+first_after before r vertices =
+    find (λ v. is_some_and (λ (last : Commit). last.request == r) (last_naming v before)) vertices
 
 -- a commit added the pair: it is the later one, and the vertex is the first of those asked at which the earlier one
 -- was the last commit
@@ -25,7 +26,8 @@ pub record IsAddedByCommit (account : Account) (pair : Pair) : Type 0 where
   pub commit : Commit
   pub commit_is : commit_by entry.deed ≡ commit ∷ []
   pub later_is : commit.request ≡ pair.later
-  pub vertex_is : first_after (commits_of before) pair.earlier (judged_by entry.author entry.deed).asked ≡ Some pair.vertex
+  pub vertex_is : first_after (commits_of before) pair.earlier (judged_by entry.author entry.deed).asked
+      ≡ Some pair.vertex
 
 -- a visit added the pair: it is marked as settled, its program is the later one, and the last commit that it saw at
 -- the vertex is the earlier one
@@ -37,7 +39,8 @@ pub record IsAddedByVisit (account : Account) (pair : Pair) : Type 0 where
   pub later_is : visit.request ≡ pair.later
   pub vertex_is : visit.vertex ≡ pair.vertex
   pub sees : 0 < visit.updates
-  pub last_is : IsSomeAnd (slice_get (commits_naming pair.vertex (commits_in account)) (visit.updates - 1)) (λ (commit : Commit). commit.request ≡ pair.earlier)
+  pub last_is : IsSomeAnd (slice_get (commits_naming pair.vertex (commits_in account)) (visit.updates - 1))
+      (λ (commit : Commit). commit.request ≡ pair.earlier)
 
 -- the pair of requests is this pair of the oracle's, and was added by a commit or by a visit
 pub record IsPairInAccount (account : Account) (pair : Pair) (given : Given) : Type 0 where
@@ -48,5 +51,6 @@ pub record IsPairInAccount (account : Account) (pair : Pair) (given : Given) : T
 -- the pairs of requests are those of the oracle, one by one
 abbrev pub ArePairsOf : Account → List Pair → List Given → Type 0
 ArePairsOf account [] [] = ⊤
-ArePairsOf account (pair ∷ pairs) (given ∷ givens) = IsPairInAccount account pair given × ArePairsOf account pairs givens
+ArePairsOf account (pair ∷ pairs) (given ∷ givens) = IsPairInAccount account pair given
+    × ArePairsOf account pairs givens
 ArePairsOf account _ _ = ⊥

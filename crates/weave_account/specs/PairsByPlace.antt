@@ -22,12 +22,14 @@ use Rattle.weave_account.specs.Oracle.{seen_last}
 -- the request that was begun with this stamp, if there is one
 abbrev pub request_stamped : Account → Stamp → Option ℕ
 request_stamped account stamp =
-    option_map (λ (begun : Begun). begun.request) (find (λ (begun : Begun). same_stamp begun.stamp stamp) (all_begun account))
+    option_map (λ (begun : Begun). begun.request)
+    (find (λ (begun : Begun). same_stamp begun.stamp stamp) (all_begun account))
 
 -- the vertex at a place of what the store asked for this stamp
 abbrev pub vertex_asked : List StoreEntry → Stamp → ℕ → Option Name
 vertex_asked store later place =
-    option_and_then (λ (judged : Judgement). slice_get judged.asked place) (find (λ (judged : Judgement). same_stamp judged.stamp later) (judgements_of store))
+    option_and_then (λ (judged : Judgement). slice_get judged.asked place)
+    (find (λ (judged : Judgement). same_stamp judged.stamp later) (judgements_of store))
 
 -- whether a visit of this shard added the pair: it has the later stamp, is marked as settled, and the last update
 -- that it saw has the earlier one
@@ -43,19 +45,22 @@ vertex_visited_in earlier later log =
 -- and in any of the shards
 abbrev pub vertex_visited : List (List ShardEntry) → Stamp → Stamp → Option Name
 vertex_visited [] earlier later = None
-vertex_visited (log ∷ logs) earlier later = option_or (vertex_visited_in earlier later log) (vertex_visited logs earlier later)
+vertex_visited (log ∷ logs) earlier later =
+    option_or (vertex_visited_in earlier later log) (vertex_visited logs earlier later)
 
 -- a pair of the oracle, added for this place, as a pair of requests with its vertex
 abbrev pub placed_pair : Account → ℕ → Given → Option Pair
 placed_pair account place given =
-    option_and_then (λ (earlier : ℕ). option_and_then (λ (later : ℕ). option_map (λ (v : Name). record { vertex = v; earlier = earlier; later = later })
+    option_and_then (λ (earlier : ℕ). option_and_then
+    (λ (later : ℕ). option_map (λ (v : Name). record { vertex = v; earlier = earlier; later = later })
     (option_or (vertex_asked account.store given.1 place) (vertex_visited account.shards given.0 given.1)))
     (request_stamped account given.1)) (request_stamped account given.0)
 
 -- the pairs of an entry
 abbrev pub placed_by : Account → SettledEntry → List Pair
 placed_by account entry =
-    filter_map (λ (place : ℕ). option_and_then (λ (event : Stamp). placed_pair account place (event, entry.later)) (slice_get entry.earlier place)) entry.places
+    filter_map (λ (place : ℕ). option_and_then (λ (event : Stamp). placed_pair account place (event, entry.later))
+    (slice_get entry.earlier place)) entry.places
 
 -- the pairs of the oracle's log, in the order in which they were added
 abbrev pub placed_pairs : Account → List Pair

@@ -23,7 +23,8 @@ pub record EndsPhase (script : Script) (account : Account) (phase : ℕ) (logs :
       → IsTrue (has_reply_in r (session_log logs request.session))
   pub begun : (begun : Begun) → Contains (all_begun logs) begun → phase_of script begun.request ≤ phase
   pub epochs : (epoch : ℕ) → ¬ IsTrue (is_raised logs epoch)
-  pub pairs : (earlier later : Stamp) (r : ℕ) → Contains (pairs_in account) (earlier, later) → stamp_of account r ≡ Some later
+  pub pairs : (earlier later : Stamp) (r : ℕ) → Contains (pairs_in account) (earlier, later)
+      → stamp_of account r ≡ Some later
       → phase_of script r ≤ phase → Contains (pairs_in logs) (earlier, later)
 
 -- the account is that of a run by phases: before a request of a later phase was begun, each phase had ended with some

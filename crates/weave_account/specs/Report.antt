@@ -51,7 +51,8 @@ IsStateOf account r (Some stamp) (Look program) state = IsStateOfProgram account
 -- a reply has the stamp and the state that its request has in the account
 pub record IsReplyInAccount (script : Script) (account : Account) (reply : Reply) : Type 0 where
   pub stamp_is : reply.stamp ≡ stamp_of account reply.request
-  pub state_is : IsSomeAnd (request_at script reply.request) (λ (request : Request). IsStateOf account reply.request reply.stamp request.work reply.state)
+  pub state_is : IsSomeAnd (request_at script reply.request)
+      (λ (request : Request). IsStateOf account reply.request reply.stamp request.work reply.state)
 
 -- The report
 

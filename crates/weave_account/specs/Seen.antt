@@ -28,21 +28,23 @@ use Rattle.weave_account.specs.Shards.{Applies}
 -- The store
 
 -- operations pass on the graph that these commits leave, and count the commits at each vertex that they name
-pub record PassesAfter (before : List Commit) (ops : List Op) (answers : List Got) (counts : List Counted) : Type 0 where
-  pub graph : PlainGraph
-  pub passes : transaction ops (graph_committed before) ≡ Ok (record { graph = graph; gots = answers })
-  pub counts_are : counts ≡ counts_of ops before
+pub record PassesAfter (before : List Commit) (ops : List Op) (answers : List Got) (counts : List Counted) : Type 0
+  where
+    pub graph : PlainGraph
+    pub passes : transaction ops (graph_committed before) ≡ Ok (record { graph = graph; gots = answers })
+    pub counts_are : counts ≡ counts_of ops before
 
--- so they do, if the verdict is a commit
+-- operations whose verdict is a commit pass like this
 abbrev pub PassesAs : List Commit → List Op → Verdict → Type 0
 PassesAs before ops (Committed number answers counts) = PassesAfter before ops answers counts
 PassesAs before ops (Conflict v newer) = ⊤
 PassesAs before ops (Refused op reason at) = ⊤
 
--- so each entry of a log does after the commits before it
+-- the operations of each entry of a log pass like this after the commits before it
 abbrev pub HavePassed : List StoreEntry → Type 0
 HavePassed log =
-    AtEachEntry (λ before entry. PassesAs (commits_of before) (judged_by entry.author entry.deed).ops (judged_by entry.author entry.deed).verdict) log
+    AtEachEntry (λ before entry. PassesAs (commits_of before) (judged_by entry.author entry.deed).ops
+    (judged_by entry.author entry.deed).verdict) log
 
 -- The shard
 
@@ -62,7 +64,7 @@ pub record IsOfJudgement (shards : ℕ) (store : List StoreEntry) (shard : ℕ) 
 abbrev pub IsMade : ℕ → List StoreEntry → ℕ → Message → Type 0
 IsMade shards store shard message = (message.parts ≡ []) ⊎ IsOfJudgement shards store shard message
 
--- what arrives was made so, and what is applied is applied in its turn
+-- what arrives was made like this, and what is applied is applied in its turn
 abbrev pub TakesAs : ℕ → List StoreEntry → ℕ → List ShardEntry → ShardDeed → Type 0
 TakesAs shards store shard before (Arrived home number message) = IsMade shards store shard message
 TakesAs shards store shard before (Applied home number) = Applies before home number

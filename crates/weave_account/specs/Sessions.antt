@@ -17,9 +17,10 @@ use Rattle.weave_account.specs.Account.{session_log, stamp_of, is_ended}
 -- the requests of a session, in script order
 abbrev pub requests_of_session : Script → ℕ → List ℕ
 requests_of_session script session =
-    filter (λ r. is_some_and (λ (request : Request). request.session == session) (request_at script r)) (range_with_len 0 (length script.requests))
+    filter (λ r. is_some_and (λ (request : Request). request.session == session) (request_at script r))
+    (range_with_len 0 (length script.requests))
 
--- a reply comes to a request that was sent or finished
+-- a reply is to a request that was sent or finished
 abbrev pub RepliesAs : Account → SessionDeed → Type 0
 RepliesAs account (Begun r stamp) = ⊤
 RepliesAs account (Replied r) = IsTrue (is_ended account r)
@@ -33,5 +34,6 @@ pub record SessionsClause (script : Script) (account : Account) : Type 0 where
       → session_stamp_of r (session_log account request.session) ≡ stamp_of account r
   pub replies : (session : ℕ)
       → AtEachEntry (λ before (entry : SessionEntry). RepliesAs account entry.deed) (session_log account session)
-  pub finished_are_replied : (r : ℕ) (request : Request) → request_at script r ≡ Some request → IsTrue (is_look request.work)
+  pub finished_are_replied : (r : ℕ) (request : Request) → request_at script r ≡ Some request
+      → IsTrue (is_look request.work)
       → IsTrue (is_ended account r) → IsTrue (has_reply_in r (session_log account request.session))

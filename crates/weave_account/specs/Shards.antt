@@ -21,8 +21,10 @@ use Rattle.weave_account.specs.Account.{gate_log, shard_log, Precedence}
 -- Processing
 
 -- a message arrives as it was sent, with its number, for the first time
-pub record Arrives (account : Account) (shard : ℕ) (before : List ShardEntry) (home number : ℕ) (message : Message) : Type 0 where
-  pub sent : Contains (addressed_to shard (gate_log account home)) (record { shard = shard; number = number; message = message })
+pub record MessageArrives (account : Account) (shard : ℕ) (before : List ShardEntry) (home number : ℕ)
+    (message : Message) : Type 0 where
+  pub sent : Contains (addressed_to shard (gate_log account home))
+      (record { shard = shard; number = number; message = message })
   pub new : arrived_at home number before ≡ None
 
 -- the head of a channel is applied, and each of its vertices has had as many updates as its part counts
@@ -44,7 +46,8 @@ update_at v n log = slice_get (updates_of v log) n
 
 -- A program that was begun reads a vertex of the shard, which is ready for it, after the first `updates` of the
 -- updates applied so far. The last of these precedes the program, and the program precedes the next one.
-pub record IsRightVisit (script : Script) (account : Account) (shard : ℕ) (before : List ShardEntry) (r : ℕ) (stamp : Stamp)
+pub record IsRightVisit (script : Script) (account : Account) (shard : ℕ) (before : List ShardEntry) (r : ℕ)
+    (stamp : Stamp)
     (v : Name) (updates : ℕ) : Type 0 where
   pub home : ℕ
   pub author : ℕ
@@ -60,7 +63,8 @@ pub record IsRightVisit (script : Script) (account : Account) (shard : ℕ) (bef
 
 -- a deed at a shard is right after these entries
 abbrev pub ShardFitsAs : Script → Account → ℕ → List ShardEntry → ShardDeed → Type 0
-ShardFitsAs script account shard before (Arrived home number message) = Arrives account shard before home number message
+ShardFitsAs script account shard before (Arrived home number message) =
+    MessageArrives account shard before home number message
 ShardFitsAs script account shard before (Applied home number) = Applies before home number
 ShardFitsAs script account shard before (Visited r stamp v updates settled) =
     IsRightVisit script account shard before r stamp v updates
@@ -68,7 +72,8 @@ ShardFitsAs script account shard before (Collected bound) = bound ≡ bound_of s
 
 -- each deed of a log is right after those before it
 abbrev pub AreShardDeeds : Script → Account → ℕ → List ShardEntry → Type 0
-AreShardDeeds script account shard log = AtEachEntry (λ before entry. ShardFitsAs script account shard before entry.deed) log
+AreShardDeeds script account shard log =
+    AtEachEntry (λ before entry. ShardFitsAs script account shard before entry.deed) log
 
 -- Shards: each deed is right after those before it
 pub record ShardsClause (script : Script) (account : Account) : Type 0 where

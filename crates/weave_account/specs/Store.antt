@@ -25,7 +25,8 @@ use Rattle.weave_account.specs.Account.{gate_log, Precedence}
 
 -- After these commits a transaction commits: it has the next number, passes on the graph that they leave with these
 -- answers, and counts them at each vertex that it names. At each such vertex the last of them precedes it.
-pub record Commits (account : Account) (before : List Commit) (stamp : Stamp) (ops : List Op) (number : ℕ) (answers : List Got)
+pub record Commits (account : Account) (before : List Commit) (stamp : Stamp) (ops : List Op) (number : ℕ)
+    (answers : List Got)
     (counts : List Counted) : Type 0 where
   pub number_is : number ≡ length before + 1
   pub graph : PlainGraph
@@ -34,8 +35,9 @@ pub record Commits (account : Account) (before : List Commit) (stamp : Stamp) (o
   pub after_last : (v : Name) → IsTrue (is_among (named_by ops) v)
       → ForSome (last_naming v before) (λ (last : Commit). Precedence account last.stamp stamp)
 
--- it conflicts at a vertex that it names with the last of them that names it: it precedes that one
-pub record Conflicts (account : Account) (before : List Commit) (stamp : Stamp) (ops : List Op) (v : Name) (newer : ℕ) : Type 0 where
+-- it conflicts with the last of them at a vertex that it names: it precedes that one
+pub record Conflicts (account : Account) (before : List Commit) (stamp : Stamp) (ops : List Op) (v : Name) (newer : ℕ) :
+    Type 0 where
   pub named : IsTrue (is_among (named_by ops) v)
   pub last : Commit
   pub last_is : last_naming v before ≡ Some last
@@ -49,7 +51,8 @@ pub record IsRefused (before : List Commit) (ops : List Op) (op : ℕ) (reason :
 
 -- the verdict is right after these commits
 abbrev pub IsRightVerdict : Account → List Commit → Stamp → List Op → Verdict → Type 0
-IsRightVerdict account before stamp ops (Committed number answers counts) = Commits account before stamp ops number answers counts
+IsRightVerdict account before stamp ops (Committed number answers counts) =
+    Commits account before stamp ops number answers counts
 IsRightVerdict account before stamp ops (Conflict v newer) = Conflicts account before stamp ops v newer
 IsRightVerdict account before stamp ops (Refused op reason at) = IsRefused before ops op reason at
 
@@ -58,7 +61,8 @@ IsRightVerdict account before stamp ops (Refused op reason at) = IsRefused befor
 -- verdict is right after the commits so far.
 pub record Judges (script : Script) (account : Account) (before : List StoreEntry) (judged : Judgement) : Type 0 where
   pub home : ℕ
-  pub begun : Contains (txs_of (gate_log account home)) (record { author = judged.author; request = judged.request; stamp = judged.stamp })
+  pub begun : Contains (txs_of (gate_log account home))
+      (record { author = judged.author; request = judged.request; stamp = judged.stamp })
   pub work : IsSomeAnd (request_at script judged.request) (λ (request : Request). request.work ≡ Change judged.ops)
   pub asked : judged.asked ≡ asked_vertices judged.stamp (lasts_of judged.ops (commits_of before))
   pub verdict : IsRightVerdict account (commits_of before) judged.stamp judged.ops judged.verdict
@@ -69,7 +73,8 @@ InTurn script a b = IsTrue (same_session script a b) → a < b
 
 -- each entry of a log judges rightly after those before it
 abbrev pub AreJudgements : Script → Account → List StoreEntry → Type 0
-AreJudgements script account log = AtEachEntry (λ before entry. Judges script account before (judged_by entry.author entry.deed)) log
+AreJudgements script account log =
+    AtEachEntry (λ before entry. Judges script account before (judged_by entry.author entry.deed)) log
 
 -- Store: each entry judges a begun transaction rightly, each transaction at most once, and those of a session in its
 -- order

@@ -36,7 +36,7 @@ ghost use Rattle.program_defs.specs.declared.script.Request.{Request};
 ghost use Rattle.program_defs.specs.declared.script.Script.{Script};
 ghost use Rattle.program_defs.specs.Works.{is_change, is_look};
 ghost use Rattle.program_defs.specs.declared.script.Work.TheVariants.{Change};
-ghost use Rattle.proof_base.specs.Facts.{AllHold};
+ghost use Rattle.weave_data.specs.Facts.{AllHold};
 ghost use Rattle.report_rules.specs.declared.report.Pair.{Pair};
 ghost use Rattle.report_rules.specs.declared.report.Report.{Report};
 ghost use Rattle.report_rules.specs.Lookups.{EveryReplyIsFinal, RequestPrecedes, is_in, is_some_and, request_at};
@@ -323,7 +323,7 @@ pub fn accounts_were_seen()
     the_crates_below_keep_their_laws();
 }
 
-/// Each commit in a store's log passed after the commits before it: so much of what a hand has seen is known of the
+/// Each commit in a store's log passed after the commits before it. This much of what a hand has seen is known of the
 /// store alone.
 pub fn store_logs_have_passed()
     ensures { (store : List StoreEntry) → IsStoreLog store → HavePassed store }

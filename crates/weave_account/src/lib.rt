@@ -7,7 +7,5 @@
 mod account;
 pub mod laws;
 mod lower_laws;
-#[cfg(test)]
-mod tests;
 
 pub use account::Account;

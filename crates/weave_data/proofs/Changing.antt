@@ -1,20 +1,19 @@
 -- Changes of rising pairs: they stay rising, and what takes a change back.
-use Rattle.std.proofs.Common.{◌≡◌, ℕ, List, [], ◌∷◌, Some, None, Option, true, false, cond, is_some, refl, sym, ap, ap₂, ◌∙◌, subst}
+-- Used by `new`, `remove`, Kept and crates graph_ops, version_parts and weaver_core.
+use Rattle.std.proofs.Common.{◌≡◌, ℕ, List, [], ◌∷◌, Some, None, Option, true, false, cond, refl, sym, ap, ◌∙◌, subst}
 use Rattle.std.specs.declared.cmp.Ordering.{Ordering}
 use Rattle.std.specs.declared.cmp.Ordering.TheVariants.{Less, Equal, Greater}
 use Rattle.std.specs.Cmp.Lexicographic.{nat_list_cmp_total}
 use Rattle.std.specs.FinMap.{nat_cmp-IsAntisymmetric, slice_cmp-IsAntisymmetric}
 use Rattle.std.specs.Ordering.{match_ordering, is_eq}
-use Rattle.std.specs.BTreeMap.{is_at}
 use Rattle.std.specs.List.{AllByRecursion}
 use Rattle.std.specs.List.Sorted.{IsStrictlySortedBy}
 use Rattle.std.specs.Map.{keys_of}
-use Rattle.std.proofs.lemmas.Map.{lookup-none}
 use Rattle.std.proofs.lemmas.Map.Keys.{sorted_head, sorted_tail}
-use Rattle.std.proofs.lemmas.Map.Entries.{none_below_head}
+use Rattle.std.proofs.lemmas.Cmp.{tied_itself}
 use Rattle.weave_data.specs.Names.{name_cmp}
-use Rattle.weave_data.specs.Pairs.{IsRising, at_key, has, put, without}
-use Rattle.weave_data.proofs.Finding.{same, above_is_below}
+use Rattle.weave_data.specs.Pairs.{IsRising, at_key, put, without}
+use Rattle.weave_data.proofs.Finding.{above_is_below}
 
 weaker : {K : Type 0} {P Q : K → Type 0} → ((k : K) → P k → Q k) → (ks : List K) → AllByRecursion P ks → AllByRecursion Q ks
 weaker f [] all = tt
@@ -55,20 +54,20 @@ module _ {X : Type 0} (key : List ℕ) (value : X) where
       ] refl
 
   pub found_put : (es : List (List ℕ × X)) → at_key key (put key value es) ≡ Some value
-  found_put [] = ap (λ o. cond (is_eq o) (Some value) None) (same key)
+  found_put [] = ap (λ o. cond (is_eq o) (Some value) None) (tied_itself nat_list_cmp_total key)
   found_put (e ∷ es) =
       elim (name_cmp key e.0) as (λ o. name_cmp key e.0 ≡ o → at_key key (put_by o e es) ≡ Some value) [
-        | Less ↦ λ less. ap (λ o. cond (is_eq o) (Some value) (at_key key (e ∷ es))) (same key)
+        | Less ↦ λ less. ap (λ o. cond (is_eq o) (Some value) (at_key key (e ∷ es))) (tied_itself nat_list_cmp_total key)
         | Equal ↦ λ equal. ap (λ o. cond (is_eq o) (Some value) (at_key key es)) equal
         | Greater ↦ λ greater. ap (λ o. cond (is_eq o) (Some e.1) (at_key key (put key value es))) greater ∙ found_put es
       ] refl
 
   -- a new key is dropped again
   pub without_put : (es : List (List ℕ × X)) → at_key key es ≡ None → without key (put key value es) ≡ es
-  without_put [] none = ap (λ o. cond (is_eq o) [] ((key, value) ∷ [])) (same key)
+  without_put [] none = ap (λ o. cond (is_eq o) [] ((key, value) ∷ [])) (tied_itself nat_list_cmp_total key)
   without_put (e ∷ es) none =
       elim (name_cmp key e.0) as (λ o. name_cmp key e.0 ≡ o → cond (is_eq o) (Some e.1) (at_key key es) ≡ None → without key (put_by o e es) ≡ e ∷ es) [
-        | Less ↦ λ less h. ap (λ o. cond (is_eq o) (e ∷ es) ((key, value) ∷ without key (e ∷ es))) (same key)
+        | Less ↦ λ less h. ap (λ o. cond (is_eq o) (e ∷ es) ((key, value) ∷ without key (e ∷ es))) (tied_itself nat_list_cmp_total key)
         | Equal ↦ λ equal h. cc
         | Greater ↦ λ greater h. ap (λ o. cond (is_eq o) (put key value es) (e ∷ without key (put key value es))) greater ∙ ap (λ rest. e ∷ rest) (without_put es h)
       ] refl none

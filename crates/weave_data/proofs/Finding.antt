@@ -1,19 +1,20 @@
 -- Where a key is among rising pairs, and what the changes at that place result in.
-use Rattle.std.proofs.Common.{◌≡◌, ℕ, zero, suc, ◌<◌, ◌≤◌, ◌+◌, length, get_or, set, take, drop, List, [], ◌∷◌, ◌++◌, Option, Some, None, is_some, true, false, cond, Result, Ok, Err, IfOk, IfErr, refl, sym, ap, ◌∙◌, subst, arith, add-one}
-use Rattle.std.specs.declared.cmp.Ordering.{Ordering}
+-- Used by `add`, `cut`, `get`, `insert`, `put_back`, `remove`, `search`, `swap`, `take`, `write` and Changing.
+use Rattle.std.proofs.Common.{◌≡◌, ℕ, zero, suc, ◌<◌, ◌≤◌, length, get_or, set, List, [], ◌∷◌, Some, None, is_some, true, cond, Result, Ok, Err, IfOk, IfErr, refl, sym, ap, ◌∙◌, subst, arith, add-one}
 use Rattle.std.specs.declared.cmp.Ordering.TheVariants.{Less, Equal, Greater}
 use Rattle.std.specs.Cmp.Lexicographic.{nat_list_cmp_total}
 use Rattle.std.specs.FinMap.{nat_cmp-IsAntisymmetric, slice_cmp-IsAntisymmetric}
 use Rattle.std.specs.Ordering.{match_ordering, ordering_reverse, is_eq, is_lt}
 use Rattle.std.specs.BTreeMap.{is_at}
-use Rattle.std.specs.List.{AllByRecursion, AllWithin, HoldsAt, insert, remove}
-use Rattle.std.specs.List.Sorted.{IsSearchInRange, IsBinarySearchResult, IsNonDecreasingBy, IsPartitionPoint}
+use Rattle.std.specs.List.{AllByRecursion, HoldsAt, insert, remove}
+use Rattle.std.specs.List.Sorted.{IsSearchInRange, IsBinarySearchResult, IsPartitionPoint}
 use Rattle.std.specs.Map.{keys_of}
 use Rattle.std.proofs.lemmas.List.Sorted.{searchable_from_sorted}
 use Rattle.std.proofs.lemmas.Map.{lookup-none}
 use Rattle.std.proofs.lemmas.Map.Keys.{sorted_head, sorted_tail}
 use Rattle.std.proofs.lemmas.Map.Entries.{none_below_head}
-use Rattle.weave_data.specs.Names.{name_cmp, one_name}
+use Rattle.std.proofs.lemmas.Cmp.{tied_itself}
+use Rattle.weave_data.specs.Names.{name_cmp}
 use Rattle.weave_data.specs.Pairs.{IsRising, at_key, has, put, without}
 use Rattle.weave_data.specs.Places.{IsAt, IsGap}
 
@@ -22,14 +23,6 @@ below_is_above low high less = nat_list_cmp_total.antisymm high low ∙ ap order
 
 pub above_is_below : (low high : List ℕ) → name_cmp high low ≡ Greater → name_cmp low high ≡ Less
 above_is_below low high greater = nat_list_cmp_total.antisymm low high ∙ ap ordering_reverse greater
-
-own_reverse : (o : Ordering) → o ≡ ordering_reverse o → o ≡ Equal
-own_reverse Less e = cc
-own_reverse Equal e = refl
-own_reverse Greater e = cc
-
-pub same : (a : List ℕ) → name_cmp a a ≡ Equal
-same a = own_reverse (name_cmp a a) (nat_list_cmp_total.antisymm a a)
 
 module _ {X : Type 0} (key : List ℕ) where
   -- what holds of all keys holds of one that has a place
@@ -65,17 +58,17 @@ module _ {X : Type 0} (key : List ℕ) where
 
   pub found_at : (es : List (List ℕ × X)) (at : ℕ) (d : List ℕ × X) → IsAt key es at → at_key key es ≡ Some (get_or es at d).1
   found_at [] at d here = absurd here
-  found_at (e ∷ es) zero d here = ap (λ o. cond (is_eq o) (Some e.1) (at_key key es)) (subst (λ k. name_cmp key k ≡ Equal) here (same key))
+  found_at (e ∷ es) zero d here = ap (λ o. cond (is_eq o) (Some e.1) (at_key key es)) (subst (λ k. name_cmp key k ≡ Equal) here (tied_itself nat_list_cmp_total key))
   found_at (e ∷ es) (suc at) d here = ap (λ o. cond (is_eq o) (Some e.1) (at_key key es)) here.0 ∙ found_at es at d here.1
 
   pub put_at : (es : List (List ℕ × X)) (at : ℕ) (value : X) → IsAt key es at → put key value es ≡ set es at (key, value)
   put_at [] at value here = absurd here
-  put_at (e ∷ es) zero value here = ap (λ o. match_ordering o ((key, value) ∷ e ∷ es) ((e.0, value) ∷ es) (e ∷ put key value es)) (subst (λ k. name_cmp key k ≡ Equal) here (same key)) ∙ ap (λ k. (k, value) ∷ es) (sym here)
+  put_at (e ∷ es) zero value here = ap (λ o. match_ordering o ((key, value) ∷ e ∷ es) ((e.0, value) ∷ es) (e ∷ put key value es)) (subst (λ k. name_cmp key k ≡ Equal) here (tied_itself nat_list_cmp_total key)) ∙ ap (λ k. (k, value) ∷ es) (sym here)
   put_at (e ∷ es) (suc at) value here = ap (λ o. match_ordering o ((key, value) ∷ e ∷ es) ((e.0, value) ∷ es) (e ∷ put key value es)) here.0 ∙ ap (λ rest. e ∷ rest) (put_at es at value here.1)
 
   pub without_at : (es : List (List ℕ × X)) (at : ℕ) → IsAt key es at → without key es ≡ remove es at
   without_at [] at here = absurd here
-  without_at (e ∷ es) zero here = ap (λ o. cond (is_eq o) es (e ∷ without key es)) (subst (λ k. name_cmp key k ≡ Equal) here (same key))
+  without_at (e ∷ es) zero here = ap (λ o. cond (is_eq o) es (e ∷ without key es)) (subst (λ k. name_cmp key k ≡ Equal) here (tied_itself nat_list_cmp_total key))
   without_at (e ∷ es) (suc at) here = ap (λ o. cond (is_eq o) es (e ∷ without key es)) here.0 ∙ ap (λ rest. e ∷ rest) (without_at es at here.1)
 
   -- a key at its gap
@@ -108,5 +101,5 @@ module _ {X : Type 0} (key : List ℕ) where
 
   pub has_at_place : (es : List (List ℕ × X)) (at : ℕ) → IsAt key es at → has key es ≡ true
   has_at_place [] at here = absurd here
-  has_at_place (e ∷ es) zero here = ap (λ o. is_some (cond (is_eq o) (Some e.1) (at_key key es))) (subst (λ k. name_cmp key k ≡ Equal) here (same key))
+  has_at_place (e ∷ es) zero here = ap (λ o. is_some (cond (is_eq o) (Some e.1) (at_key key es))) (subst (λ k. name_cmp key k ≡ Equal) here (tied_itself nat_list_cmp_total key))
   has_at_place (e ∷ es) (suc at) here = ap (λ o. is_some (cond (is_eq o) (Some e.1) (at_key key es))) here.0 ∙ has_at_place es at here.1

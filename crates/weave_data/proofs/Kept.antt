@@ -1,4 +1,5 @@
 -- What a map keeps when it changes: its keys rise, and it has places for its pairs.
+-- Used by `insert`, `put_back`, `remove`, `swap` and `take`.
 use Rattle.std.proofs.Common.{◌≡◌, ℕ, ◌+◌, ◌-◌, ◌<◌, ◌≤◌, List, length, Some, None, is_some, false, IsTrue, inl, inr, sym, ap, ◌∙◌, subst, arith, le_trans}
 use Rattle.std.proofs.lemmas.Bool.{cases_lt}
 use Rattle.weave_data.specs.Changes.{places}

@@ -1,4 +1,5 @@
 -- Letters compared as numbers of eight letters each.
+-- Used by `cmp` and `order`.
 use Rattle.std.proofs.Common.{arith, ◌≡◌, ◌<◌, ◌≤◌, ◌+◌, ◌*◌, ℕ, ◌-◌, nat_le, zero, suc, Bool, true, false, ◌&&◌, IsTrue, true≢false, ◌⊎◌, inl, inr, List, [], ◌∷◌, ◌++◌, length, get_or, take, drop, replicate, refl, sym, ap, subst, ◌∙◌}
 use Rattle.std.proofs.lemmas.Bool.{cases_order, leb-true}
 use Rattle.std.proofs.lemmas.List.{length-drop, get_or-drop, drop-drop}
@@ -95,7 +96,7 @@ zeros : (n : ℕ) → slice_cmp nat_cmp (replicate n 0) (replicate n 0) ≡ Equa
 zeros zero = refl
 zeros (suc n) = zeros n
 
--- zeros behind positive bytes change nothing in the order, if both lists get one length
+-- zeros after positive bytes change nothing in the order, if both lists get the same length
 pub behind : (xs ys : List ℕ) (n m : ℕ) → ArePositive xs → ArePositive ys → length xs + n ≡ length ys + m
     → slice_cmp nat_cmp (xs ++ replicate n 0) (ys ++ replicate m 0) ≡ slice_cmp nat_cmp xs ys
 behind [] [] n m above above' same = subst (λ k. slice_cmp nat_cmp (replicate n 0) (replicate k 0) ≡ Equal) {x = n} (omega (arith, same)) (zeros n)

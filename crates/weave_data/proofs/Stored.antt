@@ -1,4 +1,5 @@
 -- A name's bytes as they lie in 32.
+-- Used by `parse`.
 use Rattle.std.proofs.Common.{◌≡◌, ℕ, List, ◌++◌, length, drop, replicate, IsTrue, refl, ap}
 use Rattle.std.proofs.lemmas.List.{drop-replicate}
 use Rattle.std.proofs.Math.Seq.{take-append_seam}

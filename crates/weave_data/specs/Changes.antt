@@ -20,7 +20,8 @@ module _ {X : Type 0} where
   abbrev pub Fits : Undo X → List (Name × X) → Type 0
   Fits (Write key value) pairs = IsTrue (has key pairs)
   Fits (Remove key) pairs = Unit {0}
-  Fits (PutBack key value room) pairs = (has key pairs ≡ false) × (places (length pairs) < places (length pairs + 1) → places (length pairs + 1) ≤ room)
+  Fits (PutBack key value room) pairs = (has key pairs ≡ false)
+      × (places (length pairs) < places (length pairs + 1) → places (length pairs + 1) ≤ room)
 
   -- it takes back the change from `before` to `now`
   abbrev pub TakesBack : Undo X → List (Name × X) → List (Name × X) → Type 0

@@ -1,3 +1,5 @@
+pub mod Facts
+pub mod Steps
 pub mod Changes
 pub mod Names
 pub mod Pairs

@@ -20,7 +20,7 @@ is_name bytes = nat_le 1 (length bytes) && nat_le (length bytes) 32 && list_all 
 abbrev pub name_cmp : List ℕ → List ℕ → Ordering
 name_cmp = slice_cmp nat_cmp
 
--- whether two names are one
+-- whether two names are the same
 abbrev pub same_name : List ℕ → List ℕ → Bool
 same_name = eq_by_cmp name_cmp
 
@@ -29,7 +29,7 @@ is_equal Less e = absurd (subst T (sym e) tt)
 is_equal Equal e = refl
 is_equal Greater e = absurd (subst T (sym e) tt)
 
--- names that are one have the same bytes
+-- names that are the same have the same bytes
 pub one_name : (a b : List ℕ) → same_name a b ≡ true → a ≡ b
 one_name a b same = slice_cmp-IsAntisymmetric nat_cmp-IsAntisymmetric a b (is_equal _ same)
 
@@ -43,4 +43,5 @@ padded bytes = bytes ++ replicate (32 - length bytes) 0
 
 -- the first `len` of the 32 bytes are a name, and the others are 0
 abbrev pub IsStored : ℕ → List ℕ → Type 0
-IsStored len letters = (IsTrue (is_name (take len letters))) × (len ≡ length (take len letters)) × (letters ≡ padded (take len letters))
+IsStored len letters = (IsTrue (is_name (take len letters))) × (len ≡ length (take len letters))
+    × (letters ≡ padded (take len letters))

@@ -10,11 +10,11 @@ module _ {X : Type 0} where
   abbrev pub IsRising : List (List ℕ × X) → Type 0
   IsRising pairs = IsStrictlySortedBy name_cmp (keys_of pairs)
 
-  -- what stands at a key
+  -- what is at a key
   abbrev pub at_key : List ℕ → List (List ℕ × X) → Option X
   at_key key pairs = lookup (is_at (name_cmp key)) pairs
 
-  -- whether something stands there
+  -- whether something is at a key
   abbrev pub has : List ℕ → List (List ℕ × X) → Bool
   has key pairs = is_some (at_key key pairs)
 

@@ -3,7 +3,7 @@ ghost use Rattle.std.specs.Prelude.{◌≡◌, IfOk};
 
 use std::alloc::{AllocError, Global};
 
-/// Plain data of which an equal value can be had.
+/// Plain data that can be duplicated.
 pub trait Copied {
     /// An equal value. The one error is out of memory.
     fn copy(&self, alloc: Global) -> Result<Self, AllocError>

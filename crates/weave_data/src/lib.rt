@@ -1,6 +1,10 @@
 //! Plain data that every layer holds: names, lists, maps under names, and equal values of them.
 //!
-//! Contracts see a name as the list of its bytes, a list as a list, and a map as the list of its pairs in rising order of keys.
+//! Its lemmas on lists, on logs entry by entry and on steps that may fail are those that several crates cite.
+//! `specs/Facts` is the notion of a clause that is judged place by place.
+//!
+//! Contracts see a name as the list of its bytes, a list as a list, and a map as the list of its pairs in rising order
+//! of keys.
 #![tactic(auto)]
 
 mod change;
@@ -10,8 +14,6 @@ mod letters;
 mod name;
 mod name_map;
 mod places;
-#[cfg(test)]
-mod tests;
 
 pub use change::Undo;
 pub use copied::Copied;

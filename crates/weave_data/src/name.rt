@@ -104,7 +104,7 @@ impl Hash for Name {
 }
 
 impl Name {
-    /// The name with these bytes, or `None` where they are no name.
+    /// The name with these bytes, or `None` if they are no name.
     pub fn parse(bytes: &[u8]) -> Option<Name>
         ensures { result ≡ (if is_name bytes.now then Some bytes.now else None) }
     {

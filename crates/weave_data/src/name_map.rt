@@ -68,7 +68,7 @@ impl<T> NameMap<T> {
         self.pairs.as_slice()
     }
 
-    /// What stands at a key.
+    /// What is at a key.
     pub fn get(&self, key: Name) -> Option<&T>
         ensures { option_copied result ≡ at_key key self.now }
     {
@@ -94,7 +94,8 @@ impl<T> NameMap<T> {
 }
 
 impl<T: Drop> NameMap<T> {
-    /// The map of pairs in rising order of keys. The one error is out of memory; a `Vec` that `into_vec` gave has room, and takes none.
+    /// The map of pairs in rising order of keys. The one error is out of memory; a `Vec` that `into_vec` gave has room,
+    /// and takes none.
     pub fn from_vec(pairs: Vec<(Name, T)>) -> Result<Self, AllocError>
         requires { IsRising pairs.items }
         ensures ok { IfOk result (λ map. map ≡ pairs.items) }
@@ -108,7 +109,8 @@ impl<T: Drop> NameMap<T> {
         Ok(NameMap { pairs })
     }
 
-    /// Puts a value at a key, in place of another one or new. The one error is out of memory, and then the map is as before.
+    /// Puts a value at a key, in place of another one or new. The one error is out of memory, and then the map is as
+    /// before.
     pub fn put(&mut self, key: Name, value: T) -> Result<(), AllocError>
         ensures ok { OnOk result (self.new ≡ put key value self.old) }
         ensures err { OnErr result (self.new ≡ self.old) }
@@ -117,7 +119,8 @@ impl<T: Drop> NameMap<T> {
         Ok(())
     }
 
-    /// Puts a value at a key, and answers what takes that back. The one error is out of memory, and then the map is as before.
+    /// Puts a value at a key, and answers what takes that back. The one error is out of memory, and then the map is as
+    /// before.
     pub fn insert(&mut self, key: Name, value: T) -> Result<Undo<T>, AllocError>
         ensures ok { OnOk result (self.new ≡ put key value self.old) }
         ensures undo { IfOk result (λ undo. TakesBack undo self.new self.old) }
@@ -275,7 +278,7 @@ fn cut<T>(pairs: &mut Vec<(Name, T)>, at: usize, key: Name) -> T
     before
 }
 
-// The room that a pair which is taken out of this many needs beside them.
+// The room that a pair which is taken out of this many needs besides them.
 fn room_beside<T>(alloc: Global, pairs: usize) -> Result<Room<T>, AllocError>
     requires { (0 < pairs) × (pairs + 64 < 2 ^ 64) }
     ensures { IfOk result (λ room. places (pairs - 1) < places pairs → places pairs ≤ room) }
@@ -332,7 +335,9 @@ impl<T: PartialEq> PartialEq for NameMap<T> {
 
     ghost eq = { pointwise (λ p q. same_name p.0 q.0 && T.eq p.1 q.1) };
 
-    ghost laws = { lists_per (and_per (on_per (λ p. p.0) (partial_equiv_from_equiv (eq_by_cmp_equiv nat_list_cmp_total))) (on_per (λ p. p.1) T.laws)) };
+    ghost laws = { lists_per (and_per
+        (on_per (λ p. p.0) (partial_equiv_from_equiv (eq_by_cmp_equiv nat_list_cmp_total)))
+        (on_per (λ p. p.1) T.laws)) };
 
     fn eq(&self, other: &Self) -> bool {
         self.pairs.as_slice() == other.pairs.as_slice()

@@ -1,4 +1,5 @@
 -- What a step leaves, by its answer; one log of many; and what stays at the beginning of a log.
+-- Used by Applications, Deeds, Deliveries, Nudging, Quiet, Reading and Replied.
 use Rattle.std.proofs.Common.{◌≡◌, ℕ, zero, suc, ◌<◌, Bool, true, false, cond, is_some, ◌==◌, ◌&&◌, List, [], ◌∷◌, ◌++◌, length, Contains, IsTrue, Option, Some, None, refl, sym, ap, ◌∙◌, arith}
 use Rattle.std.specs.Prelude.{slice_index_or, slice_set}
 use Rattle.std.specs.List.{find}
@@ -6,7 +7,7 @@ use Rattle.std.specs.Option.{option_map, option_or}
 use Rattle.std.proofs.lemmas.List.{append-nil}
 use Rattle.std.proofs.lemmas.List.Concat.{flat_map-append}
 use Rattle.std.proofs.lemmas.List.Folds.{find-append}
-use Rattle.proof_base.proofs.Members.{has_none, only}
+use Rattle.weave_data.proofs.Members.{has_none, only}
 use Rattle.program_defs.specs.declared.script.Script.{Script}
 use Rattle.program_defs.specs.declared.script.Step.{Step}
 use Rattle.weave_entries.specs.declared.message.Message.{Message}

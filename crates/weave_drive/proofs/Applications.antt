@@ -1,4 +1,5 @@
 -- Steps `apply` lead to a state in which all that arrived at a shard is processed.
+-- Used by `apply`, `apply_all`, `apply_channel` and `apply_round`.
 use Rattle.std.proofs.Common.{◌≡◌, ℕ, zero, suc, ◌+◌, ◌<◌, ◌≤◌, Bool, true, false, cond, nat_eq, ◌==◌, ◌||◌, List, [], ◌∷◌, ◌++◌, length, count_by, Contains, IsTrue, Option, Some, None, inl, inr, refl, sym, ap, subst, ◌∙◌, arith}
 use Rattle.std.specs.Prelude.{slice_index_or}
 use Rattle.std.proofs.lemmas.Bool.{cases_eq, eq-eqb}
@@ -22,10 +23,10 @@ use Rattle.step_rules.specs.Answers.{answer_of, answer_of_apply, waits_or_ok}
 use Rattle.step_rules.specs.Entries.{account_with}
 use Rattle.step_rules.specs.IsCore.{IsCore}
 use Rattle.step_rules.specs.Trace.{is_ok}
-use Rattle.weaver_core.specs.Cores.{CoreView, Does}
+use Rattle.weaver_core.specs.Cores.{CoreView, DoesStep}
 use Rattle.drive_rules.specs.Heads.{AllArrived, AllProcessed, CanApply, IsQuiet}
 use Rattle.weave_drive.specs.Driving.{Drives}
-use Rattle.weave_drive.specs.LowerLaws.{LowerLaws}
+use Rattle.weave_drive.specs.LowerLaws.{LawsForDriving}
 use Rattle.weave_drive.specs.Loops.{AppliesBelow, IsApplying, IsCatchingUp}
 use Rattle.weave_drive.specs.Progress.{AreCores, AppliesChannel, AppliesAll, AppliesRound, left_of}
 use Rattle.weave_drive.proofs.After.{account-after, not-done, set-there, still-message}
@@ -84,7 +85,7 @@ module _ (account : Account) (shard gate : ℕ) where
   head-there None ok = cc
   head-there (Some m) ok = (m, refl)
 
-pub apply-done : (laws : LowerLaws) (old new : CoreView) (shard gate : ℕ) (answer : StepAnswer) → AreCores old new → gate < old.script.gates → shard < old.script.shards → Does (Apply shard gate) old new answer → AppliesChannel old.script.gates shard gate old.state new.state (is_ok answer)
+pub apply-done : (laws : LawsForDriving) (old new : CoreView) (shard gate : ℕ) (answer : StepAnswer) → AreCores old new → gate < old.script.gates → shard < old.script.shards → DoesStep (Apply shard gate) old new answer → AppliesChannel old.script.gates shard gate old.state new.state (is_ok answer)
 apply-done laws old new shard gate answer cores gate-inside inside did = record {
   same_gates = ap (λ (a : Account). a.gates) is ∙ gates-are old.state.account shard gate (is_ok (answer_of_apply old.state.account shard (head_of gate (shard_log old.state.account shard))));
   fewer = λ ok. fewer (sym (ap is_ok did.answer_is) ∙ ok);
@@ -205,7 +206,7 @@ pub still-all-arrived : (old new : Account) → GoesOn old new → new.gates ≡
 still-all-arrived old new on same shard arrived home addressed h =
     still-message old new on shard home addressed.number addressed.message (arrived home addressed (subst (λ (gs : List (List GateEntry)). Contains (addressed_to shard (slice_index_or gs home [])) addressed) same h))
 
-pub catching-end : (laws : LowerLaws) (shard : ℕ) (old middle new : CoreView) → IsWithinLimits old.script → IsCore old.script old.state → IsQuiet old.state.account → AllArrived old.state.account shard
+pub catching-end : (laws : LawsForDriving) (shard : ℕ) (old middle new : CoreView) → IsWithinLimits old.script → IsCore old.script old.state → IsQuiet old.state.account → AllArrived old.state.account shard
     → IsCatchingUp shard old middle → AppliesRound old.script.gates shard old.script.gates middle.state new.state false → AppliesAll shard old.state.account new.state.account
 catching-end laws shard old middle new limits core quiet arrived a b = record {
   same_gates = b.same_gates ∙ a.same_gates;

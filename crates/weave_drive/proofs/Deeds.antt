@@ -1,8 +1,9 @@
 -- Driving steps make no entry at a gatekeeper that begins a request from the bound on, or raises an epoch.
+-- Used by `drive`, Nudging and Quiet.
 use Rattle.std.proofs.Common.{ℕ, Bool, true, false, cond, nat_lt, List, [], ◌∷◌, ◌++◌, fold, IsTrue, Option, Some, None, inl, inr, refl, sym, ap, subst, ◌∙◌, append_assoc}
 use Rattle.std.proofs.lemmas.List.{append-nil}
 use Rattle.std.proofs.lemmas.List.Elements.{Contains-append_cases}
-use Rattle.proof_base.proofs.Members.{has_none}
+use Rattle.weave_data.proofs.Members.{has_none}
 use Rattle.weave_data.specs.declared.name.Name.{Name}
 use Rattle.vector_stamp.specs.declared.clock.Clock.{Clock}
 use Rattle.program_defs.specs.declared.script.Request.{Request}

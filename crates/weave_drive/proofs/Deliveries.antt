@@ -1,4 +1,5 @@
 -- Steps `deliver` lead to a state in which all that was sent to a shard has arrived.
+-- Used by `deliver`, `deliver_all` and `deliver_to`.
 use Rattle.std.proofs.Common.{◌≡◌, ℕ, zero, suc, ◌+◌, ◌-◌, ◌<◌, ◌≤◌, Bool, true, false, cond, is_some, ◌==◌, ◌&&◌, List, [], ◌∷◌, length, Contains, IsTrue, Option, Some, None, inl, inr, refl, sym, ap, subst, ◌∙◌, arith}
 use Rattle.std.specs.Prelude.{slice_get, slice_index_or}
 use Rattle.std.specs.List.{find}
@@ -24,9 +25,9 @@ use Rattle.step_rules.specs.Answers.{answer_of_deliver}
 use Rattle.step_rules.specs.Entries.{after_deliver}
 use Rattle.step_rules.specs.IsCore.{IsCore}
 use Rattle.step_rules.specs.Trace.{is_ok}
-use Rattle.weaver_core.specs.Cores.{CoreView, Does}
+use Rattle.weaver_core.specs.Cores.{CoreView, DoesStep}
 use Rattle.weave_drive.specs.Driving.{Drives}
-use Rattle.weave_drive.specs.LowerLaws.{LowerLaws}
+use Rattle.weave_drive.specs.LowerLaws.{LawsForDriving}
 use Rattle.weave_drive.specs.Loops.{DeliversBelow, IsDelivering}
 use Rattle.weave_drive.specs.Progress.{AreCores, DeliversMessage, DeliversAll, DeliversTo, HaveArrived, is_known}
 use Rattle.weave_drive.proofs.After.{account-after, set-there, still-arrived}
@@ -83,7 +84,7 @@ module _ (account : Account) (gate shard number : ℕ) (within : shard < length 
             ∙ none-or (find (λ (a : Arrival). (a.gate == gate) && (a.number == number)) (arrivals_of (shard_log account shard))) one ((gate == gate) && (number == number)) e (and_from _ _ (eq-eqb gate gate refl) (eq-eqb number number refl));
       }
 
-pub deliver-done : (old new : CoreView) (gate shard number : ℕ) (answer : StepAnswer) → AreCores old new → shard < old.script.shards → Does (Deliver gate shard number) old new answer → DeliversMessage gate shard number old.state.account new.state.account (is_known answer)
+pub deliver-done : (old new : CoreView) (gate shard number : ℕ) (answer : StepAnswer) → AreCores old new → shard < old.script.shards → DoesStep (Deliver gate shard number) old new answer → DeliversMessage gate shard number old.state.account new.state.account (is_known answer)
 deliver-done old new gate shard number answer cores inside did =
     let account = old.state.account in
     let sent = sent_as number (channel_of shard (gate_log account gate)) in
@@ -153,7 +154,7 @@ below-next old middle new n m shard after on before drives d = record {
   ];
 }
 
-pub below-all : (laws : LowerLaws) (old new : CoreView) (n shard : ℕ) → IsWithinLimits old.script → IsCore old.script new.state → old.script.gates ≤ n → DeliversBelow n shard old new → DeliversTo shard old.state.account new.state.account
+pub below-all : (laws : LawsForDriving) (old new : CoreView) (n shard : ℕ) → IsWithinLimits old.script → IsCore old.script new.state → old.script.gates ≤ n → DeliversBelow n shard old new → DeliversTo shard old.state.account new.state.account
 below-all laws old new n shard limits core all d = record {
   same_gates = d.same_gates;
   arrived = λ home addressed h. (

@@ -1,5 +1,6 @@
--- Driving on: lists of driving steps in turn, and what they leave.
-use Rattle.std.proofs.Common.{◌≡◌, ℕ, ◌≤◌, List, [], ◌∷◌, ◌++◌, fold, IsTrue, refl, sym, ap, subst, ◌∙◌, arith, append_assoc}
+-- Driving (running allowed steps, each of which leaves a core) composes, keeps cores, and only extends accounts.
+-- Used by `answer`, `apply_all`, `apply_channel`, `apply_round`, `deliver_all`, `deliver_to`, `drive_all` and 16 more.
+use Rattle.std.proofs.Common.{◌≡◌, ℕ, ◌≤◌, List, [], ◌∷◌, ◌++◌, fold, IsTrue, refl, sym, ap, subst, ◌∙◌, arith}
 use Rattle.std.proofs.lemmas.Bool.{lt-ltb, ltb-true}
 use Rattle.std.proofs.lemmas.List.Sums.{fold-append}
 use Rattle.program_defs.specs.declared.script.Script.{Script}
@@ -7,30 +8,16 @@ use Rattle.program_defs.specs.declared.script.Step.{Step}
 use Rattle.program_defs.specs.declared.script.Step.TheVariants.{Begin, Judge, Send, Say, Hear, Nop, Deliver, Apply, Visit, Reply, Collect, Epoch}
 use Rattle.program_defs.specs.Limits.{IsWithinLimits}
 use Rattle.report_rules.specs.declared.report.StepAnswer.{StepAnswer}
-use Rattle.weave_account.specs.declared.account.Account.{Account}
-use Rattle.weave_account.specs.Account.{gate_log, shard_log, session_log}
-use Rattle.weave_account.specs.GoesOn.{GoesOn, IsBeginningOf}
+use Rattle.weave_account.specs.GoesOn.{GoesOn}
 use Rattle.step_rules.specs.CoreState.{CoreState}
 use Rattle.step_rules.specs.IsCore.{IsCore, IsStepOf}
 use Rattle.step_rules.specs.Trace.{state_after}
-use Rattle.weaver_core.specs.Cores.{CoreView, Does}
+use Rattle.weaver_core.specs.Cores.{CoreView, DoesStep}
 use Rattle.weave_drive.specs.Driving.{AreDriving, Drives, IsDriven, is_driving}
-use Rattle.weave_drive.specs.LowerLaws.{LowerLaws}
-use Rattle.weaver_core.proofs.VisitWith.{goes-same}
+use Rattle.weave_drive.specs.LowerLaws.{LawsForDriving}
+use Rattle.step_rules.proofs.StepGoesOn.{goes-further, goes-same}
 
 -- Accounts go on
-
-longer-log : {E : Type 0} (log middle last : List E) → IsBeginningOf log middle → IsBeginningOf middle last → IsBeginningOf log last
-longer-log log middle last (more, is) (further, are) = (more ++ further, are ∙ ap (λ l. l ++ further) is ∙ append_assoc log more further)
-
-goes-further : (account middle last : Account) → GoesOn account middle → GoesOn middle last → GoesOn account last
-goes-further account middle last on further = record {
-  gates = λ home. longer-log (gate_log account home) (gate_log middle home) (gate_log last home) (on.gates home) (further.gates home);
-  store = longer-log account.store middle.store last.store on.store further.store;
-  oracle = longer-log account.oracle middle.oracle last.oracle on.oracle further.oracle;
-  shards = λ shard. longer-log (shard_log account shard) (shard_log middle shard) (shard_log last shard) (on.shards shard) (further.shards shard);
-  sessions = λ session. longer-log (session_log account session) (session_log middle session) (session_log last session) (on.sessions session) (further.sessions session);
-}
 
 -- Lists of steps
 
@@ -58,7 +45,7 @@ module _ (script : Script) (upto : ℕ) where
   core-after old new core driven = subst (IsCore script) (sym driven.is) (core-after-steps driven.steps old core driven.are)
 
   -- and its account goes on
-  module _ (laws : LowerLaws) (limits : IsWithinLimits script) where
+  module _ (laws : LawsForDriving) (limits : IsWithinLimits script) where
     goes-on-steps : (steps : List Step) (state : CoreState) → IsCore script state → AreDriving script upto state steps → GoesOn state.account (fold (state_after script) state steps).account
     goes-on-steps [] state core are = goes-same state.account
     goes-on-steps (step ∷ steps) state core are =
@@ -91,11 +78,11 @@ more-are script m n below (step ∷ steps) state are = (more-driving m n below s
 pub drives-none : (upto : ℕ) (old : CoreView) → Drives upto old old
 drives-none upto old = record { script_is = refl; driven = driven-none old.script upto old.state }
 
--- a step that was refused drives
+-- an unchanged core was driven, by no steps
 pub drives-same : (upto : ℕ) (old new : CoreView) → new ≡ old → Drives upto old new
 drives-same upto old new same = subst (Drives upto old) (sym same) (drives-none upto old)
 
-pub drives-step : (upto : ℕ) (old new : CoreView) (step : Step) (answer : StepAnswer) → Does step old new answer → IsStepOf old.script step → IsCore new.script new.state → IsTrue (is_driving upto step) → Drives upto old new
+pub drives-step : (upto : ℕ) (old new : CoreView) (step : Step) (answer : StepAnswer) → DoesStep step old new answer → IsStepOf old.script step → IsCore new.script new.state → IsTrue (is_driving upto step) → Drives upto old new
 drives-step upto old new step answer did there core driving = record {
   script_is = did.script_is;
   driven = record {
@@ -121,5 +108,5 @@ drives-more m n below old new d = record {
 pub drives-core : (upto : ℕ) (old new : CoreView) → IsCore old.script old.state → Drives upto old new → IsCore old.script new.state
 drives-core upto old new core d = core-after old.script upto old.state new.state core d.driven
 
-pub drives-on : (upto : ℕ) (laws : LowerLaws) (old new : CoreView) → IsWithinLimits old.script → IsCore old.script old.state → Drives upto old new → GoesOn old.state.account new.state.account
+pub drives-on : (upto : ℕ) (laws : LawsForDriving) (old new : CoreView) → IsWithinLimits old.script → IsCore old.script old.state → Drives upto old new → GoesOn old.state.account new.state.account
 drives-on upto laws old new limits core d = driven-goes-on old.script upto laws limits old.state new.state core d.driven

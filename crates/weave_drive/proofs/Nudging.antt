@@ -1,4 +1,5 @@
 -- A gatekeeper that heard what a program's home says, and then sends an empty message, has sent one after the program's stamp. Once all is delivered and applied the shard is ready.
+-- Used by `make_ready`, `nudge`, `nudge_all` and Reading.
 use Rattle.std.proofs.Common.{◌≡◌, ℕ, ◌+◌, ◌-◌, ◌<◌, is_some, cond, ◌==◌, List, [], ◌∷◌, ◌++◌, length, Contains, IsTrue, Some, None, inl, inr, refl, sym, ap, subst, ◌∙◌, arith}
 use Rattle.std.specs.Prelude.{slice_get, slice_index_or}
 use Rattle.std.proofs.lemmas.Bool.{cases_eq, eq-eqb, ne_eqb}
@@ -6,7 +7,7 @@ use Rattle.std.proofs.lemmas.List.{length-append, length-set}
 use Rattle.std.proofs.lemmas.List.Concat.{flat_map-append}
 use Rattle.std.proofs.lemmas.List.Elements.{Contains-append_left, Contains-append_right}
 use Rattle.std.proofs.lemmas.List.Sums.{fold-append}
-use Rattle.proof_base.proofs.Members.{has_filter, has_head}
+use Rattle.weave_data.proofs.Members.{has_filter, has_head}
 use Rattle.shard_queue.specs.Sent.{sent_as}
 use Rattle.vector_stamp.specs.declared.clock.Clock.{Clock}
 use Rattle.vector_stamp.specs.declared.clock.Stamp.{Stamp}
@@ -29,11 +30,11 @@ use Rattle.step_rules.specs.CoreState.{CoreState, with_gate_deed}
 use Rattle.step_rules.specs.Entries.{after_hear, with_nop}
 use Rattle.step_rules.specs.IsCore.{IsCore}
 use Rattle.step_rules.specs.Trace.{is_ok, state_after}
-use Rattle.weaver_core.specs.Cores.{CoreView, Does}
+use Rattle.weaver_core.specs.Cores.{CoreView, DoesStep}
 use Rattle.drive_rules.specs.Heads.{IsQuiet}
 use Rattle.drive_rules.specs.Readiness.{IsPassed}
 use Rattle.weave_drive.specs.Driving.{Drives}
-use Rattle.weave_drive.specs.LowerLaws.{LowerLaws}
+use Rattle.weave_drive.specs.LowerLaws.{LawsForDriving}
 use Rattle.weave_drive.specs.Loops.{NudgesBelow}
 use Rattle.weave_drive.specs.Progress.{AppliesAll, AreCores, DeliversTo, IsSentAfter, MakesReady, Nudges}
 use Rattle.weave_drive.proofs.After.{account-after, set-there}
@@ -69,7 +70,7 @@ last-sent {A = A} xs x n is =
     at-end [] x = refl
     at-end (y ∷ xs) x = at-end xs x
 
-module _ (laws : LowerLaws) (script : Script) (limits : IsWithinLimits script) (old : CoreState) (core : IsCore script old) (quiet : IsQuiet old.account)
+module _ (laws : LawsForDriving) (script : Script) (limits : IsWithinLimits script) (old : CoreState) (core : IsCore script old) (quiet : IsQuiet old.account)
     (home g shard notice : ℕ) (home-inside : home < script.gates) (g-inside : g < script.gates)
     (notice-is : notice ≡ length (old.notices ++ clock_of home (gate_log old.account home) ∷ [])) where
   said : Clock
@@ -129,8 +130,8 @@ module _ (laws : LowerLaws) (script : Script) (limits : IsWithinLimits script) (
     later = subst (λ (c : Clock). IsTrue (stamp_before p (next_stamp g c))) (sym clock-second) (laws.after_its_home script old.account limits core.account g home g-inside home-inside p begun);
   }
 
-pub nudge-done : (laws : LowerLaws) (old first second third : CoreView) (home g shard notice : ℕ) (a b c : StepAnswer) → AreCores old first → IsQuiet old.state.account → home < old.script.gates → g < old.script.gates
-    → notice ≡ length first.state.notices → Does (Say home) old first a → Does (Hear g notice) first second b → Does (Nop g shard) second third c → Nudges home g shard old.state.account third.state.account
+pub nudge-done : (laws : LawsForDriving) (old first second third : CoreView) (home g shard notice : ℕ) (a b c : StepAnswer) → AreCores old first → IsQuiet old.state.account → home < old.script.gates → g < old.script.gates
+    → notice ≡ length first.state.notices → DoesStep (Say home) old first a → DoesStep (Hear g notice) first second b → DoesStep (Nop g shard) second third c → Nudges home g shard old.state.account third.state.account
 nudge-done laws old first second third home g shard notice a b c cores quiet home-inside g-inside notice-is said heard sent =
     let first-is : first.state ≡ state_after old.script old.state (Say home) = said.state_is in
     let second-is : second.state ≡ state_after old.script (state_after old.script old.state (Say home)) (Hear g notice) = heard.state_is ∙ ap (λ s. state_after s first.state (Hear g notice)) said.script_is ∙ ap (λ s. state_after old.script s (Hear g notice)) first-is in
@@ -154,7 +155,7 @@ nudges-next home shard n m old middle new next on further before drives here = r
 
 -- The shard
 
-pub ready-made : (laws : LowerLaws) (script : Script) (old nudged brought new : Account) (home shard : ℕ) → IsWithinLimits script → (core : CoreState) → core.account ≡ new → IsCore script core
+pub ready-made : (laws : LawsForDriving) (script : Script) (old nudged brought new : Account) (home shard : ℕ) → IsWithinLimits script → (core : CoreState) → core.account ≡ new → IsCore script core
     → ((gate : ℕ) → gate < script.gates → Nudges home gate shard old nudged) → DeliversTo shard nudged brought → AppliesAll shard brought new → MakesReady script home shard old new
 ready-made laws script old nudged brought new home shard limits state state-is core nudges d a p begun =
     let gates-are : new.gates ≡ nudged.gates = a.same_gates ∙ d.same_gates in

@@ -1,4 +1,5 @@
 -- `judge` and `send` end the flight, and no driving step but the begin of a transaction makes one.
+-- Used by `answer`, `end_flight`, `end_flights`, `look`, `make_ready`, `nudge_all`, `visit`, Applications and 2 more.
 use Rattle.std.proofs.Common.{◌≡◌, ℕ, zero, suc, ◌+◌, ◌<◌, ◌≤◌, Bool, true, false, cond, nat_eq, is_some, ◌==◌, List, [], ◌∷◌, fold, length, Contains, IsTrue, Option, Some, None, inl, inr, refl, sym, ap, subst, ◌∙◌, arith}
 use Rattle.std.specs.Prelude.{slice_index_or}
 use Rattle.std.specs.List.{find}
@@ -7,7 +8,7 @@ use Rattle.std.proofs.lemmas.Bool.{cases_eq, cases_lt, eq-eqb, ltb-true}
 use Rattle.std.proofs.lemmas.List.{map-append}
 use Rattle.std.proofs.lemmas.List.Folds.{find-append}
 use Rattle.std.proofs.lemmas.List.Sums.{fold-append}
-use Rattle.proof_base.proofs.Members.{has_head, has_tail}
+use Rattle.weave_data.proofs.Members.{has_head, has_tail}
 use Rattle.graph_ops.specs.declared.op.Op.{Op}
 use Rattle.program_defs.specs.declared.script.Script.{Script}
 use Rattle.program_defs.specs.declared.script.Step.TheVariants.{Judge, Send}
@@ -28,7 +29,7 @@ use Rattle.step_rules.specs.Entries.{after_judge, after_send, judgement_in_fligh
 use Rattle.step_rules.specs.IsCore.{IsCore}
 use Rattle.step_rules.specs.Requests.{is_judged, ops_in}
 use Rattle.step_rules.specs.Trace.{is_ok, state_after}
-use Rattle.weaver_core.specs.Cores.{CoreView, Does}
+use Rattle.weaver_core.specs.Cores.{CoreView, DoesStep}
 use Rattle.drive_rules.specs.Heads.{IsQuiet}
 use Rattle.weave_drive.specs.Driving.{Drives, DrivesGates, is_driving_deed}
 use Rattle.weave_drive.specs.Loops.{EndsBelow}
@@ -93,7 +94,7 @@ module _ (script : Script) (g : ℕ) where
       ∙ sends-by middle.account (subst (λ (gs : List (List GateEntry)). g < length gs) (sym j.same) inside)
       (λ flight is. j.judged flight (ap (λ (gs : List (List GateEntry)). flight_of (slice_index_or gs g [])) (sym j.same) ∙ is)) (flight_of (gate_log middle.account g)) refl
 
-pub flight-ended : (old middle new : CoreView) (g : ℕ) (a b : StepAnswer) → AreCores old middle → g < old.script.gates → Does (Judge g) old middle a → Does (Send g) middle new b → flight_of (gate_log new.state.account g) ≡ None
+pub flight-ended : (old middle new : CoreView) (g : ℕ) (a b : StepAnswer) → AreCores old middle → g < old.script.gates → DoesStep (Judge g) old middle a → DoesStep (Send g) middle new b → flight_of (gate_log new.state.account g) ≡ None
 flight-ended old middle new g a b cores inside judged sent =
     ap (λ (s : CoreState). flight_of (gate_log s.account g)) (sent.state_is ∙ ap (λ s. state_after s middle.state (Send g)) judged.script_is ∙ ap (λ s. state_after old.script s (Send g)) judged.state_is)
     ∙ ends-flight old.script g old.state (let many = cores.before.account.gatekeepers.as_many in omega (arith, many, inside))

@@ -1,4 +1,5 @@
 -- A visit that is done reads one vertex more, and a shard that was made ready is one less to wait for.
+-- Used by `look` and `visit`.
 use Rattle.std.proofs.Common.{◌≡◌, ℕ, zero, suc, ◌+◌, ◌-◌, ◌<◌, ◌≤◌, Bool, true, false, is_some, cond, ◌==◌, List, [], ◌∷◌, ◌++◌, length, Option, Some, None, inl, inr, refl, sym, ap, subst, ◌∙◌, arith}
 use Rattle.std.specs.Prelude.{slice_index_or, slice_set, take}
 use Rattle.std.specs.List.{filter, find, flat_map}
@@ -36,10 +37,10 @@ use Rattle.step_rules.specs.Entries.{account_with, after_visit, at_request, upda
 use Rattle.step_rules.specs.IsCore.{IsCore}
 use Rattle.step_rules.specs.Requests.{next_vertex}
 use Rattle.step_rules.specs.Trace.{is_ok}
-use Rattle.weaver_core.specs.Cores.{CoreView, Does}
+use Rattle.weaver_core.specs.Cores.{CoreView, DoesStep}
 use Rattle.drive_rules.specs.Links.{link_count}
 use Rattle.weave_drive.specs.Driving.{Drives}
-use Rattle.weave_drive.specs.LowerLaws.{LowerLaws}
+use Rattle.weave_drive.specs.LowerLaws.{LawsForDriving}
 use Rattle.weave_drive.specs.Progress.{AreCores, IsReading, MakesReady, ReadsOnward, reading_left, reading_left_of, unready_of}
 use Rattle.weave_drive.proofs.After.{account-after, not-done}
 use Rattle.weave_drive.proofs.Driven.{drives-core, drives-on}
@@ -106,7 +107,7 @@ reads-stay script old new is now on r = let a = is.shards.as_many in let b = now
 
 -- Shards that are not ready
 
-module _ (laws : LowerLaws) (script : Script) (limits : IsWithinLimits script) (old new : Account) (is : IsAccount script old) (now : IsAccount script new) (on : GoesOn old new) (stamp : Stamp) where
+module _ (laws : LawsForDriving) (script : Script) (limits : IsWithinLimits script) (old new : Account) (is : IsAccount script old) (now : IsAccount script new) (on : GoesOn old new) (stamp : Stamp) where
   abbrev waits : Account → ℕ → Bool
   waits account s = is_some (first_unready script.gates stamp (shard_log account s))
 
@@ -172,7 +173,7 @@ is_other Ok = false
 is_other (Again shard gate) = false
 is_other _ = true
 
-module _ (laws : LowerLaws) (old new : CoreView) (r home : ℕ) (answer : StepAnswer) (cores : AreCores old new) (reading : IsReading old.script r home old.state.account) (did : Does (Visit r) old new answer) where
+module _ (laws : LawsForDriving) (old new : CoreView) (r home : ℕ) (answer : StepAnswer) (cores : AreCores old new) (reading : IsReading old.script r home old.state.account) (did : DoesStep (Visit r) old new answer) where
   account : Account
   account = old.state.account
 

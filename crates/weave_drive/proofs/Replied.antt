@@ -1,4 +1,5 @@
 -- A request begins unless it has begun, and has its reply once it was sent or read.
+-- Used by `answer`, `drive_all` and `visit`.
 use Rattle.std.proofs.Common.{◌≡◌, ℕ, zero, suc, ◌+◌, ◌<◌, ◌≤◌, Bool, true, false, not, nat_lt, is_some, cond, ◌==◌, ◌&&◌, ◌||◌, List, [], ◌∷◌, ◌++◌, length, Contains, IsTrue, Option, Some, None, inl, inr, refl, sym, ap, subst, ◌∙◌, arith}
 use Rattle.std.specs.Prelude.{slice_get, slice_index_or}
 use Rattle.std.specs.List.{find, list_any, range_with_len}
@@ -7,7 +8,7 @@ use Rattle.std.proofs.lemmas.Bool.{and_parts, cases_eq, eq-eqb, eqb-true, lt-ltb
 use Rattle.std.proofs.lemmas.List.Concat.{flat_map-append}
 use Rattle.std.proofs.lemmas.List.Elements.{Contains-append_cases}
 use Rattle.std.proofs.lemmas.List.Sums.{fold-append}
-use Rattle.proof_base.proofs.Members.{any_has, cut_at, filter_has, find_has, find_lacks, flat_has, has_flat, has_head, has_none, has_read, only}
+use Rattle.weave_data.proofs.Members.{any_has, cut_at, filter_has, find_has, find_lacks, flat_has, has_flat, has_head, has_none, has_read, only}
 use Rattle.vector_stamp.specs.declared.clock.Stamp.{Stamp}
 use Rattle.program_defs.specs.declared.program.Program.{Program}
 use Rattle.program_defs.specs.declared.script.Request.{Request}
@@ -38,10 +39,10 @@ use Rattle.step_rules.specs.Entries.{account_with, after_begin, after_reply, aft
 use Rattle.step_rules.specs.IsCore.{IsCore}
 use Rattle.step_rules.specs.Requests.{finds_flight, has_begun, has_ended, has_reply, is_answered, waits_for_earlier}
 use Rattle.step_rules.specs.Trace.{is_ok, state_after}
-use Rattle.weaver_core.specs.Cores.{CoreView, Does}
+use Rattle.weaver_core.specs.Cores.{CoreView, DoesStep}
 use Rattle.drive_rules.specs.Heads.{IsQuiet}
 use Rattle.weave_drive.specs.Driving.{AreReplied, Drives, is_driving}
-use Rattle.weave_drive.specs.LowerLaws.{LowerLaws}
+use Rattle.weave_drive.specs.LowerLaws.{LawsForDriving}
 use Rattle.weave_drive.specs.Loops.{AnswersBelow}
 use Rattle.weave_drive.specs.Progress.{AreCores, AreAnsweredBelow, IsReading, HasNoNextVertex}
 use Rattle.weave_drive.proofs.After.{account-after, set-other, set-there}
@@ -88,7 +89,7 @@ session-inside script limits state core r request is = let many = core.sessions 
 
 -- Begin
 
-module _ (laws : LowerLaws) (script : Script) (limits : IsWithinLimits script) (r : ℕ) (request : Request) (request-is : request_at script r ≡ Some request) where
+module _ (laws : LawsForDriving) (script : Script) (limits : IsWithinLimits script) (r : ℕ) (request : Request) (request-is : request_at script r ≡ Some request) where
   none-any : {A : Type 0} (p : A → Bool) (xs : List A) → ((x : A) → Contains xs x → IsTrue (p x) → ⊥) → list_any p xs ≡ false
   none-any p xs none = at (list_any p xs) refl
     where
@@ -322,7 +323,7 @@ module _ (laws : LowerLaws) (script : Script) (limits : IsWithinLimits script) (
 
 -- One request in its turn
 
-module _ (laws : LowerLaws) (old first : CoreView) (r : ℕ) (request : Request) (request-is : request_at old.script r ≡ Some request) (cores : AreCores old first) (a : StepAnswer) (did : Does (Begin r) old first a)
+module _ (laws : LawsForDriving) (old first : CoreView) (r : ℕ) (request : Request) (request-is : request_at old.script r ≡ Some request) (cores : AreCores old first) (a : StepAnswer) (did : DoesStep (Begin r) old first a)
     (answered : AreAnsweredBelow old.script r old.state.account) where
   pub first-begins : Begins laws old.script cores.limits r request request-is first.state.account
   first-begins = subst (λ (s : CoreState). Begins laws old.script cores.limits r request request-is s.account) (sym did.state_is)
@@ -377,7 +378,7 @@ module _ (laws : LowerLaws) (old first : CoreView) (r : ℕ) (request : Request)
 
     -- so it has its reply
     pub last-answered : (last : CoreView) (b : StepAnswer) → IsQuiet middle.state.account → is_answered middle.state.account r request request.work ≡ true
-        → Does (Reply r) middle last b → Drives 0 middle last → AreAnsweredBelow old.script (r + 1) last.state.account
+        → DoesStep (Reply r) middle last b → Drives 0 middle last → AreAnsweredBelow old.script (r + 1) last.state.account
     last-answered last b quiet ended replied on-drives =
         let same : middle.script ≡ old.script = drives.script_is ∙ did.script_is in
         let last-is : last.state ≡ state_after old.script middle.state (Reply r) = replied.state_is ∙ ap (λ s. state_after s middle.state (Reply r)) same in

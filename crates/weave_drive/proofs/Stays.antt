@@ -1,4 +1,5 @@
 -- What stays of the report while driving steps are made.
+-- Used by `drive`.
 use Rattle.std.proofs.Common.{◌≡◌, ℕ, zero, suc, ◌<◌, ◌==◌, true, false, List, [], ◌∷◌, fold, length, Contains, IsTrue, Some, None, inl, inr, refl, sym, ap, subst, ◌∙◌, arith}
 use Rattle.std.specs.Prelude.{slice_index_or}
 use Rattle.std.specs.List.{find, flat_map}
@@ -7,8 +8,8 @@ use Rattle.std.proofs.lemmas.List.{map-append}
 use Rattle.std.proofs.lemmas.List.Concat.{flat_map-append}
 use Rattle.std.proofs.lemmas.List.Elements.{Contains-append_left}
 use Rattle.std.proofs.lemmas.List.Folds.{find-append}
-use Rattle.proof_base.proofs.Members.{flat_has, has_flat, has_head, has_none, has_read, has_tail}
-use Rattle.proof_base.proofs.Numbers.{has-in, in-has}
+use Rattle.weave_data.proofs.Members.{flat_has, has_flat, has_head, has_none, has_read, has_tail}
+use Rattle.weave_data.proofs.Numbers.{has-in, in-has}
 use Rattle.program_defs.specs.declared.program.Program.{Program}
 use Rattle.program_defs.specs.declared.script.Request.{Request}
 use Rattle.program_defs.specs.declared.script.Script.{Script}
@@ -33,7 +34,7 @@ use Rattle.step_rules.specs.IsCore.{IsCore}
 use Rattle.step_rules.specs.Trace.{state_after}
 use Rattle.weaver_core.specs.Cores.{CoreView}
 use Rattle.weave_drive.specs.Driving.{AreDriving, Drives, IsDriven}
-use Rattle.weave_drive.specs.LowerLaws.{LowerLaws}
+use Rattle.weave_drive.specs.LowerLaws.{LawsForDriving}
 use Rattle.weave_drive.specs.Staying.{ReportStays}
 use Rattle.weave_drive.proofs.Driven.{drives-core, drives-on}
 
@@ -70,7 +71,7 @@ module _ (old new : Account) (on : GoesOn old new) where
       (Contains-append_left (ended_in (gate_log old place.0)) (ended_in more.0) r (subst (λ l. Contains (ended_in l) r) (sym place.2) from.2)) in
       in-has (flat_map ended_in new.gates) r (has_flat ended_in new.gates (gate_log new place.0) r (at-list new.gates place.0 (let less = place.1 in omega (arith, less, many))) there)
 
-module _ (laws : LowerLaws) (script : Script) (limits : IsWithinLimits script) (upto : ℕ) (r : ℕ) (request : Request) (program : Program) (request-is : request_at script r ≡ Some request) (work-is : request.work ≡ Look program) where
+module _ (laws : LawsForDriving) (script : Script) (limits : IsWithinLimits script) (upto : ℕ) (r : ℕ) (request : Request) (program : Program) (request-is : request_at script r ≡ Some request) (work-is : request.work ≡ Look program) where
   reads-through : (steps : List Step) (state : CoreState) → IsCore script state → AreDriving script upto state steps → next_visit (reads_of state.account r) program ≡ None
       → reads_of (fold (state_after script) state steps).account r ≡ reads_of state.account r
   reads-through [] state core are whole = refl
@@ -83,7 +84,7 @@ module _ (laws : LowerLaws) (script : Script) (limits : IsWithinLimits script) (
       ap (λ (s : CoreState). reads_of s.account r) driven.is
       ∙ reads-through driven.steps old core driven.are ((core.account.programs r request program request-is work-is).whole ended)
 
-pub report-stays : (laws : LowerLaws) (upto : ℕ) (old new : CoreView) → IsWithinLimits old.script → IsCore old.script old.state → Drives upto old new → ReportStays old.script old.state.account new.state.account
+pub report-stays : (laws : LawsForDriving) (upto : ℕ) (old new : CoreView) → IsWithinLimits old.script → IsCore old.script old.state → Drives upto old new → ReportStays old.script old.state.account new.state.account
 report-stays laws upto old new limits core d =
     let on = drives-on upto laws old new limits core d in
     let now = drives-core upto old new core d in

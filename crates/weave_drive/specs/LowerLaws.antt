@@ -1,4 +1,4 @@
--- The laws of the crates below that driving stands on, in one. No public contract cites this.
+-- The laws of the crates below that driving relies on, in one record. No public contract cites this.
 use Rattle.std.specs.Prelude.{◌≡◌, ℕ, ◌<◌, ◌≤◌, not, ◌==◌, length, Contains, IsTrue, None, Some}
 use Rattle.vector_stamp.specs.declared.clock.Stamp.{Stamp}
 use Rattle.vector_stamp.specs.Clocks.{clock_after_hearing}
@@ -31,7 +31,7 @@ use Rattle.drive_rules.specs.Heads.{IsQuiet, AllArrived, AllProcessed, CanApply}
 use Rattle.drive_rules.specs.Readiness.{IsPassed}
 use Rattle.drive_rules.specs.Links.{link_count}
 
-pub record LowerLaws : Type 0 where
+pub record LawsForDriving : Type 0 where
   -- steps_keep_the_core
   pub goes_on : (script : Script) (state : CoreState) (step : Step) → IsWithinLimits script → IsStepOf script step
       → IsCore script state

@@ -77,7 +77,7 @@ pub record AppliesChannel (gates shard gate : ℕ) (old new : CoreState) (moved 
   pub same : moved ≡ false → new ≡ old
   pub stuck : moved ≡ false → ¬ CanApply old.account shard gate
 
--- and so those of the first n channels
+-- the same for the first n channels
 pub record AppliesRound (gates shard n : ℕ) (old new : CoreState) (moved : Bool) : Type 0 where
   pub same_gates : new.account.gates ≡ old.account.gates
   pub fewer : IsTrue moved → left_of gates new.account shard < left_of gates old.account shard

@@ -10,7 +10,7 @@ use Rattle.weave_account.specs.declared.account.Account.{Account}
 use Rattle.weave_account.specs.Account.{is_ended, pairs_in, reads_of, stamp_of}
 use Rattle.weave_account.specs.GoesOn.{IsBeginningOf}
 
--- Stamps and verdicts stay. A finished program stays finished, with what it read, so with its answer. The pairs are
+-- Stamps and verdicts stay. A finished program stays finished, with what it read, hence with its answer. The pairs are
 -- the first ones in the list.
 pub record ReportStays (script : Script) (account next : Account) : Type 0 where
   pub stamps : (r : ℕ) (stamp : Stamp) → stamp_of account r ≡ Some stamp → stamp_of next r ≡ Some stamp

@@ -1,4 +1,5 @@
 -- The channels of a gatekeeper: their numbers run from 1, and their stamps rise.
+-- Used by `channels_rise`, `messages_come_before` and LowMarks.
 use Rattle.std.proofs.Common.{◌≡◌, ℕ, suc, ◌+◌, ◌<◌, nat_eq, List, [], ◌∷◌, ◌++◌, length, map, Contains, IsTrue, Option, None, Some, inl, inr, refl, sym, ap, subst, ◌∙◌, arith}
 use Rattle.std.specs.List.{range_with_len}
 use Rattle.std.specs.Option.{ForSome}
@@ -19,9 +20,9 @@ use Rattle.weave_entries.specs.declared.gate_log.GateDeed.TheVariants.{BeganTx, 
 use Rattle.weave_entries.specs.GateReplay.{Begun, next_stamp, nop_message, clock_after, clock_of, flight_after, flight_of, messages_by, to_shard, addressed_to, next_number}
 use Rattle.weave_entries.specs.GateRules.{IsBegunAt, FitsAs, IsGateLog, StampsRise, IsChannel}
 use Rattle.weave_entries.specs.Sending.{message_to, messages_of}
-use Rattle.proof_base.proofs.Members.{only}
-use Rattle.proof_base.proofs.Ordered.{pairs_push}
-use Rattle.proof_base.proofs.Ranges.{range_more}
+use Rattle.weave_data.proofs.Members.{only}
+use Rattle.weave_data.proofs.Ordered.{pairs_push}
+use Rattle.weave_data.proofs.Ranges.{range_more}
 use Rattle.weave_entries.proofs.Replay.{clock-push, flight-push, addressed-push, by_entries}
 use Rattle.weave_entries.proofs.Rising.{before_is_at_most, begun-before, rises}
 use Rattle.weave_entries.proofs.Picked.{OneAtMost, NoMessage, OneMessage, one_at_most}
@@ -141,7 +142,7 @@ module _ (laws : ClockLaws) where
         grows clock (first_clock epoch) flight sent (before_is_at_most laws clock (first_clock epoch) (laws.later_epoch clock (first_clock epoch) less)) so_far
     step (Finished request) clock flight sent eight is_clock is_flight is_sent fits so_far = grows clock clock flight sent (laws.at_most_itself clock) so_far
 
-  -- so it is of each channel at the end of a gatekeeper's log
+  -- this holds of each channel at the end of a gatekeeper's log
   pub channels_rise : (home shards shard : ℕ) → home < 8 → (log : List GateEntry) → IsGateLog home shards log → RisesBelow (clock_of home log) (flight_of log) (addressed_to shard log)
   channels_rise home shards shard below =
       by_entries home shards (λ log. RisesBelow (clock_of home log) (flight_of log) (addressed_to shard log))

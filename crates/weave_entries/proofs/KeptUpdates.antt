@@ -1,5 +1,6 @@
 -- What a program reads of the updates that are kept, and of all.
-use Rattle.std.proofs.Common.{◌≡◌, ℕ, zero, suc, ◌+◌, ◌≤◌, Bool, true, false, List, [], ◌∷◌, drop, slice_get, IsTrue, inl, inr, refl, sym, ap, ◌∙◌, arith}
+-- Used by `kept_updates_are_read_like_all`.
+use Rattle.std.proofs.Common.{◌≡◌, ℕ, zero, suc, ◌+◌, ◌≤◌, Bool, true, List, [], ◌∷◌, drop, slice_get, IsTrue, inl, inr, refl, sym, ◌∙◌, arith}
 use Rattle.std.specs.Option.{IsSomeAnd}
 use Rattle.std.proofs.lemmas.Bool.{cases_lt, or_left}
 use Rattle.weave_data.specs.declared.name.Name.{Name}
@@ -7,6 +8,7 @@ use Rattle.vector_stamp.specs.declared.clock.Stamp.{Stamp}
 use Rattle.vector_stamp.specs.Order.{stamp_before}
 use Rattle.vector_stamp.specs.Precedence.{Given}
 use Rattle.vector_stamp.specs.Seeing.{with_front, last_place, is_seen, seen_of, last_seen}
+use Rattle.vector_stamp.proofs.LastPlaces.{front-first, last-dropped}
 use Rattle.weave_entries.specs.declared.shard_log.ShardEntry.{ShardEntry}
 use Rattle.weave_entries.specs.ShardRules.{dropped_of, update_stamps, kept_stamps, updates_read, last_read, IsKeptFor}
 
@@ -15,11 +17,6 @@ use Rattle.weave_entries.specs.ShardRules.{dropped_of, update_stamps, kept_stamp
 front-past : (front : Bool) (place : ℕ) → 1 ≤ place → with_front front place ≡ suc place
 front-past front zero some = absurd (omega (arith, some))
 front-past front (suc place) some = refl
-
-front-first : (front : Bool) (place : ℕ) → front ≡ true → 1 ≤ with_front front place
-front-first true zero is = omega arith
-front-first true (suc place) is = omega arith
-front-first false place is = absurd cc
 
 -- the last element that passes is also the last one of a list of which some are dropped, if one of the rest passes
 place-dropped : {A : Type 0} (test : A → Bool) (n : ℕ) (xs : List A) → 1 ≤ last_place test (drop n xs) → last_place test xs ≡ n + last_place test (drop n xs)
@@ -31,18 +28,6 @@ place-dropped test (suc n) (x ∷ xs) some =
     let front : last_place test (x ∷ xs) ≡ suc (last_place test xs) = front-past (test x) (last_place test xs) (omega (arith, rest, here)) in
     let both : suc (last_place test xs) ≡ suc n + last_place test (drop n xs) = omega (arith, rest) in
     front ∙ both
-
-last-of-none : (n : ℕ) → last_seen n [] ≡ []
-last-of-none zero = refl
-last-of-none (suc n) = refl
-
--- and so is the last of the first ones
-last-dropped : (n place all : ℕ) (updates : List Stamp) → all ≡ n + place → 1 ≤ place → last_seen all updates ≡ last_seen place (drop n updates)
-last-dropped zero place all updates is some = let same : all ≡ place = omega (arith, is) in ap (λ (m : ℕ). last_seen m updates) same
-last-dropped (suc n) place all [] is some = last-of-none all ∙ sym (last-of-none place)
-last-dropped (suc n) place zero (update ∷ updates) is some = absurd (omega (arith, is, some))
-last-dropped (suc n) place (suc zero) (update ∷ updates) is some = absurd (omega (arith, is, some))
-last-dropped (suc n) place (suc (suc all)) (update ∷ updates) is some = last-dropped n place (suc all) updates (omega (arith, is)) some
 
 -- What is read
 

@@ -13,4 +13,5 @@ pub mod OracleLogs
 pub mod Sessions
 pub mod ShardLogs
 pub mod StoreLogs
+pub mod LastCommits
 pub mod KeptUpdates

@@ -1,7 +1,8 @@
 -- Low marks: at most the message's stamp, and at most the stamp of each program that is running.
+-- Used by `low_marks_are_below`, `stamps_rise` and NonePast.
 use Rattle.std.proofs.Common.{◌≡◌, ℕ, ◌<◌, List, [], ◌∷◌, ◌++◌, map, fold, not, Contains, IsTrue, inl, inr, refl, sym, subst, ◌∙◌}
 use Rattle.std.proofs.lemmas.List.Elements.{Contains-append_cases}
-use Rattle.proof_base.proofs.Members.{has_none, has_read, has_head, has_tail, has_map, map_has, only, filter_has}
+use Rattle.weave_data.proofs.Members.{has_none, has_read, has_head, has_tail, has_map, map_has, only, filter_has}
 use Rattle.vector_stamp.specs.declared.clock.Clock.{Clock}
 use Rattle.vector_stamp.specs.declared.clock.Stamp.{Stamp}
 use Rattle.vector_stamp.specs.Order.{HasEightCounts, HaveEightCounts, is_at_most}
@@ -136,7 +137,7 @@ module _ (laws : ClockLaws) where
     sends_low (Raised epoch) fits addressed has = absurd (has_none addressed has)
     sends_low (Finished request) fits addressed has = absurd (has_none addressed has)
 
-  -- so it is of each message at the end of a gatekeeper's log
+  -- this holds of each message at the end of a gatekeeper's log
   pub lows : (home shards : ℕ) → home < 8 → (log : List GateEntry) → IsGateLog home shards log → (addressed : Addressed) → Contains (sent_in log) addressed → LowOf (running_of log) addressed
   lows home shards below =
       by_entries home shards (λ log. (addressed : Addressed) → Contains (sent_in log) addressed → LowOf (running_of log) addressed)

@@ -1,11 +1,12 @@
 -- No clock of a log counts an event of a gatekeeper that isn't there, if no heard clock does.
+-- Used by `clocks_count_none_past`.
 use Rattle.std.proofs.Common.{ℕ, ◌<◌, List, [], ◌∷◌, ◌++◌, map, Contains, Option, None, Some, inl, inr, refl, sym, ap, subst, ◌∙◌}
 use Rattle.std.specs.List.{flat_map}
 use Rattle.std.specs.Option.{ForSome}
 use Rattle.std.proofs.lemmas.List.{append-nil}
 use Rattle.std.proofs.lemmas.List.Elements.{Contains-append_cases}
-use Rattle.proof_base.proofs.Entries as entries
-use Rattle.proof_base.proofs.Members.{has_none, has_read, map_has, flat_has, only}
+use Rattle.weave_data.proofs.Entries as entries
+use Rattle.weave_data.proofs.Members.{has_none, has_read, map_has, flat_has, only}
 use Rattle.vector_stamp.specs.declared.clock.Clock.{Clock}
 use Rattle.vector_stamp.specs.declared.clock.Stamp.{Stamp}
 use Rattle.vector_stamp.specs.Order.{CountsNonePast}

@@ -1,4 +1,5 @@
 -- A request ends after its begin, by its author, and once if it is begun once.
+-- Used by `requests_end`, `what_has_not_ended_goes_on` and OwnStamps.
 use Rattle.std.proofs.Common.{◌≡◌, ◌≢◌, ℕ, Bool, true, false, not, List, [], ◌∷◌, ◌++◌, map, filter, Contains, Option, None, Some, inl, inr, refl, sym, ap, subst, ◌∙◌, arith}
 use Rattle.std.specs.List.{AllPairs, flat_map, list_any}
 use Rattle.std.proofs.lemmas.Bool.{both_ways, eqb-true, and_parts}
@@ -11,13 +12,13 @@ use Rattle.weave_entries.specs.declared.gate_log.GateDeed.{GateDeed}
 use Rattle.weave_entries.specs.declared.gate_log.GateDeed.TheVariants.{BeganTx, BeganProgram, Sent, Nop, Heard, Raised, Finished}
 use Rattle.weave_entries.specs.GateReplay.{Begun, is_begun, tx_by, program_by, txs_of, programs_of, requests_of, flight_after, flight_of, running_after, running_of}
 use Rattle.weave_entries.specs.GateRules.{FitsAs, IsGateLog, BeginsEachOnce, ended_by, EndsEachOnce, EndsAs, EndsWhatItBegan}
-use Rattle.proof_base.proofs.Ends.{by_last}
-use Rattle.proof_base.proofs.Ends.{flat_push}
-use Rattle.proof_base.proofs.Members.{only, has_none, has_last, filter_has, any_has}
-use Rattle.proof_base.proofs.Ordered.{pairs_push, pairs_front, pairs_last, pairs_cases}
+use Rattle.weave_data.proofs.Ends.{by_last}
+use Rattle.weave_data.proofs.Ends.{flat_push}
+use Rattle.weave_data.proofs.Members.{only, has_none, has_last, filter_has, any_has}
+use Rattle.weave_data.proofs.Ordered.{pairs_push, pairs_front, pairs_last, pairs_cases}
 use Rattle.weave_entries.proofs.Replay.{flight-push, running-push, txs-push, programs-push, by_entries}
 
--- two elements of which no pair has R either way are one
+-- two elements of which no pair has R either way are the same
 one_place : {A : Type 0} (R : A → A → Type 0) (xs : List A) → AllPairs R xs → (x y : A) → Contains xs x → Contains xs y → (R x y → ⊥) → (R y x → ⊥) → x ≡ y
 one_place R xs pairs x y at_x at_y not_first not_second =
     elim (pairs_cases R xs pairs x y at_x at_y) [
@@ -114,7 +115,7 @@ begins_tx author request stamp requests ended flight running new so_far =
       alone = so_far.alone;
     })
 
--- so is a program
+-- the same holds of a program
 begins_program : (author request : ℕ) (stamp : Stamp) (requests ended : List ℕ) (flight : Option Begun) (running : List Begun) → ((r : ℕ) → Contains requests r → r ≢ request) → EndsTo requests ended flight running → EndsTo (requests ++ request ∷ []) (ended ++ []) flight (running ++ record { author = author; request = request; stamp = stamp } ∷ [])
 begins_program author request stamp requests ended flight running new so_far =
     let begun : Begun = record { author = author; request = request; stamp = stamp } in

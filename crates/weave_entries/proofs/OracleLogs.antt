@@ -1,10 +1,11 @@
 -- The log of the oracle grows by right entries, its pairs make no cycle, and the stamps of each pair are unordered.
+-- Used by `an_oracle_log_goes_on` and `an_oracle_log_has_no_cycle`.
 use Rattle.std.proofs.Common.{◌≡◌, ◌≢◌, ℕ, zero, suc, List, [], ◌∷◌, ◌++◌, All, Contains, IsTrue, None, Some, slice_get, inl, inr, refl, sym, ap, subst, ◌∙◌, append_assoc, arith}
 use Rattle.std.specs.List.{filter_map}
 use Rattle.std.specs.Option.{option_map}
 use Rattle.std.proofs.lemmas.List.{append-nil}
 use Rattle.std.proofs.lemmas.List.Elements.{All-contains, Contains-append_cases}
-use Rattle.proof_base.proofs.Members.{has_none}
+use Rattle.weave_data.proofs.Members.{has_none}
 use Rattle.vector_stamp.specs.declared.clock.Stamp.{Stamp}
 use Rattle.vector_stamp.specs.Order.{id_of, unordered}
 use Rattle.vector_stamp.specs.Precedence.{Given, IsAcyclic}

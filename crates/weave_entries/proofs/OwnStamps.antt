@@ -1,7 +1,8 @@
 -- The stamps of what was begun and sent are stamps that the gatekeeper made.
+-- Used by `low_marks_are_below`, `messages_come_before`, 3 more and crates shard_lock and weaver_core.
 use Rattle.std.proofs.Common.{◌≡◌, ℕ, List, [], ◌∷◌, ◌++◌, Contains, Some, inl, inr, refl, sym, subst}
 use Rattle.std.proofs.lemmas.List.Elements.{Contains-append_cases, Contains-append_left, Contains-append_right}
-use Rattle.proof_base.proofs.Members.{has_none, has_head, only, filter_has, map_has, flat_has, has_flat}
+use Rattle.weave_data.proofs.Members.{has_none, has_head, only, filter_has, map_has, flat_has, has_flat}
 use Rattle.vector_stamp.specs.declared.clock.Clock.{Clock}
 use Rattle.vector_stamp.specs.declared.clock.Stamp.{Stamp}
 use Rattle.graph_ops.specs.declared.op.Op.{Op}

@@ -1,4 +1,5 @@
 -- A transaction has at most one message to a shard.
+-- Used by Channels and Small.
 use Rattle.std.proofs.Common.{◌≡◌, ℕ, ◌≤◌, nat_eq, List, [], ◌∷◌, map, inl, inr, refl, ap, ◌∙◌, arith}
 use Rattle.std.specs.List.{list_any}
 use Rattle.graph_ops.specs.declared.op.Op.{Op}
@@ -9,8 +10,8 @@ use Rattle.weave_entries.specs.declared.verdict.Verdict.TheVariants.{Committed, 
 use Rattle.weave_entries.specs.declared.gate_log.GateEntry.{GateEntry}
 use Rattle.weave_entries.specs.GateReplay.{Begun, to_shard}
 use Rattle.weave_entries.specs.Sending.{keeps, message_to, messages_of, shards_named}
-use Rattle.proof_base.proofs.Ends.{filter_map_is}
-use Rattle.proof_base.proofs.Ranges.{picked, picked_one, picked_beyond}
+use Rattle.weave_data.proofs.Ends.{filter_map_is}
+use Rattle.weave_data.proofs.Ranges.{picked, picked_one, picked_beyond}
 
 module _ (shards : ℕ) (log : List GateEntry) (begun : Begun) (ops : List Op) (shard : ℕ) where
   to_one : (counts : List Counted) → to_shard shard (map (message_to shards log begun ops counts) (shards_named shards counts)) ≡ map (message_to shards log begun ops counts) (picked (λ n. list_any (keeps shards n) counts) shard 0 shards)

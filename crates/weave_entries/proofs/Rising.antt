@@ -1,4 +1,5 @@
 -- The clock of a gatekeeper never goes back, and its stamps rise.
+-- Used by `messages_come_before`, `stamps_rise`, Channels, LowMarks, Small and Ticks.
 use Rattle.std.proofs.Common.{◌≡◌, ℕ, ◌<◌, ◌≤◌, List, [], ◌∷◌, ◌++◌, Contains, IsTrue, Option, None, Some, inl, inr, refl, sym, ap, subst, ◌∙◌, arith}
 use Rattle.std.specs.Option.{ForSome}
 use Rattle.std.proofs.lemmas.Bool.{or_left, cases_order}
@@ -14,8 +15,8 @@ use Rattle.weave_entries.specs.declared.gate_log.GateDeed.{GateDeed}
 use Rattle.weave_entries.specs.declared.gate_log.GateDeed.TheVariants.{BeganTx, BeganProgram, Sent, Nop, Heard, Raised, Finished}
 use Rattle.weave_entries.specs.GateReplay.{clock_after_last, begun_stamp, next_stamp, clock_after, clock_of, stamps_by, stamps_of}
 use Rattle.weave_entries.specs.GateRules.{IsBegunAt, FitsAs, IsGateLog, StampsRise}
-use Rattle.proof_base.proofs.Members.{only}
-use Rattle.proof_base.proofs.Ordered.{pairs_push}
+use Rattle.weave_data.proofs.Members.{only}
+use Rattle.weave_data.proofs.Ordered.{pairs_push}
 use Rattle.weave_entries.proofs.Replay.{clock-push, stamps-push, by_entries}
 
 module _ (laws : ClockLaws) where

@@ -1,12 +1,13 @@
 -- Which requests of a session have begun and have their replies, and their stamps.
+-- Used by `sessions_go_in_turn`.
 use Rattle.std.proofs.Common.{◌≡◌, ℕ, zero, suc, ◌+◌, ◌-◌, ◌<◌, ◌⊎◌, add-one, true, cond, List, [], ◌∷◌, ◌++◌, map, take, slice_get, Contains, IsTrue, Some, inl, inr, refl, sym, ap, subst, ◌∙◌, arith}
 use Rattle.std.proofs.lemmas.List.{append-nil, map-append}
 use Rattle.std.proofs.lemmas.List.Sums.{fold-append}
 use Rattle.std.proofs.lemmas.List.Elements.{Contains-append_cases}
-use Rattle.proof_base.proofs.Ends.{flat_push}
-use Rattle.proof_base.proofs.Entries as entries
-use Rattle.proof_base.proofs.Members.{has_none, only}
-use Rattle.proof_base.proofs.Ordered.{pairs_none, pairs_push}
+use Rattle.weave_data.proofs.Ends.{flat_push}
+use Rattle.weave_data.proofs.Entries as entries
+use Rattle.weave_data.proofs.Members.{has_none, only}
+use Rattle.weave_data.proofs.Ordered.{pairs_none, pairs_push}
 use Rattle.vector_stamp.specs.declared.clock.Stamp.{Stamp}
 use Rattle.vector_stamp.specs.Order.{stamp_before, StampsRise}
 use Rattle.weave_entries.specs.declared.session_log.SessionEntry.{SessionEntry}

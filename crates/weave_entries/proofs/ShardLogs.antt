@@ -1,4 +1,5 @@
 -- The replay of a shard's log with one more entry.
+-- Used by `arrivals_stay`, `the_shard_replay_goes_on`, `updates_go_on` and crate shard_node.
 use Rattle.std.proofs.Common.{◌≡◌, ℕ, ◌+◌, ◌≤◌, Bool, true, false, cond, List, [], ◌∷◌, ◌++◌, length, Contains, Option, None, Some, is_some, inl, inr, refl, sym, ap, subst, ◌∙◌, arith}
 use Rattle.std.specs.Prelude.{◌==◌, ◌&&◌, count_by, filter_map}
 use Rattle.std.specs.List.{cons_option, find, flat_map}
@@ -8,40 +9,23 @@ use Rattle.std.proofs.lemmas.Bool.Decides.{eqb_tells}
 use Rattle.std.proofs.lemmas.List.{append_assoc, append-nil, length-append}
 use Rattle.std.proofs.lemmas.List.Elements.{filter_map-append, Contains-append_cases}
 use Rattle.std.proofs.lemmas.List.Folds.{find-append}
-use Rattle.proof_base.proofs.Ends.{by_last, count_push, flat_push}
-use Rattle.proof_base.proofs.Entries as entries
-use Rattle.proof_base.proofs.Members.{has_none, has_head, has_tail, only}
+use Rattle.weave_data.proofs.Ends.{by_last, count_push, flat_push}
+use Rattle.weave_data.proofs.Entries as entries
+use Rattle.weave_data.proofs.Members.{has_none, has_head, has_tail, only}
+use Rattle.weave_data.proofs.Options.{map-or, or_none, or_there}
 use Rattle.weave_data.specs.declared.name.Name.{Name}
 use Rattle.weave_entries.specs.declared.message.Message.{Message}
 use Rattle.weave_entries.specs.declared.shard_log.ShardEntry.{ShardEntry}
 use Rattle.weave_entries.specs.declared.shard_log.ShardDeed.{ShardDeed}
 use Rattle.weave_entries.specs.declared.shard_log.ShardDeed.TheVariants.{Arrived, Applied, Visited, Collected}
-use Rattle.weave_entries.specs.ShardReplay.{Arrival, arrival_by, arrivals_of, arrived_at, processed_by, processed_of, processed_count, applied_messages, updates_in, updates_of, dropped_after, dropped_from}
+use Rattle.weave_entries.specs.ShardReplay.{Arrival, arrival_by, arrivals_of, arrived_at, processed_by, processed_of, processed_count, applied_messages, updates_in, updates_of, dropped_after, dropped_from, ProcessedArrived}
 use Rattle.weave_entries.specs.ShardRules.{FitsShard, IsShardLog}
-
--- Lists, and values that may be there
 
 -- functions that agree on all elements choose the same
 filter_map-same : {A B : Type 0} (f g : A → Option B) (xs : List A) → ((x : A) → Contains xs x → f x ≡ g x) → filter_map f xs ≡ filter_map g xs
 filter_map-same f g [] same = refl
 filter_map-same f g (x ∷ xs) same =
     (λ i. cons_option (same x (has_head x xs) i) (filter_map f xs)) ∙ ap (cons_option (g x)) (filter_map-same f g xs (λ y has. same y (has_tail x xs y has)))
-
-or_none : {A : Type 0} (x : Option A) → option_or x None ≡ x
-or_none None = refl
-or_none (Some x) = refl
-
-or_there : {A : Type 0} (x y : Option A) → is_some x ≡ true → option_or x y ≡ x
-or_there None y there = absurd cc
-or_there (Some x) y there = refl
-
-map-or : {A B : Type 0} (f : A → B) (x y : Option A) → option_map f (option_or x y) ≡ option_or (option_map f x) (option_map f y)
-map-or f None y = refl
-map-or f (Some x) y = refl
-
--- each message that was processed had arrived
-abbrev pub ProcessedArrived : List ShardEntry → Type 0
-ProcessedArrived log = (of : ℕ × ℕ) → Contains (processed_of log) of → is_some (arrived_at of.0 of.1 log) ≡ true
 
 -- the first of these arrivals with this gatekeeper and number
 abbrev arrived_in : ℕ → ℕ → List Arrival → Option Message
@@ -53,6 +37,7 @@ module _ (log : List ShardEntry) (entry : ShardEntry) where
   arrivals-push : arrivals_of (log ++ entry ∷ []) ≡ arrivals_of log ++ arrival_by entry.deed
   arrivals-push = flat_push (λ (one : ShardEntry). arrival_by one.deed) log entry
 
+  -- what arrived with one more entry
   pub arrived-push : (gate number : ℕ) → arrived_at gate number (log ++ entry ∷ []) ≡ option_or (arrived_at gate number log) (arrived_in gate number (arrival_by entry.deed))
   arrived-push gate number =
       ap (arrived_in gate number) arrivals-push
@@ -94,6 +79,7 @@ module _ (log : List ShardEntry) (author gate number : ℕ) (message : Message) 
 -- What was processed
 
 module _ (log : List ShardEntry) (entry : ShardEntry) where
+  -- with one more entry its message is processed last
   pub processed-push : processed_of (log ++ entry ∷ []) ≡ processed_of log ++ processed_by entry.deed
   processed-push = flat_push (λ (one : ShardEntry). processed_by one.deed) log entry
 
@@ -104,15 +90,16 @@ module _ (log : List ShardEntry) (entry : ShardEntry) where
   pub count-still : processed_by entry.deed ≡ [] → (gate : ℕ) → processed_count gate (log ++ entry ∷ []) ≡ processed_count gate log
   count-still none gate = ap (count_by (λ (of : ℕ × ℕ). of.0 == gate)) (processed-still none)
 
-  -- and the updates of each vertex
   messages-still : processed_by entry.deed ≡ [] → ProcessedArrived log → applied_messages (log ++ entry ∷ []) ≡ applied_messages log
   messages-still none all =
       ap (filter_map (λ (of : ℕ × ℕ). arrived_at of.0 of.1 (log ++ entry ∷ []))) (processed-still none)
       ∙ filter_map-same (λ (of : ℕ × ℕ). arrived_at of.0 of.1 (log ++ entry ∷ [])) (λ (of : ℕ × ℕ). arrived_at of.0 of.1 log) (processed_of log) (λ of has. arrived-stays log entry of.0 of.1 (all of has))
 
+  -- a deed that processes nothing leaves the updates of each vertex
   pub updates-still : processed_by entry.deed ≡ [] → ProcessedArrived log → (v : Name) → updates_of v (log ++ entry ∷ []) ≡ updates_of v log
   updates-still none all v = ap (flat_map (updates_in v)) (messages-still none all)
 
+  -- each message that was processed had still arrived
   pub all-still : processed_by entry.deed ≡ [] → ProcessedArrived log → ProcessedArrived (log ++ entry ∷ [])
   all-still none all of has =
       let there = all of (subst (λ ofs. Contains ofs of) (processed-still none) has) in
@@ -138,6 +125,7 @@ module _ (log : List ShardEntry) (author gate number : ℕ) where
     pub updates-applied : ProcessedArrived log → (v : Name) → updates_of v (log ++ record { author = author; deed = Applied gate number } ∷ []) ≡ updates_of v log ++ updates_in v head
     updates-applied all v = ap (flat_map (updates_in v)) (messages-applied all) ∙ flat_push (updates_in v) (applied_messages log) head
 
+    -- and so had the one that is processed now
     pub all-applied : ProcessedArrived log → ProcessedArrived (log ++ record { author = author; deed = Applied gate number } ∷ [])
     all-applied all of has =
         let entry : ShardEntry = record { author = author; deed = Applied gate number } in
@@ -148,7 +136,6 @@ module _ (log : List ShardEntry) (author gate number : ℕ) where
               subst (λ (one : ℕ × ℕ). is_some (arrived_at one.0 one.1 (log ++ entry ∷ [])) ≡ true) same (ap is_some (arrived-still log entry refl gate number ∙ arrived))
         ]
 
--- no more were processed than the log has entries
 one_at_most : (b : Bool) → cond b 1 0 ≤ 1
 one_at_most true = omega arith
 one_at_most false = omega arith
@@ -167,11 +154,13 @@ few_more gate log author (Collected bound) few =
     let entry : ShardEntry = record { author = author; deed = Collected bound } in
     omega (arith, few, count-still log entry refl gate, length-append log (entry ∷ []))
 
+-- no more were processed than the log has entries
 pub processed_are_few : (gate : ℕ) (log : List ShardEntry) → processed_count gate log ≤ length log
 processed_are_few gate = by_last (λ log. processed_count gate log ≤ length log) (omega arith) (λ log entry few. few_more gate log entry.author entry.deed few)
 
 -- What was dropped
 
+-- how many versions are dropped with one more entry
 pub dropped-push : (v : Name) (before log : List ShardEntry) (entry : ShardEntry) (dropped : ℕ) → dropped_from v before (log ++ entry ∷ []) dropped ≡ dropped_after v (before ++ log) entry.deed (dropped_from v before log dropped)
 dropped-push v before [] entry dropped = ap (λ (log : List ShardEntry). dropped_after v log entry.deed dropped) (sym (append-nil before))
 dropped-push v before (one ∷ log) entry dropped =
@@ -194,5 +183,6 @@ all_arrived gates =
     entries.by_entries (λ before (one : ShardEntry). FitsShard gates before one.deed) ProcessedArrived (λ of has. absurd (has_none of has))
     (λ log entry right fits so_far. arrives_on gates log entry.author entry.deed fits so_far)
 
+-- a message that arrived is still there with one more entry
 pub arrived-keeps : (log : List ShardEntry) (entry : ShardEntry) (gate number : ℕ) (message : Message) → arrived_at gate number log ≡ Some message → arrived_at gate number (log ++ entry ∷ []) ≡ Some message
 arrived-keeps log entry gate number message there = arrived-stays log entry gate number (ap is_some there) ∙ there

@@ -1,11 +1,12 @@
 -- The replay of a store's log with one more entry, and what a verdict says.
+-- Used by `the_store_replay_goes_on` and `verdicts_say_what_was_judged`.
 use Rattle.std.proofs.Common.{◌≡◌, ℕ, ◌+◌, Bool, true, false, cond, List, [], ◌∷◌, ◌++◌, length, filter, Contains, IsTrue, Option, None, Some, Ok, Err, refl, sym, ap, ◌∙◌}
 use Rattle.std.specs.List.{find}
 use Rattle.std.proofs.lemmas.List.{length-append, map-append, reverse-append}
 use Rattle.std.proofs.lemmas.List.Elements.{filter-append}
 use Rattle.std.proofs.lemmas.List.Sums.{fold-append}
-use Rattle.proof_base.proofs.Ends.{flat_push}
-use Rattle.proof_base.proofs.Members.{find_has, filter_has}
+use Rattle.weave_data.proofs.Ends.{flat_push}
+use Rattle.weave_data.proofs.Members.{find_has, filter_has}
 use Rattle.weave_data.specs.declared.name.Name.{Name}
 use Rattle.graph_ops.specs.declared.op.Op.{Op}
 use Rattle.graph_ops.specs.declared.op.Reason.{Reason}

@@ -1,4 +1,5 @@
 -- The own count of a gatekeeper is the number of its ticks in the epoch, and its events are told apart by epoch and own count.
+-- Used by `stamps_rise`.
 use Rattle.std.proofs.Common.{◌≡◌, ℕ, ◌+◌, ◌<◌, ◌≤◌, true, nat_eq, nat_lt, List, [], ◌∷◌, ◌++◌, count_by, get_or, Contains, IsTrue, Option, None, Some, ◌⊎◌, inl, inr, refl, sym, ap, subst, ◌∙◌, arith}
 use Rattle.std.specs.List.{AllPairs}
 use Rattle.std.specs.Option.{ForSome}
@@ -17,9 +18,9 @@ use Rattle.weave_entries.specs.declared.gate_log.GateDeed.{GateDeed}
 use Rattle.weave_entries.specs.declared.gate_log.GateDeed.TheVariants.{BeganTx, BeganProgram, Sent, Nop, Heard, Raised, Finished}
 use Rattle.weave_entries.specs.GateReplay.{clock_after_last, next_stamp, clock_after, clock_of, stamps_by, stamps_of}
 use Rattle.weave_entries.specs.GateRules.{IsBegunAt, FitsAs, IsGateLog, StampsRise}
-use Rattle.proof_base.proofs.Ends.{count_push, count_none}
-use Rattle.proof_base.proofs.Members.{only}
-use Rattle.proof_base.proofs.Ordered.{pairs_push, pairs_placed}
+use Rattle.weave_data.proofs.Ends.{count_push, count_none}
+use Rattle.weave_data.proofs.Members.{only}
+use Rattle.weave_data.proofs.Ordered.{pairs_push, pairs_placed}
 use Rattle.weave_entries.proofs.Replay.{clock-push, stamps-push, by_entries}
 use Rattle.weave_entries.proofs.Rising.{last-eight, rises}
 use Rattle.weave_entries.proofs.Small.{own-first}
@@ -157,7 +158,7 @@ module _ (laws : ClockLaws) where
         hears_on home clock (first_clock epoch) stamps each (inl (less, own-first laws home epoch)) so_far
     step (Finished request) clock stamps eight is each fits so_far = hears_on home clock clock stamps each (inr (refl, refl)) so_far
 
-  -- so it is at the end of a gatekeeper's log
+  -- this holds at the end of a gatekeeper's log
   pub ticks_rise_to : (home shards : ℕ) → home < 8 → (log : List GateEntry) → IsGateLog home shards log → TicksTo home (clock_of home log) (stamps_of log)
   ticks_rise_to home shards below =
       by_entries home shards (λ log. TicksTo home (clock_of home log) (stamps_of log))
@@ -170,7 +171,7 @@ module _ (laws : ClockLaws) where
 
   -- Coherence
 
-  -- what two ids say that are one
+  -- an id is before another by its epoch, or by its own count within the epoch
   id_read : (a b : Stamp) → IsTrue (id_before a b) → (a.clock.epoch < b.clock.epoch) ⊎ ((a.clock.epoch ≡ b.clock.epoch) × (own_count a < own_count b))
   id_read a b h =
       elim (or_cases (nat_lt a.clock.epoch b.clock.epoch) _ h) [

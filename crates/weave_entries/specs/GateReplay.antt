@@ -100,7 +100,8 @@ program_begun request log = find (λ (begun : Begun). begun.request == request) 
 
 -- the numbers of all requests that were begun, in order
 abbrev pub requests_of : List GateEntry → List ℕ
-requests_of log = flat_map (λ (entry : GateEntry). map (λ (begun : Begun). begun.request) (tx_by entry.author entry.deed ++ program_by entry.author entry.deed)) log
+requests_of log = flat_map (λ (entry : GateEntry). map (λ (begun : Begun). begun.request) (tx_by entry.author entry.deed
+    ++ program_by entry.author entry.deed)) log
 
 -- the request that a deed sent or finished
 abbrev pub ended_by : GateDeed → List ℕ
@@ -128,7 +129,8 @@ flight_of log = fold (λ flight (entry : GateEntry). flight_after flight entry.a
 
 -- a program is running from its begin until its author finishes it
 abbrev pub running_after : List Begun → ℕ → GateDeed → List Begun
-running_after running author (BeganProgram request stamp) = running ++ record { author = author; request = request; stamp = stamp } ∷ []
+running_after running author (BeganProgram request stamp) =
+    running ++ record { author = author; request = request; stamp = stamp } ∷ []
 running_after running author (Finished request) = filter (λ begun. not (is_begun author request begun)) running
 running_after running author _ = running
 
@@ -145,7 +147,8 @@ nop_message stamp low = record { request = None; stamp = stamp; low = low; parts
 -- the messages that a deed sent
 abbrev pub messages_by : GateDeed → List Addressed
 messages_by (Sent request messages) = messages
-messages_by (Nop shard number stamp low) = record { shard = shard; number = number; message = nop_message stamp low } ∷ []
+messages_by (Nop shard number stamp low) =
+    record { shard = shard; number = number; message = nop_message stamp low } ∷ []
 messages_by _ = []
 
 -- the messages of a list that go to a shard

@@ -1,4 +1,5 @@
--- The rules that the log of a gatekeeper keeps (Weaver, PVLDB 9(11) 2016), each over the replay of the entries before an entry.
+-- The rules that the log of a gatekeeper keeps (Weaver, PVLDB 9(11) 2016), each over the replay of the entries before
+-- an entry.
 use Rattle.std.specs.Prelude.{◌≡◌, ◌≢◌, ℕ, ◌<◌, List, map, length, AllPairs, Contains, IsTrue, Option, None, Some}
 use Rattle.std.specs.List.{list_any, range_with_len}
 use Rattle.std.specs.Option.{ForSome}
@@ -39,10 +40,12 @@ pub record Sends (shards : ℕ) (before : List GateEntry) (author request : ℕ)
   pub ops : List Op
   pub verdict : Verdict
   pub counts : IsCountsOf ops verdict
-  pub messages_are : messages ≡ messages_of shards before (record { author = author; request = request; stamp = stamp }) ops verdict
+  pub messages_are : messages
+      ≡ messages_of shards before (record { author = author; request = request; stamp = stamp }) ops verdict
 
 -- an empty message is sent: none is in flight, and it has the next stamp, the next number and the low mark
-pub record SendsNop (home shards : ℕ) (before : List GateEntry) (shard number : ℕ) (stamp : Stamp) (low : Clock) : Type 0 where
+pub record SendsNop (home shards : ℕ) (before : List GateEntry) (shard number : ℕ) (stamp : Stamp) (low : Clock) : Type
+    0 where
   pub alone : flight_of before ≡ None
   pub shard_is : shard < shards
   pub stamp_is : stamp ≡ next_stamp home (clock_of home before)
@@ -78,11 +81,12 @@ abbrev pub HearsAs : ℕ → List GateEntry → GateDeed → Type 0
 HearsAs home before (Heard clock) = IsTrue (counts_no_more home (clock_of home before) clock)
 HearsAs home before _ = Unit {0}
 
--- and so at each entry of the log
+-- this at each entry of the log
 abbrev pub HearsNoMore : ℕ → List GateEntry → Type 0
 HearsNoMore home log = AtEachEntry (λ before entry. HearsAs home before entry.deed) log
 
--- the stamp of a begin, if the stamp that was heard before it, if any, counts no event of a gatekeeper past the first `gates`
+-- the stamp of a begin, before which a stamp, if any, was heard that counts no event of a gatekeeper past the first
+-- `gates`
 pub record HearsNonePastAt (gates home : ℕ) (clock : Clock) (stamp : Stamp) : Type 0 where
   pub last : Option Stamp
   pub none_past : ForSome last (λ heard. CountsNonePast gates heard.clock)
@@ -95,7 +99,7 @@ HearsNonePastAs gates home before (BeganProgram request stamp) = HearsNonePastAt
 HearsNonePastAs gates home before (Heard clock) = CountsNonePast gates clock
 HearsNonePastAs gates home before _ = Unit {0}
 
--- and so at each entry of the log
+-- this at each entry of the log
 abbrev pub HearsNonePast : ℕ → ℕ → List GateEntry → Type 0
 HearsNonePast gates home log = AtEachEntry (λ before entry. HearsNonePastAs gates home before entry.deed) log
 
@@ -107,17 +111,20 @@ CountsItsTicks home log = count_of home (clock_of home log) ≡ ticks_of (clock_
 
 -- a channel's numbers run from 1, and its stamps rise
 pub record IsChannel (shard : ℕ) (log : List GateEntry) : Type 0 where
-  pub numbers : map (λ (addressed : Addressed). addressed.number) (addressed_to shard log) ≡ range_with_len 1 (length (channel_of shard log))
+  pub numbers : map (λ (addressed : Addressed). addressed.number) (addressed_to shard log)
+      ≡ range_with_len 1 (length (channel_of shard log))
   pub stamps : StampsRise (map (λ (message : Message). message.stamp) (channel_of shard log))
 
 -- no request is sent or finished twice
 abbrev pub EndsEachOnce : List GateEntry → Type 0
 EndsEachOnce log = AllPairs (λ a b. a ≢ b) (ended_in log)
 
--- a transaction was begun by this author before, and so was a program
+-- what a deed sends or finishes was begun before by its author, as a transaction or as a program
 abbrev pub EndsAs : List GateEntry → ℕ → GateDeed → Type 0
-EndsAs before author (Sent request messages) = (stamp : Stamp) × Contains (txs_of before) (record { author = author; request = request; stamp = stamp })
-EndsAs before author (Finished request) = (stamp : Stamp) × Contains (programs_of before) (record { author = author; request = request; stamp = stamp })
+EndsAs before author (Sent request messages) = (stamp : Stamp)
+    × Contains (txs_of before) (record { author = author; request = request; stamp = stamp })
+EndsAs before author (Finished request) = (stamp : Stamp)
+    × Contains (programs_of before) (record { author = author; request = request; stamp = stamp })
 EndsAs before author _ = Unit {0}
 
 -- each request is sent or finished after its begin, by the author of its begin

@@ -11,7 +11,8 @@ use Rattle.weave_entries.specs.declared.oracle_log.OracleDeed.TheVariants.{Settl
 
 -- the deed of an author as an entry of a judge's log
 abbrev pub settled_by : ℕ → OracleDeed → SettledEntry
-settled_by author (Settled earlier later places) = record { author = author; earlier = earlier; later = later; places = places }
+settled_by author (Settled earlier later places) =
+    record { author = author; earlier = earlier; later = later; places = places }
 
 -- an entry as one of a judge's log
 abbrev pub settled_entry : OracleEntry → SettledEntry
@@ -23,7 +24,9 @@ oracle_entry entry = record { author = entry.author; deed = Settled entry.earlie
 
 -- the pairs that an entry adds: of the earlier event at each of its places with the later one
 abbrev pub pairs_of_entry : SettledEntry → List Given
-pairs_of_entry entry = filter_map (λ (place : ℕ). option_map (λ (event : Stamp). (event, entry.later)) (slice_get entry.earlier place)) entry.places
+pairs_of_entry entry =
+    filter_map (λ (place : ℕ). option_map (λ (event : Stamp). (event, entry.later)) (slice_get entry.earlier place))
+    entry.places
 
 -- the pairs that a log adds, in order
 abbrev pub pairs_of_log : List OracleEntry → List Given

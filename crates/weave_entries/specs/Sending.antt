@@ -42,9 +42,11 @@ message_to shards log begun ops counts shard = record {
   };
 }
 
--- the messages of a transaction by its verdict: of a commit one to each shard that keeps a named vertex, in rising order of shards, and else none
+-- a transaction's messages by its verdict: of a commit one to each shard that keeps a named vertex, in rising order of
+-- shards; otherwise none
 abbrev pub messages_of : ℕ → List GateEntry → Begun → List Op → Verdict → List Addressed
-messages_of shards log begun ops (Committed number answers counts) = map (message_to shards log begun ops counts) (shards_named shards counts)
+messages_of shards log begun ops (Committed number answers counts) =
+    map (message_to shards log begun ops counts) (shards_named shards counts)
 messages_of shards log begun ops (Conflict vertex newer) = []
 messages_of shards log begun ops (Refused op reason at) = []
 

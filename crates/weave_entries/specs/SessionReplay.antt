@@ -9,7 +9,8 @@ use Rattle.weave_entries.specs.declared.session_log.SessionEntry.{SessionEntry}
 use Rattle.weave_entries.specs.declared.session_log.SessionDeed.{SessionDeed}
 use Rattle.weave_entries.specs.declared.session_log.SessionDeed.TheVariants.{Begun, Replied}
 
--- a session: its requests in order, how many of them were begun, whether the last one waits for its reply, and that one's stamp
+-- a session: its requests in order, how many of them were begun, whether the last one waits for its reply, and that
+-- one's stamp
 pub record SessionState : Type 0 where
   pub requests : List ℕ
   pub begun : ℕ
@@ -39,7 +40,8 @@ session_after session (Replied request) = with_reply session
 
 -- the session at the end of its log
 abbrev pub session_of : List ℕ → List SessionEntry → SessionState
-session_of requests log = fold (λ session (entry : SessionEntry). session_after session entry.deed) (session_start requests) log
+session_of requests log =
+    fold (λ session (entry : SessionEntry). session_after session entry.deed) (session_start requests) log
 
 -- Its requests
 
@@ -54,7 +56,8 @@ begins_in log = flat_map (λ (entry : SessionEntry). begin_by entry.deed) log
 
 -- the stamp with which a request was begun, if it was
 abbrev pub session_stamp_of : ℕ → List SessionEntry → Option Stamp
-session_stamp_of request log = option_map (λ (begun : ℕ × Stamp). begun.1) (find (λ (begun : ℕ × Stamp). begun.0 == request) (begins_in log))
+session_stamp_of request log = option_map (λ (begun : ℕ
+    × Stamp). begun.1) (find (λ (begun : ℕ × Stamp). begun.0 == request) (begins_in log))
 
 -- the request that got its reply by a deed
 abbrev pub reply_by : SessionDeed → List ℕ
@@ -73,7 +76,7 @@ has_begun_in request log = list_any (λ (begun : ℕ × Stamp). begun.0 == reque
 abbrev pub has_reply_in : ℕ → List SessionEntry → Bool
 has_reply_in request log = list_any (λ replied. replied == request) (replied_in log)
 
--- how many requests of a session have their replies: all begun ones, but for one that waits
+-- how many requests of a session have their replies: all begun ones, except one that waits
 abbrev pub replied_count : SessionState → ℕ
 replied_count session = if session.waits then session.begun - 1 else session.begun
 
@@ -95,6 +98,8 @@ abbrev pub FitsSession : SessionState → SessionDeed → Type 0
 FitsSession session (Begun request stamp) = BeginsNext session request stamp
 FitsSession session (Replied request) = RepliesToLast session request
 
--- a log of the session with this number and these requests: each entry is the session's, and right after those before it
+-- a log of the session with this number and these requests: each entry is the session's, and right after those before
+-- it
 abbrev pub IsSessionLog : ℕ → List ℕ → List SessionEntry → Type 0
-IsSessionLog number requests log = AtEachEntry (λ before (entry : SessionEntry). (entry.author ≡ number) × FitsSession (session_of requests before) entry.deed) log
+IsSessionLog number requests log = AtEachEntry (λ before (entry : SessionEntry). (entry.author ≡ number)
+    × FitsSession (session_of requests before) entry.deed) log

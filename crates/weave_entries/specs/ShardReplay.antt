@@ -1,5 +1,6 @@
--- What the log of a shard says of its state: the messages that arrived, those that were processed, the updates of each vertex, what programs read, and what collections dropped.
-use Rattle.std.specs.Prelude.{ℕ, ◌+◌, ◌-◌, pred, max, Bool, false, ◌==◌, ◌&&◌, ◌||◌, not, List, [], ◌∷◌, ◌++◌, map, filter, fold, length, count_by, take, Option, None, Some}
+-- What the log of a shard says of its state: the messages that arrived, those that were processed, the updates of each
+-- vertex, what programs read, and what collections dropped.
+use Rattle.std.specs.Prelude.{ℕ, ◌+◌, ◌-◌, pred, max, Bool, false, ◌==◌, ◌&&◌, ◌||◌, not, List, [], ◌∷◌, ◌++◌, map, filter, fold, length, count_by, take, Contains, Option, None, Some, IsSome}
 use Rattle.std.specs.List.{find, filter_map, flat_map, range_with_len}
 use Rattle.std.specs.Option.{option_map}
 use Rattle.weave_data.specs.declared.name.Name.{Name}
@@ -37,7 +38,9 @@ arrivals_of log = flat_map (λ (entry : ShardEntry). arrival_by entry.deed) log
 
 -- the message of this number from a gatekeeper, if it has arrived
 abbrev pub arrived_at : ℕ → ℕ → List ShardEntry → Option Message
-arrived_at gate number log = option_map (λ (arrival : Arrival). arrival.message) (find (λ (arrival : Arrival). (arrival.gate == gate) && (arrival.number == number)) (arrivals_of log))
+arrived_at gate number log =
+    option_map (λ (arrival : Arrival). arrival.message)
+    (find (λ (arrival : Arrival). (arrival.gate == gate) && (arrival.number == number)) (arrivals_of log))
 
 -- a message that was processed, by gatekeeper and number
 abbrev pub processed_by : ShardDeed → List (ℕ × ℕ)
@@ -47,6 +50,10 @@ processed_by _ = []
 -- the processed ones, in order
 abbrev pub processed_of : List ShardEntry → List (ℕ × ℕ)
 processed_of log = flat_map (λ (entry : ShardEntry). processed_by entry.deed) log
+
+-- each message that was processed had arrived. Only proofs use this
+abbrev pub ProcessedArrived : List ShardEntry → Type 0
+ProcessedArrived log = (of : ℕ × ℕ) → Contains (processed_of log) of → IsSome (arrived_at of.0 of.1 log)
 
 -- the processed number of a channel: how many of its messages were processed
 abbrev pub processed_count : ℕ → List ShardEntry → ℕ
@@ -73,7 +80,9 @@ applied_messages log = filter_map (λ (of : ℕ × ℕ). arrived_at of.0 of.1 lo
 
 -- the updates of a vertex that a message has
 abbrev pub updates_in : Name → Message → List Update
-updates_in v message = map (λ (part : Part). record { stamp = message.stamp; ops = part.ops }) (filter (λ (part : Part). same_name part.vertex v) message.parts)
+updates_in v message =
+    map (λ (part : Part). record { stamp = message.stamp; ops = part.ops })
+    (filter (λ (part : Part). same_name part.vertex v) message.parts)
 
 -- the updates applied to a vertex, in order
 abbrev pub updates_of : Name → List ShardEntry → List Update
@@ -81,7 +90,9 @@ updates_of v log = flat_map (updates_in v) (applied_messages log)
 
 -- the first vertex of a message, in order of naming, whose count is not the number of updates applied to it
 abbrev pub waits_at : Message → List ShardEntry → Option Name
-waits_at message log = option_map (λ (part : Part). part.vertex) (find (λ (part : Part). not (part.before == length (updates_of part.vertex log))) message.parts)
+waits_at message log =
+    option_map (λ (part : Part). part.vertex) (find
+    (λ (part : Part). not (part.before == length (updates_of part.vertex log))) message.parts)
 
 -- a vertex's state after these updates, from absence
 abbrev pub state_of_updates : List Update → State
@@ -89,7 +100,8 @@ state_of_updates updates = fold (λ state (update : Update). state_after update.
 
 -- The visits
 
--- what a program read: a vertex, after how many of its updates, and whether the oracle put the last of these before the program
+-- what a program read: a vertex, after how many of its updates, and whether the oracle put the last of these before the
+-- program
 pub record Visit : Type 0 where
   pub author : ℕ
   pub request : ℕ
@@ -100,7 +112,16 @@ pub record Visit : Type 0 where
 
 -- the visit of a deed, if it is one
 abbrev pub visit_by : ℕ → ShardDeed → List Visit
-visit_by author (Visited request stamp vertex updates settled) = record { author = author; request = request; stamp = stamp; vertex = vertex; updates = updates; settled = settled } ∷ []
+visit_by author (Visited request stamp vertex updates settled) =
+    record {
+      author = author;
+      request = request;
+      stamp = stamp;
+      vertex = vertex;
+      updates = updates;
+      settled =
+          settled;
+    } ∷ []
 visit_by author _ = []
 
 -- the visits of a log, in order
@@ -110,7 +131,8 @@ visits_of log = flat_map (λ (entry : ShardEntry). visit_by entry.author entry.d
 -- what a request read in this shard: each vertex with the state after that many of its updates
 abbrev pub reads_in : ℕ → List ShardEntry → List (Name × State)
 reads_in request log =
-    map (λ (visit : Visit). (visit.vertex, state_of_updates (take visit.updates (updates_of visit.vertex log)))) (filter (λ (visit : Visit). visit.request == request) (visits_of log))
+    map (λ (visit : Visit). (visit.vertex, state_of_updates (take visit.updates (updates_of visit.vertex log))))
+    (filter (λ (visit : Visit). visit.request == request) (visits_of log))
 
 -- there is a message, and its stamp is after this one
 abbrev pub is_past : Stamp → Option Message → Bool
@@ -137,9 +159,12 @@ abbrev pub meet_of_all : List (Option Clock) → Option Clock
 meet_of_all [] = None
 meet_of_all (low ∷ lows) = fold meet_if low lows
 
--- the bound of a shard: the meet of the low marks of the last processed messages of all gatekeepers; None if one of them has none
+-- the bound of a shard: the meet of the low marks of the last processed messages of all gatekeepers; None if one of
+-- them has none
 abbrev pub bound_of : ℕ → List ShardEntry → Option Clock
-bound_of gates log = meet_of_all (map (λ gate. option_map (λ (message : Message). message.low) (last_of gate log)) (range_with_len 0 gates))
+bound_of gates log =
+    meet_of_all (map (λ gate. option_map (λ (message : Message). message.low) (last_of gate log))
+    (range_with_len 0 gates))
 
 -- how many of these updates are older than the newest one whose clock is before the bound
 abbrev pub older_than : Clock → List Update → ℕ
@@ -153,7 +178,8 @@ dropped_after v before deed dropped = dropped
 -- how many are gone after more entries
 abbrev pub dropped_from : Name → List ShardEntry → List ShardEntry → ℕ → ℕ
 dropped_from v before [] dropped = dropped
-dropped_from v before (entry ∷ log) dropped = dropped_from v (before ++ entry ∷ []) log (dropped_after v before entry.deed dropped)
+dropped_from v before (entry ∷ log) dropped = dropped_from v (before
+    ++ entry ∷ []) log (dropped_after v before entry.deed dropped)
 
 -- how many versions of a vertex the shard keeps at the end of its log
 abbrev pub kept_of : Name → List ShardEntry → ℕ

@@ -1,4 +1,5 @@
--- The rules that the log of a shard keeps (Weaver, PVLDB 9(11) 2016), each over the replay of the entries before an entry.
+-- The rules that the log of a shard keeps (Weaver, PVLDB 9(11) 2016), each over the replay of the entries before an
+-- entry.
 use Rattle.std.specs.Prelude.{◌≡◌, ◌≢◌, ℕ, ◌+◌, ◌-◌, ◌^◌, ◌<◌, ◌≤◌, Bool, not, List, [], ◌++◌, map, drop, length, slice_get, All, AllPairs, IsTrue, None, Some}
 use Rattle.std.specs.List.{list_any}
 use Rattle.std.specs.Option.{IsSomeAnd}
@@ -41,16 +42,19 @@ last_read pairs program v log = last_seen (seen_of pairs program (kept_stamps v 
 
 -- whether the judge has to put that update before the program
 abbrev pub is_settled_by : List Given → Stamp → Name → List ShardEntry → Bool
-is_settled_by pairs program v log = list_any (λ update. not (precedes pairs update program)) (last_read pairs program v log)
+is_settled_by pairs program v log =
+    list_any (λ update. not (precedes pairs update program)) (last_read pairs program v log)
 
 -- the judge's pairs after the visit: the last of these updates was put before the program, if it did not precede it
 abbrev pub pairs_after_visit : List Given → Stamp → Name → List ShardEntry → List Given
-pairs_after_visit pairs program v log = pairs ++ pairs_of (additions_from 0 pairs (last_read pairs program v log) program) program
+pairs_after_visit pairs program v log =
+    pairs ++ pairs_of (additions_from 0 pairs (last_read pairs program v log) program) program
 
 -- what the judge's log gains by the visit: an entry of this author if a pair was added
 abbrev pub entries_of_visit : List Given → ℕ → Stamp → Name → List ShardEntry → List SettledEntry
 entries_of_visit pairs author program v log =
-    entries_of_call author (last_read pairs program v log) program (places_of (additions_from 0 pairs (last_read pairs program v log) program))
+    entries_of_call author (last_read pairs program v log) program
+    (places_of (additions_from 0 pairs (last_read pairs program v log) program))
 
 -- one of the kept updates is unordered with the program: only then is the judge asked
 abbrev pub is_judge_asked : Stamp → Name → List ShardEntry → Bool
@@ -58,7 +62,8 @@ is_judge_asked program v log = list_any (λ update. unordered update program) (k
 
 -- what is kept reaches back far enough: if versions were dropped, the oldest kept one is before the program
 abbrev pub IsKeptFor : Stamp → Name → List ShardEntry → Type 0
-IsKeptFor program v log = 1 ≤ dropped_of v log → IsSomeAnd (slice_get (kept_stamps v log) 0) (λ oldest. IsTrue (stamp_before oldest program))
+IsKeptFor program v log = 1 ≤ dropped_of v log
+    → IsSomeAnd (slice_get (kept_stamps v log) 0) (λ oldest. IsTrue (stamp_before oldest program))
 
 -- The messages
 
@@ -69,7 +74,8 @@ pub record IsTakable (message : Message) : Type 0 where
 
 -- the operations of each part of a message pass on the state of its vertex
 abbrev pub PassesAt : List ShardEntry → Message → Type 0
-PassesAt log message = All (λ (part : Part). IsTrue (none_refused part.ops (state_of_updates (updates_of part.vertex log)))) message.parts
+PassesAt log message =
+    All (λ (part : Part). IsTrue (none_refused part.ops (state_of_updates (updates_of part.vertex log)))) message.parts
 
 -- The rules
 
@@ -80,8 +86,9 @@ pub record ArrivesOnce (gates : ℕ) (before : List ShardEntry) (gate number : �
   pub new : arrived_at gate number before ≡ None
   pub takable : IsTakable message
 
--- the head of a channel is processed: it has the next number, each of its counts is the number of updates applied to that vertex, and its operations pass
-pub record IsInTurn (gates : ℕ) (before : List ShardEntry) (gate number : ℕ) : Type 0 where
+-- the head of a channel is processed: it has the next number, each of its counts is the number of updates applied to
+-- that vertex, and its operations pass
+pub record IsHeadInTurn (gates : ℕ) (before : List ShardEntry) (gate number : ℕ) : Type 0 where
   pub gate_is : gate < gates
   pub number_is : number ≡ processed_count gate before + 1
   pub message : Message
@@ -89,9 +96,11 @@ pub record IsInTurn (gates : ℕ) (before : List ShardEntry) (gate number : ℕ)
   pub in_turn : waits_at message before ≡ None
   pub passes : PassesAt before message
 
--- A program reads a vertex: the shard is ready for it, what is kept reaches back far enough, and it reads the state after the last update that it sees by some pairs of a judge.
+-- A program reads a vertex: the shard is ready for it, what is kept reaches back far enough, and it reads the state
+-- after the last update that it sees by some pairs of a judge.
 -- It is marked if the judge had to put that update before the program.
-pub record IsReadRightly (gates : ℕ) (before : List ShardEntry) (program : Stamp) (v : Name) (updates : ℕ) (settled : Bool) : Type 0 where
+pub record IsReadRightly (gates : ℕ) (before : List ShardEntry) (program : Stamp) (v : Name) (updates : ℕ)
+    (settled : Bool) : Type 0 where
   pub ready : first_unready gates program before ≡ None
   pub base : IsKeptFor program v before
   pub applied : updates ≤ length (updates_of v before)
@@ -102,8 +111,9 @@ pub record IsReadRightly (gates : ℕ) (before : List ShardEntry) (program : Sta
 -- a deed is right after these entries
 abbrev pub FitsShard : ℕ → List ShardEntry → ShardDeed → Type 0
 FitsShard gates before (Arrived gate number message) = ArrivesOnce gates before gate number message
-FitsShard gates before (Applied gate number) = IsInTurn gates before gate number
-FitsShard gates before (Visited request program v updates settled) = IsReadRightly gates before program v updates settled
+FitsShard gates before (Applied gate number) = IsHeadInTurn gates before gate number
+FitsShard gates before (Visited request program v updates settled) =
+    IsReadRightly gates before program v updates settled
 FitsShard gates before (Collected bound) = bound ≡ bound_of gates before
 
 -- a log of a shard of n gatekeepers: each entry is right after those before it

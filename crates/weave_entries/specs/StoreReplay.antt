@@ -1,4 +1,5 @@
--- What the log of the store says of its state: which transactions were judged, the commits in their order, and the graph that they leave.
+-- What the log of the store says of its state: which transactions were judged, the commits in their order, and the
+-- graph that they leave.
 use Rattle.std.specs.Prelude.{ℕ, ◌==◌, Bool, List, [], ◌∷◌, map, reverse, fold, filter, length, Option}
 use Rattle.std.specs.List.{find, flat_map}
 use Rattle.weave_data.specs.declared.name.Name.{Name}
@@ -14,7 +15,8 @@ use Rattle.weave_entries.specs.declared.store_log.StoreDeed.TheVariants.{Judged}
 
 -- What was judged
 
--- a transaction that was judged: who asked, its stamp and operations, the named vertices whose last stamp was unordered with it, and the verdict
+-- a transaction that was judged: who asked, its stamp and operations, the named vertices whose last stamp was unordered
+-- with it, and the verdict
 pub record Judgement : Type 0 where
   pub author : ℕ
   pub request : ℕ
@@ -25,7 +27,8 @@ pub record Judgement : Type 0 where
 
 -- an entry as a judgement
 abbrev pub judged_by : ℕ → StoreDeed → Judgement
-judged_by author (Judged request stamp ops asked verdict) = record { author = author; request = request; stamp = stamp; ops = ops; asked = asked; verdict = verdict }
+judged_by author (Judged request stamp ops asked verdict) =
+    record { author = author; request = request; stamp = stamp; ops = ops; asked = asked; verdict = verdict }
 
 -- the judgements of a log, in order
 abbrev pub judgements_of : List StoreEntry → List Judgement
@@ -51,7 +54,8 @@ commit_if (Refused op reason at) commit = []
 
 -- the commit of an entry, if it is one
 abbrev pub commit_by : StoreDeed → List Commit
-commit_by (Judged request stamp ops asked verdict) = commit_if verdict (record { request = request; stamp = stamp; ops = ops })
+commit_by (Judged request stamp ops asked verdict) =
+    commit_if verdict (record { request = request; stamp = stamp; ops = ops })
 
 -- the commits of a log, in order: the n-th of them has the number n
 abbrev pub commits_of : List StoreEntry → List Commit

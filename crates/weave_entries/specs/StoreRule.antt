@@ -1,4 +1,5 @@
--- The rule by which the store judges a transaction, over the commits before it and the pairs of the oracle (validation by the stamp of the last update, Weaver, PVLDB 9(11) 2016).
+-- The rule by which the store judges a transaction, over the commits before it and the pairs of the oracle (validation
+-- by the stamp of the last update, Weaver, PVLDB 9(11) 2016).
 use Rattle.std.specs.Prelude.{◌≡◌, ◌≢◌, ℕ, ◌+◌, List, [], map, filter, length, All, Option, None, Some, Ok, Err}
 use Rattle.std.specs.List.{find, filter_map}
 use Rattle.std.specs.Option.{option_map}
@@ -28,7 +29,9 @@ pub record LastCommit : Type 0 where
 
 -- the named vertices that a commit names already, each with the last one, in order of naming
 abbrev pub lasts_of : List Op → List Commit → List LastCommit
-lasts_of ops commits = filter_map (λ (v : Name). option_map (λ (commit : Commit). record { vertex = v; commit = commit }) (last_naming v commits)) (named_by ops)
+lasts_of ops commits =
+    filter_map (λ (v : Name). option_map (λ (commit : Commit). record { vertex = v; commit = commit })
+    (last_naming v commits)) (named_by ops)
 
 -- those whose last commit is unordered with the stamp: the oracle is asked to put these before it
 abbrev pub asked_of : Stamp → List LastCommit → List LastCommit
@@ -51,23 +54,28 @@ abbrev pub conflict_or : Option LastCommit → Verdict → Verdict
 conflict_or (Some last) rest = Conflict last.vertex last.commit.request
 conflict_or None rest = rest
 
--- the verdict by the outcome of the operations: after these commits the next number, with the answers and the counts; or the first refused operation
+-- the verdict by the outcome of the operations: after these commits the next number, with the answers and the counts;
+-- or the first refused operation
 abbrev pub verdict_by : List Op → List Commit → TxOutcome → Verdict
 verdict_by ops commits (Ok passed) = Committed (length commits + 1) passed.gots (counts_of ops commits)
 verdict_by ops commits (Err stopped) = Refused stopped.op stopped.reason (length commits)
 
--- The verdict. First a conflict at the first named vertex whose last stamp the new one is before; then one at the first of those asked that it precedes; then the outcome of the operations on the graph that the commits leave.
+-- The verdict. First a conflict at the first named vertex whose last stamp the new one is before; then one at the first
+-- of those asked that it precedes; then the outcome of the operations on the graph that the commits leave.
 abbrev pub verdict_on : List Given → List Commit → Stamp → List Op → Verdict
 verdict_on pairs commits stamp ops =
     conflict_or (find (λ (last : LastCommit). stamp_before stamp last.commit.stamp) (lasts_of ops commits)) (
-    conflict_or (find (λ (last : LastCommit). precedes pairs stamp last.commit.stamp) (asked_of stamp (lasts_of ops commits))) (
+    conflict_or (find (λ (last : LastCommit). precedes pairs stamp last.commit.stamp)
+    (asked_of stamp (lasts_of ops commits))) (
     verdict_by ops commits (transaction ops (graph_committed commits))))
 
 -- What the oracle adds
 
--- the oracle's entries when it puts each of the earlier events before the later one that doesn't yet precede it: one entry, or none if it adds no pair
+-- the oracle's entries when it puts each of the earlier events before the later one that doesn't yet precede it: one
+-- entry, or none if it adds no pair
 abbrev pub entries_of_settling : ℕ → List Given → List Stamp → Stamp → List OracleEntry
-entries_of_settling author pairs earlier later = map oracle_entry (entries_of_call author earlier later (places_of (additions_from 0 pairs earlier later)))
+entries_of_settling author pairs earlier later =
+    map oracle_entry (entries_of_call author earlier later (places_of (additions_from 0 pairs earlier later)))
 
 -- only a commit's pairs are kept
 abbrev pub settled_if : Verdict → List OracleEntry → List OracleEntry
@@ -81,8 +89,10 @@ settled_if (Refused op reason at) entries = []
 abbrev pub stamps_judged : List StoreEntry → List Stamp
 stamps_judged log = map (λ (judged : Judgement). judged.stamp) (judgements_of log)
 
--- a transaction is judged by the rule, by some pairs of a judge: its stamp is of no transaction that was judged before, and its entry names the vertices whose last stamp was unordered with it
-pub record IsJudged (before : List StoreEntry) (stamp : Stamp) (ops : List Op) (asked : List Name) (verdict : Verdict) : Type 0 where
+-- a transaction is judged by the rule, by some pairs of a judge: its stamp is of no transaction that was judged before,
+-- and its entry names the vertices whose last stamp was unordered with it
+pub record IsJudged (before : List StoreEntry) (stamp : Stamp) (ops : List Op) (asked : List Name) (verdict : Verdict) :
+    Type 0 where
   pub new : All (λ (judged : Stamp). id_of judged ≢ id_of stamp) (stamps_judged before)
   pub asked_are : asked ≡ asked_vertices stamp (lasts_of ops (commits_of before))
   pub pairs : List Given

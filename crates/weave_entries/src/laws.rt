@@ -40,7 +40,8 @@ use vector_stamp::laws::{
 
 // Gatekeepers
 
-/// A log goes on with each entry that is right after those before it, and its beginnings are logs of the gatekeeper too.
+/// A log goes on with each entry that is right after those before it, and its beginnings are logs of the gatekeeper
+/// too.
 pub fn a_log_goes_on()
     ensures at_first { (home shards : ℕ) → IsGateLog home shards [] }
     ensures right { (home shards : ℕ) (log : List GateEntry) (entry : GateEntry)
@@ -71,7 +72,8 @@ pub fn the_replay_goes_on()
         ++ map (λ (addressed : Addressed). addressed.message) (to_shard shard (messages_by entry.deed)) }
 {}
 
-/// The clock never goes back. The stamps rise, are coherent and have their home. The own count is the number of the gatekeeper's ticks in its epoch.
+/// The clock never goes back. The stamps rise, are coherent and have their home. The own count is the number of the
+/// gatekeeper's ticks in its epoch.
 pub fn stamps_rise()
     ensures rise { (home shards : ℕ) (log : List GateEntry) → home < 8 → IsGateLog home shards log
         → StampsRise (stamps_of log) }
@@ -111,7 +113,8 @@ pub fn channels_rise()
     clocks_keep_the_laws();
 }
 
-/// The stamp of each message on each channel is before that of the transaction in flight, and before the gatekeeper's next stamp.
+/// The stamp of each message on each channel is before that of the transaction in flight, and before the gatekeeper's
+/// next stamp.
 pub fn messages_come_before()
     ensures flight { (home shards shard : ℕ) (log : List GateEntry) → home < 8 → IsGateLog home shards log
         → (flight : Begun) → flight_of log ≡ Some flight
@@ -124,7 +127,8 @@ pub fn messages_come_before()
     clocks_keep_the_laws();
 }
 
-/// What was begun, the transaction in flight, the programs that are running and the messages that were sent have stamps that the gatekeeper made.
+/// What was begun, the transaction in flight, the programs that are running and the messages that were sent have stamps
+/// that the gatekeeper made.
 pub fn stamps_are_its_own()
     ensures begun { (log : List GateEntry) (begun : Begun) → Contains (begun_in log) begun
         → Contains (stamps_of log) begun.stamp }
@@ -136,14 +140,16 @@ pub fn stamps_are_its_own()
         → (message : Message) → Contains (channel_of shard log) message → Contains (stamps_of log) message.stamp }
 {}
 
-/// A request is sent or finished after its begin, by the author of its begin, and at most once if no request is begun twice.
+/// A request is sent or finished after its begin, by the author of its begin, and at most once if no request is begun
+/// twice.
 pub fn requests_end()
     ensures begun { (home shards : ℕ) (log : List GateEntry) → IsGateLog home shards log → EndsWhatItBegan log }
     ensures once { (home shards : ℕ) (log : List GateEntry) → IsGateLog home shards log → BeginsEachOnce log
         → EndsEachOnce log }
 {}
 
-/// The transaction in flight is the one that was begun and not sent. The programs that are running are those that were begun and not finished.
+/// The transaction in flight is the one that was begun and not sent. The programs that are running are those that were
+/// begun and not finished.
 pub fn what_has_not_ended_goes_on()
     ensures flight { (home shards : ℕ) (log : List GateEntry) → IsGateLog home shards log → BeginsEachOnce log
         → (tx : Begun) → (flight_of log ≡ Some tx) ↔ (Contains (txs_of log) tx × ¬ Contains (ended_in log) tx.request) }
@@ -152,7 +158,8 @@ pub fn what_has_not_ended_goes_on()
         ↔ (Contains (programs_of log) program × ¬ Contains (ended_in log) program.request) }
 {}
 
-/// The low mark of each message has eight counts. It is at most the message's stamp, and at most the stamp of each program that is running at the end of the log.
+/// The low mark of each message has eight counts. It is at most the message's stamp, and at most the stamp of each
+/// program that is running at the end of the log.
 pub fn low_marks_are_below()
     ensures eight { (home shards shard : ℕ) (log : List GateEntry) → home < 8 → IsGateLog home shards log
         → (message : Message) → Contains (channel_of shard log) message → HasEightCounts message.low }
@@ -180,7 +187,8 @@ pub fn clocks_count_none_past()
 
 // Sessions
 
-/// The requests of a session that have begun, and those that have their replies, are its first ones, in order. The stamps of its begins rise.
+/// The requests of a session that have begun, and those that have their replies, are its first ones, in order. The
+/// stamps of its begins rise.
 pub fn sessions_go_in_turn()
     ensures begun { (number : ℕ) (requests : List ℕ) (log : List SessionEntry) → IsSessionLog number requests log
         → map (λ (begun : ℕ × Stamp). begun.0) (begins_in log) ≡ take (session_of requests log).begun requests }
@@ -208,7 +216,8 @@ pub fn verdicts_count_what_is_named()
         → IsCountsOf ops (verdict_on pairs commits stamp ops) }
 {}
 
-/// A store's log goes on with each entry that is right after those before it, and its beginnings are logs of the store too.
+/// A store's log goes on with each entry that is right after those before it, and its beginnings are logs of the store
+/// too.
 pub fn a_store_log_goes_on()
     ensures at_first { IsStoreLog [] }
     ensures right { (log : List StoreEntry) (entry : StoreEntry)
@@ -216,7 +225,8 @@ pub fn a_store_log_goes_on()
     ensures right_before { (log rest : List StoreEntry) → IsStoreLog (log ++ rest) → IsStoreLog log }
 {}
 
-/// With one more entry the replay of a store's log goes on by that entry's deed, and with one more commit the graph, and the last commit and the count at each vertex.
+/// With one more entry the replay of a store's log goes on by that entry's deed, and with one more commit the graph,
+/// and the last commit and the count at each vertex.
 pub fn the_store_replay_goes_on()
     ensures judgements { (log : List StoreEntry) (entry : StoreEntry)
         → judgements_of (log ++ entry ∷ []) ≡ judgements_of log ++ judged_by entry.author entry.deed ∷ [] }
@@ -230,7 +240,9 @@ pub fn the_store_replay_goes_on()
         → graph_committed (commits ++ commit ∷ []) ≡ graph_with_commit (graph_committed commits) commit }
 {}
 
-/// A commit has the next number and the counts of its operations, which pass with its answers on the graph that the commits before it leave. A conflict is with the last commit at a named vertex, which the transaction precedes. A refusal is that of the operations, and has the number of commits before it.
+/// A commit has the next number and the counts of its operations, which pass with its answers on the graph that the
+/// commits before it leave. A conflict is with the last commit at a named vertex, which the transaction precedes. A
+/// refusal is that of the operations, and has the number of commits before it.
 pub fn verdicts_say_what_was_judged()
     ensures number { (pairs : List Given) (commits : List Commit) (stamp : Stamp) (ops : List Op)
         → (number : ℕ) (answers : List Got) (counts : List Counted)
@@ -257,7 +269,8 @@ pub fn verdicts_say_what_was_judged()
 
 // Shards
 
-/// A shard's log goes on with each entry that is right after those before it, and its beginnings are logs of the shard too.
+/// A shard's log goes on with each entry that is right after those before it, and its beginnings are logs of the shard
+/// too.
 pub fn a_shard_log_goes_on()
     ensures at_first { (gates : ℕ) → IsShardLog gates [] }
     ensures right { (gates : ℕ) (log : List ShardEntry) (entry : ShardEntry)
@@ -278,7 +291,7 @@ pub fn the_shard_replay_goes_on()
         → dropped_of v (log ++ entry ∷ []) ≡ dropped_after v log entry.deed (dropped_of v log) }
 {}
 
-/// If what is kept reaches back far enough, a program reads after as many updates of a vertex as if all were kept, and the last of them is the same.
+/// If enough is kept, a program sees the same number of updates of a vertex, and the same last one, as if all were.
 pub fn kept_updates_are_read_like_all()
     ensures updates { (pairs : List Given) (program : Stamp) (v : Name) (log : List ShardEntry)
         → IsKeptFor program v log → updates_read pairs program v log ≡ seen_of pairs program (update_stamps v log) }
@@ -287,7 +300,8 @@ pub fn kept_updates_are_read_like_all()
         ≡ last_seen (seen_of pairs program (update_stamps v log)) (update_stamps v log) }
 {}
 
-/// A message that arrived stays under its number. It is there once it arrives, and no other deed and no other message changes that.
+/// A message that arrived stays under its number. It is there once it arrives, and no other deed and no other message
+/// changes that.
 pub fn arrivals_stay()
     ensures stay { (log : List ShardEntry) (entry : ShardEntry) (gate number : ℕ) (message : Message)
         → arrived_at gate number log ≡ Some message → arrived_at gate number (log ++ entry ∷ []) ≡ Some message }
@@ -303,7 +317,8 @@ pub fn arrivals_stay()
         → (gate number : ℕ) → arrived_at gate number (log ++ entry ∷ []) ≡ arrived_at gate number log }
 {}
 
-/// Each message that was processed had arrived. Processing one makes its channel's processed number one more, and its parts the last updates of their vertices. No other deed changes either.
+/// Each message that was processed had arrived. Processing one makes its channel's processed number one more, and its
+/// parts the last updates of their vertices. No other deed changes either.
 pub fn updates_go_on()
     ensures arrived { (gates : ℕ) (log : List ShardEntry) → IsShardLog gates log
         → (of : ℕ × ℕ) → Contains (processed_of log) of → is_some (arrived_at of.0 of.1 log) ≡ true }
@@ -330,7 +345,8 @@ pub fn oracle_entries_are_a_judges()
     ensures back { (entry : OracleEntry) → oracle_entry (settled_entry entry) ≡ entry }
 {}
 
-/// An oracle's log goes on with each right entry, which adds the pairs of the oracle's rule; its beginnings are logs of an oracle too.
+/// An oracle's log goes on with each right entry, which adds the pairs of the oracle's rule; its beginnings are logs of
+/// an oracle too.
 pub fn an_oracle_log_goes_on()
     ensures at_first { IsOracleLog [] }
     ensures right { (log : List OracleEntry) (entry : OracleEntry) → IsOracleLog log
@@ -345,7 +361,8 @@ pub fn an_oracle_log_goes_on()
     no_cycle_arises();
 }
 
-/// No event precedes itself by the pairs of an oracle's log. Each pair is of two events that their stamps leave unordered.
+/// No event precedes itself by the pairs of an oracle's log. Each pair is of two events that their stamps leave
+/// unordered.
 pub fn an_oracle_log_has_no_cycle()
     ensures acyclic { (log : List OracleEntry) → IsOracleLog log → IsAcyclic (pairs_of_log log) }
     ensures unordered { (log : List OracleEntry) → IsOracleLog log → (a b : Stamp) → Contains (pairs_of_log log) (a, b)

@@ -1,6 +1,7 @@
 //! The entries of the five logs, as plain data: those of gatekeepers, the store, the oracle, shards and sessions.
 //!
-//! Each entry says who made it, by the author's number, and what was done. A request is named by its place in the script, from 0.
+//! Each entry says who made it, by the author's number, and what was done. A request is named by its place in the
+//! script, from 0.
 #![tactic(auto)]
 
 mod gate_log;
@@ -10,8 +11,6 @@ mod oracle_log;
 mod session_log;
 mod shard_log;
 mod store_log;
-#[cfg(test)]
-mod tests;
 mod verdict;
 
 pub use gate_log::{GateDeed, GateEntry};

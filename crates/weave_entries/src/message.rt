@@ -13,7 +13,8 @@ pub struct Message {
     pub stamp: Stamp,
     /// The low mark: the meet of the stamp and those of the programs that were running at the gatekeeper.
     pub low: Clock,
-    /// One for each vertex of the shard that the transaction names, in order of first mention; none in an empty message.
+    /// One for each vertex of the shard that the transaction names, in order of first mention; none in an empty
+    /// message.
     pub parts: Items<Part>,
 }
 

@@ -1,8 +1,9 @@
 -- Pieces that move from one list to another.
+-- Used by `take`.
 use Rattle.std.proofs.Common.{◌≡◌, ◌≤◌, ◌+◌, ◌-◌, ℕ, List, ◌++◌, length, take, drop, ◌∙◌, ap, refl}
 use Rattle.std.proofs.lemmas.List.{take_at, drop-drop, take-append-drop, length-take-le, take_rest}
 
--- what was copied into a buffer is the next piece of the bytes, and the others stand behind it
+-- what was copied into a buffer is the next piece of the bytes, and the others follow it
 pub piece_and_rest : (bytes slice copied buf : List ℕ) (at n : ℕ) → slice ≡ bytes → n ≤ length (take (length slice - at) (drop at slice)) → copied ≡ take n (take (length slice - at) (drop at slice)) → drop at bytes ≡ take n (copied ++ drop n buf) ++ drop (at + n) bytes
 piece_and_rest bytes slice copied buf at n same within is_copy =
     let rest : take (length slice - at) (drop at slice) ≡ drop at bytes = take_rest slice at ∙ ap (λ l. drop at l) same in

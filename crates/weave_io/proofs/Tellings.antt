@@ -1,4 +1,5 @@
 -- What follows from bytes taken and bytes appended, one after another.
+-- Used by `read_all` and `write_all`.
 use Rattle.std.proofs.Common.{◌≡◌, ◌+◌, ◌-◌, ◌≤◌, ℕ, List, ◌++◌, length, take, drop, refl, sym, ap, None, Some, arith}
 use Rattle.std.proofs.lemmas.List.{append_assoc, length-append, drop_at, take_rest}
 use Rattle.std.proofs.Math.Seq.{take-add}
@@ -9,7 +10,7 @@ pub takes_more : (before between after : Told) (bytes more : List ℕ) → Takes
 takes_more before between None bytes more first then = rw (first, then) refl
 takes_more before between (Some rest) bytes more first then = rw (first, then, append_assoc) refl
 
--- as many were taken as the bytes are long
+-- the number of bytes taken is the length of the bytes taken
 pub takes_count : (before after : Told) (bytes : List ℕ) (count : ℕ) → Takes before after bytes → length bytes ≡ count → TakesCount before after count
 takes_count before None bytes count taken long = rw taken (tt, refl)
 takes_count before (Some rest) bytes count taken long =

@@ -1,7 +1,7 @@
 -- Counts of faults and of stalls, each a number that never falls.
 use Rattle.std.specs.Prelude.{◌≡◌, ℕ, ◌+◌, ◌-◌, ◌^◌, ◌<◌, ◌⊎◌, min}
 
--- the count rose, or it stands at the greatest number of 64 bits, above which it can't rise
+-- the count rose, or it is the greatest number of 64 bits, above which it can't rise
 abbrev pub Rose : ℕ → ℕ → Type 0
 Rose before after = (before < after) ⊎ (after ≡ 2 ^ 64 - 1)
 

@@ -1,4 +1,5 @@
--- The bytes that a source has left and those that a sink has taken. They are known of a source or a sink, or they aren't, and that never changes.
+-- The bytes that a source has left and those that a sink has taken. They are known of a source or a sink, or they
+-- aren't, and that never changes.
 use Rattle.std.specs.Prelude.{◌≡◌, ◌⊎◌, ⊤, ℕ, ◌≤◌, List, [], ◌++◌, take, drop, length, Option, None, Some, IfSome}
 use Rattle.std.specs.Option.{option_map}
 
@@ -45,4 +46,5 @@ Writes Fits left before after = IfSome left (λ input. (text : List ℕ) × Fits
 
 -- or some of such a text, from its start
 abbrev pub WritesPrefix : (List ℕ → List ℕ → Type 0) → Told → Told → Told → Type 0
-WritesPrefix Fits left before after = IfSome left (λ input. (text : List ℕ) × Fits input text × AppendsPrefix before after text)
+WritesPrefix Fits left before after = IfSome left (λ input. (text : List ℕ) × Fits input text
+    × AppendsPrefix before after text)

@@ -16,7 +16,7 @@ pub enum ReadFault {
     /// The source gave more bytes than an input may have.
     #[error("the input is too long")]
     TooLong,
-    /// Memory was wanting.
+    /// Out of memory.
     #[error("out of memory")]
     Memory,
 }

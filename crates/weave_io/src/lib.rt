@@ -1,6 +1,7 @@
 //! Where a command's input comes from and where its output goes.
 //!
-//! A failed reading or writing comes only where the source's or the sink's own count rose, or where a sink took nothing of a piece that isn't empty. The bytes read and written are said exactly, where source and sink tell them.
+//! A failed reading or writing comes only if the source's or the sink's own count rose, or if a sink took nothing of a
+//! piece that isn't empty. The bytes read and written are said exactly, if they are known of source and sink.
 #![tactic(auto)]
 
 mod faults;

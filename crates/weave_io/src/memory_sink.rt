@@ -10,9 +10,10 @@ use crate::sink::Sink;
 use std::alloc::Global;
 use std::marker::Model;
 
-/// Keeps what is written in memory, and fails where it is told to, or where memory is wanting.
+/// Keeps what is written in memory, and fails when it is told to, or when it runs out of memory.
 ///
-/// Contracts see the bytes taken, the numbers of the calls that fail, the most bytes that a call takes, and how many calls there were, failed and took nothing.
+/// Contracts see the bytes taken, the numbers of the calls that fail, the most bytes that a call takes, and how many
+/// calls there were, failed and took nothing.
 #[derive(Drop)]
 pub struct MemorySink {
     bytes: Vec<u8>,
@@ -39,7 +40,8 @@ impl Model for MemorySink {
 }
 
 impl MemorySink {
-    /// A sink with nothing written, of which a call takes at most `piece` bytes. The calls with the numbers in `fails`, counted from 1, fail. It takes no memory.
+    /// A sink with nothing written, of which a call takes at most `piece` bytes. The calls with the numbers in `fails`,
+    /// counted from 1, fail. It takes no memory.
     pub fn new(alloc: Global, fails: Vec<u64>, piece: usize) -> MemorySink
         ensures { result ≡ record {
           written = [];
@@ -87,7 +89,7 @@ impl Sink for MemorySink {
         ensures faults_never_fall { self.old.faults ≤ self.new.faults }
         ensures stalls_never_fall { self.old.stalls ≤ self.new.stalls }
 
-        // Which calls fail, unless memory is wanting, and how many bytes the others take.
+        // Which calls fail, besides those that run out of memory, and how many bytes the others take.
         ensures fails { Contains self.old.fails (self.old.calls + 1) → IsErr result }
         ensures count { IfOk result (λ n. n ≡ min (length piece.now) self.old.piece) }
 

@@ -8,9 +8,10 @@ use crate::planned::fails_next;
 use crate::source::Source;
 use std::marker::Model;
 
-/// Gives bytes that lie in memory, and fails where it is told to.
+/// Gives bytes from memory, and fails when it is told to.
 ///
-/// Contracts see the bytes still to come, the numbers of the calls that fail, the most bytes that a call gives, and how many calls there were and failed.
+/// Contracts see the bytes still to come, the numbers of the calls that fail, the most bytes that a call gives, and how
+/// many calls there were and failed.
 #[derive(Drop)]
 pub struct MemorySource {
     bytes: Vec<u8>,
@@ -39,7 +40,8 @@ impl Model for MemorySource {
 }
 
 impl MemorySource {
-    /// A source of these bytes, of which a call gives at most `piece`. The calls with the numbers in `fails`, counted from 1, fail. It takes no memory.
+    /// A source of these bytes, of which a call gives at most `piece`. The calls with the numbers in `fails`, counted
+    /// from 1, fail. It takes no memory.
     pub fn new(bytes: Vec<u8>, fails: Vec<u64>, piece: usize) -> MemorySource
         requires { 0 < piece }
         ensures { result ≡ record {

@@ -1,7 +1,7 @@
 //! Calls that are meant to fail.
 ghost use Rattle.std.specs.Prelude.{◌↔◌, ◌+◌, IsTrue, Contains};
 
-/// Whether the call after so many is to fail, by its number, counted from 1.
+/// Whether the call after the first `calls` ones is to fail: its number, counted from 1, is in the list.
 pub fn fails_next(fails: &[u64], calls: u64) -> bool
     ensures { IsTrue result ↔ Contains fails.now (calls + 1) }
 {

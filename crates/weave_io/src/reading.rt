@@ -13,7 +13,7 @@ pub const MOST_BYTES: usize = 4_194_304;
 /// How many bytes a call of the source may give.
 const PIECE: usize = 65_536;
 
-/// All bytes to the end. What was taken of the source is gone also where this is refused.
+/// All bytes to the end. What was taken of the source is gone even if this is refused.
 pub fn read_all<S: Source>(alloc: Global, source: &mut S) -> Result<Vec<u8>, ReadFault>
     ensures all { IfOk result (λ bytes. Tells (S.left source.old) bytes.items) }
     ensures end { OnOk result (Tells (S.left source.new) []) }

@@ -8,13 +8,13 @@ use crate::faults::Failed;
 
 /// Takes bytes, in pieces.
 pub trait Sink {
-    // The bytes taken so far, where the sink tells them.
+    // The bytes taken so far, if they are known.
     ghost written: { Self → Option (List ℕ) };
 
-    // A count of faults, which never falls and rises where a call fails.
+    // A count of faults, which never falls and rises when a call fails.
     ghost faults: { Self → ℕ };
 
-    // A count of stalls, which never falls and rises just where a call takes nothing of a piece that isn't empty.
+    // A count of stalls, which never falls and rises only when a call takes nothing of a piece that isn't empty.
     ghost stalls: { Self → ℕ };
 
     /// Takes bytes from the start of `piece`, and answers how many.

@@ -7,13 +7,14 @@ use crate::faults::Failed;
 
 /// Gives bytes, in pieces.
 pub trait Source {
-    // The bytes still to come, where the source tells them.
+    // The bytes still to come, if they are known.
     ghost left: { Self → Option (List ℕ) };
 
-    // A count of faults, which never falls and rises where a call fails.
+    // A count of faults, which never falls and rises when a call fails.
     ghost faults: { Self → ℕ };
 
-    /// Puts the next bytes at the start of `buf`, and answers how many. For a `buf` that isn't empty, none come exactly at the end.
+    /// Puts the next bytes at the start of `buf`, and answers how many. For a `buf` that isn't empty, none come exactly
+    /// at the end.
     fn take(&mut self, buf: &mut [u8]) -> Result<usize, Failed>
         ensures within { IfOk result (λ n. n ≤ length buf.new) }
         ensures taken { IfOk result (λ n. Takes (left self.old) (left self.new) (take n buf.new)) }

@@ -1,4 +1,5 @@
 -- A seat may be sent to another thread. The toolchain finds this for the parts of its worker but not for a hand.
+-- Used by `run_all`.
 use denote.Enum.Declared as choice
 use denote.Param.Send.{IsSend, sendable, enum_send, recorded_send, struct_send}
 use denote.Struct.Declared.{shape}

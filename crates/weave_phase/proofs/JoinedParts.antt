@@ -1,4 +1,5 @@
 -- What came out of the locks after a phase can be joined to a core again.
+-- Used by `run_parts`.
 use Rattle.std.proofs.Common.{◌≡◌, ℕ, ◌<◌, List, length, map, All, Contains, refl, sym, ap, subst, ◌∙◌}
 use Rattle.std.specs.List.{range_with_len}
 use Rattle.std.proofs.lemmas.List.{length-map}

@@ -1,7 +1,8 @@
 -- What a phase leaves of a core, by what it leaves of its parts.
+-- Used by `run_phase`.
 use Rattle.std.proofs.Common.{◌≡◌, ℕ, [], inl, refl, sym, ap, subst, ◌∙◌}
 use Rattle.std.proofs.lemmas.List.{append-nil}
-use Rattle.proof_base.proofs.Members.{has_none}
+use Rattle.weave_data.proofs.Members.{has_none}
 use Rattle.program_defs.specs.declared.script.Script.{Script}
 use Rattle.weave_account.specs.declared.account.Account.{Account}
 use Rattle.weave_account.specs.Account.{gate_log, session_log, shard_log}

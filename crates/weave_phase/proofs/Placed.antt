@@ -1,4 +1,5 @@
 -- Lists by their places, and one worker that is seated or unseated.
+-- Used by `hand_of`, `seat_all`, `unseat_all`, `worker_of` and SoFar.
 use Rattle.std.proofs.Common.{◌≡◌, ◌⊎◌, ℕ, zero, suc, ◌+◌, ◌-◌, ◌<◌, ◌≤◌, List, [], ◌∷◌, ◌++◌, AllPairs, drop, length, map, get_or, slice_get, slice_set, Option, None, Some, inl, inr, refl, sym, ap, subst, ◌∙◌, arith}
 use Rattle.std.proofs.lemmas.Bool.{cases_lt}
 use Rattle.std.proofs.lemmas.List.{append_assoc, drop_more, length-drop}
@@ -9,6 +10,7 @@ use Rattle.weaver_workers.specs.declared.worker.Worker.{Worker}
 use Rattle.weaver_workers.specs.declared.worker.Worker.TheVariants.{ClientWork, GateWork, ShardWork}
 use Rattle.weave_phase.specs.Seating.{IsSeated, IsUnseated}
 use Rattle.weave_phase.specs.Seats.{client_in}
+use mathlib.Core.List.{head-eq_of_cons-eq, tail-eq_of_cons-eq}
 
 -- with one more at the end, an element was there before or is the new one
 pub push_cases : {A : Type 0} (xs : List A) (x y : A) (j : ℕ) → slice_get (xs ++ x ∷ []) j ≡ Some y
@@ -29,19 +31,13 @@ once xs rising j k n at_j at_k less =
 
 -- Loops that take a list apart
 
-first_is : {A : Type 0} (x y : A) (xs ys : List A) → x ∷ xs ≡ y ∷ ys → x ≡ y
-first_is x y xs ys e = cc
-
-rest_is : {A : Type 0} (x y : A) (xs ys : List A) → x ∷ xs ≡ y ∷ ys → xs ≡ ys
-rest_is x y xs ys e = cc
-
 -- the first of what is left
 pub next_at : {A : Type 0} (xs : List A) (place : ℕ) (x : A) (rest : List A) → x ∷ rest ≡ drop place xs
     → (slice_get xs place ≡ Some x) × (rest ≡ drop (place + 1) xs)
 next_at xs place x rest is = elim (cases_lt place (length xs)) [
   | inl within ↦
       let both : x ∷ rest ≡ get_or xs place x ∷ drop (place + 1) xs = is ∙ drop_more xs place x within in
-      (slice_get_read xs _ place x refl within (first_is x _ rest _ both), rest_is x _ rest _ both)
+      (slice_get_read xs _ place x refl within (head-eq_of_cons-eq both), tail-eq_of_cons-eq both)
   | inr over ↦ absurd (let long = ap length is ∙ length-drop place xs in omega (arith, long, over))
 ]
 

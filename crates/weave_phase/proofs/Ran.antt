@@ -1,4 +1,5 @@
 -- Seats by their places.
+-- Used by `run_all`.
 use Rattle.std.proofs.Common.{◌≡◌, ℕ, ◌<◌, length, List, get_or, subst}
 use Rattle.std.proofs.lemmas.Option.{get_or_from_slice_get, slice_get_within}
 use Rattle.program_defs.specs.declared.script.Script.{Script}

@@ -1,12 +1,13 @@
 -- When the workers of a phase have run, each hand has carried or followed a session, and each session was left or followed.
+-- Used by `run_parts` and PhaseParts.
 use Rattle.std.proofs.Common.{◌≡◌, ℕ, zero, suc, ◌+◌, ◌-◌, ◌<◌, ◌≤◌, Bool, List, [], ◌∷◌, length, map, AllPairs, Contains, Option, None, Some, ◌⊎◌, inl, inr, refl, sym, ap, subst, ◌∙◌, cond, eqb, eq-eqb, arith}
 use Rattle.std.specs.Prelude.{slice_get}
 use Rattle.std.specs.Option.{option_map}
 use Rattle.std.proofs.lemmas.Bool.{cases_Bool, cases_eq, cases_lt, eqb-true}
 use Rattle.std.proofs.lemmas.List.{length-map}
 use Rattle.std.proofs.lemmas.Option.{get_or_from_slice_get, none-some, same_Some, slice_get-get_or, slice_get-map, slice_get_within}
-use Rattle.proof_base.proofs.Members.{has_map, has_none, has_read}
-use Rattle.proof_base.proofs.Ordered.{pairs_head, pairs_tail}
+use Rattle.weave_data.proofs.Members.{has_map, has_none, has_read}
+use Rattle.weave_data.proofs.Ordered.{pairs_head, pairs_tail}
 use Rattle.program_defs.specs.declared.script.Script.{Script}
 use Rattle.weave_account.specs.declared.account.Account.{Account}
 use Rattle.weaver_core.specs.declared.client.Client.{Client}

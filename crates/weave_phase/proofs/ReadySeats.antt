@@ -1,4 +1,5 @@
 -- Workers that are seated are ready for their phase.
+-- Used by `run_parts`, Opened, PhaseParts and RanSeats.
 use Rattle.std.proofs.Common.{◌≡◌, ℕ, zero, suc, ◌+◌, ◌<◌, ◌==◌, List, [], ◌∷◌, length, Contains, IsTrue, Option, None, Some, inl, inr, refl, sym, ap, subst, ◌∙◌, arith}
 use Rattle.std.specs.Prelude.{slice_get}
 use Rattle.std.specs.List.{find, range_with_len}
@@ -7,7 +8,7 @@ use Rattle.std.proofs.lemmas.Bool.{cases_lt, eq-eqb}
 use Rattle.std.proofs.lemmas.Option.{none-some, same_Some, slice_get-get_or, slice_get-map, slice_get_within}
 use Rattle.std.proofs.lemmas.List.{length-map}
 use Rattle.std.proofs.lemmas.List.FromFn.{get_or-range_with_len, length-range_with_len}
-use Rattle.proof_base.proofs.Members.{find_lacks, has_map}
+use Rattle.weave_data.proofs.Members.{find_lacks, has_map}
 use Rattle.vector_stamp.specs.declared.clock.Stamp.{Stamp}
 use Rattle.program_defs.specs.declared.script.Script.{Script}
 use Rattle.weave_entries.specs.declared.session_log.SessionEntry.{SessionEntry}
@@ -17,14 +18,13 @@ use Rattle.weave_account.specs.Account.{session_log}
 use Rattle.weave_account.specs.Sessions.{requests_of_session}
 use Rattle.weaver_core.specs.declared.client.Client.{Client}
 use Rattle.weaver_core.specs.Clients.{log_of, requests_in}
-use Rattle.weaver_core.proofs.CanVisit.{in-take}
 use Rattle.weaver_locks.specs.declared.hand.Hand.{Hand}
 use Rattle.weaver_locks.specs.declared.shared.Shared.{Shared}
 use Rattle.weaver_workers.specs.declared.worker.Worker.{Worker}
 use Rattle.weaver_workers.specs.ClientWork.{HasReplies}
 use Rattle.weaver_workers.specs.Keeping.{KeepsClient}
 use Rattle.weaver_workers.specs.Phases.{phase_start}
-use Rattle.weaver_workers.specs.Workers.{IsIdleHand, IsReady, IsReadyClient}
+use Rattle.weaver_workers.specs.Workers.{IsIdleHand, IsReadyForPhase, IsReadyClient}
 use Rattle.workers_account.specs.Phase.{IsPhaseStart}
 use Rattle.workers_account.proofs.Begun.{stamp-began}
 use Rattle.workers_account.proofs.SessionLogs.{in-session, log-at}
@@ -32,6 +32,7 @@ use Rattle.weave_phase.specs.declared.seats.Seat.{Seat}
 use Rattle.weave_phase.specs.Ran.{AreSeated, IsHandAtStart}
 use Rattle.weave_phase.specs.Seats.{IsClientsSeat}
 use Rattle.weave_phase.specs.StartLaws.{StartLaws}
+use Rattle.step_rules.proofs.VisitLogs.{in-take}
 
 -- a request that began in a log has a stamp there
 some-stamp : (log : List SessionEntry) (r : ℕ) (stamp : Stamp) → Contains (begins_in log) (r, stamp) → (found : Stamp) × (session_stamp_of r log ≡ Some found)
@@ -106,16 +107,16 @@ module _ (laws : StartLaws) (shared : Shared) (script : Script) (phase : ℕ) (s
   client-keeps k hand new session client at =
       laws.ready script start shared clients hand session client at_start new.is_hand new.seen at (begun-replied session client at)
 
-  ready-client : (k : ℕ) (hand : Hand) → IsHandAtStart shared k hand → (worker : Worker) → IsClientsSeat sessions clients k hand worker → IsReady shared script phase worker
+  ready-client : (k : ℕ) (hand : Hand) → IsHandAtStart shared k hand → (worker : Worker) → IsClientsSeat sessions clients k hand worker → IsReadyForPhase shared script phase worker
   ready-client k hand new worker seat =
-      subst (IsReady shared script phase) (sym seat.worker_is)
+      subst (IsReadyForPhase shared script phase) (sym seat.worker_is)
       (let ready : IsReadyClient shared script phase hand seat.client = record {
         number = seat.session;
         keeps = client-keeps k hand new seat.session seat.client seat.client_is;
         earlier = earlier-replied seat.session seat.client seat.client_is;
       } in ready)
 
-  pub ready-seat : (k : ℕ) (seat : Seat) → slice_get seats k ≡ Some seat → IsReady shared script phase seat.worker
+  pub ready-seat : (k : ℕ) (seat : Seat) → slice_get seats k ≡ Some seat → IsReadyForPhase shared script phase seat.worker
   ready-seat k seat at =
       let dealt = seated.dealt in
       let within = slice_get_within seats k seat at in
@@ -127,8 +128,8 @@ module _ (laws : StartLaws) (shared : Shared) (script : Script) (phase : ℕ) (s
       elim (cases_lt k (length sessions)) [
         | inl low ↦ ready-client k hand.0 new seat.worker (of.session low)
         | inr high ↦ elim (cases_lt k (length sessions + script.gates)) [
-          | inl middle ↦ subst (IsReady shared script phase) (sym (of.gate high middle)) (idle, omega (arith, high, middle))
-          | inr last ↦ subst (IsReady shared script phase) (sym (of.shard last))
+          | inl middle ↦ subst (IsReadyForPhase shared script phase) (sym (of.gate high middle)) (idle, omega (arith, high, middle))
+          | inr last ↦ subst (IsReadyForPhase shared script phase) (sym (of.shard last))
               (idle, (let all = seated.many in omega (arith, last, within, many, all)))
         ]
       ]

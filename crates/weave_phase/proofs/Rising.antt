@@ -1,9 +1,10 @@
 -- The sessions of a phase rise, and are among the 64.
+-- Used by `run_phase`.
 use Rattle.std.proofs.Common.{◌≡◌, ℕ, ◌+◌, ◌<◌, ◌≤◌, List, length, AllPairs, Contains, sym, subst, ◌∙◌, arith}
 use Rattle.std.specs.List.{range_with_len}
 use Rattle.std.proofs.lemmas.List.FromFn.{get_or-range_with_len, length-range_with_len}
 use Rattle.std.proofs.lemmas.List.Sums.{count_by-le-length, length-filter}
-use Rattle.proof_base.proofs.Members.{filter_has}
+use Rattle.weave_data.proofs.Members.{filter_has}
 use Rattle.program_defs.specs.declared.script.Script.{Script}
 use Rattle.weave_account.proofs.Ready.{range-pairs}
 use Rattle.hands_account.proofs.Places.{pairs-filter}

@@ -1,4 +1,5 @@
 -- The logs of shards that are made for one number of gatekeepers.
+-- Used by `split_shards_keep_the_rules`.
 use Rattle.std.proofs.Common.{◌≡◌, ℕ, zero, suc, ◌<◌, List, [], ◌∷◌, length, map, slice_index_or, subst, arith}
 use Rattle.shard_node.specs.Shards.{ShardView}
 use Rattle.weave_entries.specs.ShardRules.{IsShardLog}

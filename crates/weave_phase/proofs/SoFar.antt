@@ -1,4 +1,5 @@
 -- The workers so far: those that are seated, and those that are unseated.
+-- Used by `seat_all` and `unseat_all`.
 use Rattle.std.proofs.Common.{◌≡◌, ℕ, ◌+◌, ◌<◌, ◌≤◌, false, List, [], ◌∷◌, ◌++◌, AllPairs, Contains, length, map, get_or, slice_get, slice_set, Option, None, Some, inl, inr, refl, sym, ap, subst, ◌∙◌, arith, length-set}
 use Rattle.std.specs.Option.{option_map}
 use mathlib.Core.Logic.{dite}
@@ -6,13 +7,13 @@ use native.Mathlib.Decide.{ℕ_discrete}
 use Rattle.std.proofs.lemmas.Bool.{cases_lt}
 use Rattle.std.proofs.lemmas.List.{length_push}
 use Rattle.std.proofs.lemmas.Option.{get_or_from_slice_get, none-some, same_Some, slice_get-get_or, slice_get-map, slice_get_read, slice_get_within}
+use Rattle.weave_data.proofs.Lists.{get_set_here, get_set_other}
 use Rattle.weaver_core.specs.declared.client.Client.{Client}
 use Rattle.weaver_locks.specs.declared.hand.Hand.{Hand}
 use Rattle.weaver_workers.specs.declared.worker.Worker.{Worker}
 use Rattle.weave_phase.specs.declared.seats.Seat.{Seat}
 use Rattle.weave_phase.specs.Seating.{IsSeated, IsUnseated}
 use Rattle.weave_phase.specs.Seats.{client_in, AreDealt, ArePutBack, AreTaken, IsDealt}
-use Rattle.shard_node.proofs.Places.{get_set_here, get_set_other}
 use Rattle.weave_phase.proofs.Placed.{once, push_cases}
 
 -- the session is not one of the first k

@@ -1,3 +1,5 @@
+pub use Rattle.workers_account.specs.Pairs
+pub use Rattle.workers_account.specs.Ready
 pub mod Sessions
 pub mod Seats
 pub mod StartLaws

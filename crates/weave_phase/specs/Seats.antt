@@ -26,12 +26,13 @@ client_in (ShardWork hand shard) = None
 -- Before the workers run
 
 -- the hand of number k works for the k-th of these sessions, with its client
-pub record IsClientsSeat (sessions : List ℕ) (clients : List Client) (k : ℕ) (hand : Hand) (worker : Worker) : Type 0 where
-  pub session : ℕ
-  pub session_is : slice_get sessions k ≡ Some session
-  pub client : Client
-  pub client_is : slice_get clients session ≡ Some client
-  pub worker_is : worker ≡ ClientWork hand client
+pub record IsClientsSeat (sessions : List ℕ) (clients : List Client) (k : ℕ) (hand : Hand) (worker : Worker) : Type 0
+  where
+    pub session : ℕ
+    pub session_is : slice_get sessions k ≡ Some session
+    pub client : Client
+    pub client_is : slice_get clients session ≡ Some client
+    pub worker_is : worker ≡ ClientWork hand client
 
 -- what the hand of number k works for: a session, else a gatekeeper, else a shard
 pub record IsDealt (sessions : List ℕ) (gates : ℕ) (clients : List Client) (k : ℕ) (hand : Hand) (worker : Worker)
@@ -60,7 +61,7 @@ abbrev pub HasRun : Shared → Script → ℕ → Seat → Seat → Type 0
 HasRun shared script phase old new = new.done ≡ true
     → (ended : Ended) × Works shared script phase old.worker new.worker ended
 
--- so each of them
+-- each seat's worker has, if it is done
 pub record HaveRun (shared : Shared) (script : Script) (phase : ℕ) (old new : List Seat) : Type 0 where
   pub many : length new ≡ length old
   pub each : (k : ℕ) (was is : Seat) → slice_get old k ≡ Some was → slice_get new k ≡ Some is

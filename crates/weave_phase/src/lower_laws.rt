@@ -1,4 +1,4 @@
-//! The laws of the crates below that a phase stands on, in one.
+//! The laws of the crates below that a phase relies on, in one.
 ghost use Rattle.weave_phase.specs.StartLaws.{StartLaws};
 
 use crate::order::{
@@ -11,7 +11,7 @@ use workers_account::laws::{
     split_machines_may_start,
 };
 
-/// The laws that a phase stands on.
+/// The laws that a phase relies on.
 pub(crate) fn phases_keep_their_laws()
     ensures { StartLaws }
 {

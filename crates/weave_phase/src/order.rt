@@ -22,7 +22,8 @@ pub(crate) fn split_machines_are_in_order()
         → (length split.gates.items ≡ split.script.gates) × (length split.shards.items ≡ split.script.shards) }
 {}
 
-/// Where the machines of a split core keep the rules of their logs, so do the logs of its account, for each number of a shard.
+/// If the machines of a split core keep the rules of their logs, so do the logs of its account, for each number of a
+/// shard.
 pub(crate) fn split_shards_keep_the_rules()
     ensures { (split : Split) → CanBeJoined split
         → ((k : ℕ) (s : ShardView) → k < length split.shards.items

@@ -21,9 +21,9 @@ use weaver_locks::{Closed, Shared};
 use weaver_workers::{Pace, end_of_phase, start_of_phase};
 
 /// Runs a phase, numbered from 0, on as many threads as it has workers: one for each session with requests in it, each
-/// gatekeeper and each shard. A phase without requests has none. It may wait. How far the workers came, no clause says: a
-/// client stops where its gatekeeper was busy 16 times one after another, or where a shard was not ready after a nudge,
-/// and what is left is for whoever drives the core afterwards.
+/// gatekeeper and each shard. A phase without requests has none. It may wait. How far the workers came, no clause says:
+/// a client stops if its gatekeeper was busy 16 times one after another, or if a shard was not ready after a nudge, and
+/// what is left is for whoever drives the core afterwards.
 ///
 /// The one error is out of memory, and then the core is gone.
 pub fn run_phase<R: Threads + Wait + Sync, P: Pace>(

@@ -2,7 +2,7 @@
 ghost use Rattle.std.specs.Prelude.{◌≡◌, ℕ, ◌≤◌, length, slice_get, Some};
 ghost use Rattle.program_defs.specs.Limits.{IsWithinLimits};
 ghost use Rattle.weaver_workers.specs.Keeping.{AreLocksOf};
-ghost use Rattle.weaver_workers.specs.Workers.{HasPhase, IsReady};
+ghost use Rattle.weaver_workers.specs.Workers.{HasPhase, IsReadyForPhase};
 ghost use Rattle.weave_phase.specs.Seats.{HasRun, HaveRun};
 ghost use Rattle.weave_phase.specs.declared.seats.Seat.{Seat};
 
@@ -30,7 +30,7 @@ pub(crate) fn run_all<R: Threads + Wait + Sync, P: Pace>(
     requires locks { AreLocksOf script.now shared.now }
     requires some { 1 ≤ length seats.old }
     requires ready { (k : ℕ) (seat : Seat) → slice_get seats.old k ≡ Some seat
-        → IsReady shared.now script.now phase seat.worker }
+        → IsReadyForPhase shared.now script.now phase seat.worker }
     ensures ran { HaveRun shared.now script.now phase seats.old seats.new }
 {
     let threads = seats.len();
@@ -40,7 +40,7 @@ pub(crate) fn run_all<R: Threads + Wait + Sync, P: Pace>(
         threads,
         &|_, seat: &mut Seat|
             requires { IsWithinLimits script.now × HasPhase script.now phase × AreLocksOf script.now shared.now
-                × IsReady shared.now script.now phase seat.old.worker }
+                × IsReadyForPhase shared.now script.now phase seat.old.worker }
             ensures { HasRun shared.entry.now script.entry.now phase seat.old seat.new }
         {
             run_one(rt, alloc, shared, script, phase, seat, pace);
@@ -61,7 +61,7 @@ fn run_one<R: Wait, P: Pace>(
     requires limits { IsWithinLimits script.now }
     requires phase { HasPhase script.now phase }
     requires locks { AreLocksOf script.now shared.now }
-    requires ready { IsReady shared.now script.now phase seat.old.worker }
+    requires ready { IsReadyForPhase shared.now script.now phase seat.old.worker }
     ensures { HasRun shared.now script.now phase seat.old seat.new }
 {
     let done = seat.worker.go(rt, alloc, shared, script, phase, pace);

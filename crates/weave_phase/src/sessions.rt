@@ -5,8 +5,8 @@ ghost use Rattle.weave_phase.specs.Sessions.{has_request, sessions_in};
 use program_defs::Script;
 use std::alloc::{AllocError, Global};
 
-/// The sessions that have one of the requests from the first number to before the second, rising. It costs a look at each
-/// of these requests for each of the 64 sessions. The one error is out of memory.
+/// The sessions that have one of the requests from the first number to before the second, rising. It costs a look at
+/// each of these requests for each of the 64 sessions. The one error is out of memory.
 pub(crate) fn sessions_of(
     alloc: Global,
     script: &Script,

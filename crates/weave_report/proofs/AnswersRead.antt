@@ -1,4 +1,5 @@
 -- Answers of programs and of steps that are read are written so, and those that are written are read again.
+-- Used by RepliesRead, ReportAgain and ReportRead.
 use Rattle.std.proofs.Common.{◌≡◌, Bool, true, false, ◌&&◌, ◌||◌, cond, inl, inr, List, [], ◌∷◌, refl, sym, ap, ◌∙◌, subst}
 use Rattle.std.specs.Prelude.{Option, Some, None, Ok, codes}
 use Rattle.std.specs.Fmt.{decimal}
@@ -16,13 +17,13 @@ use Rattle.program_defs.specs.declared.program.Answer.TheVariants.{Shown, Reache
 use Rattle.weave_report.specs.declared.fault.ReportCause.TheVariants as cause
 use Rattle.report_rules.specs.declared.report.StepAnswer.{StepAnswer}
 use Rattle.report_rules.specs.declared.report.StepAnswer.TheVariants as step
-use Rattle.proof_base.specs.Steps.{◌>>=◌}
+use Rattle.weave_data.specs.Steps.{◌>>=◌}
 use Rattle.weave_report.specs.ReadingFields.{name_in, names_in, small_number_in}
 use Rattle.weave_report.specs.ReadingStates.{is_state_form, state_in, is_reached_form, is_found_form, is_walk_form, is_answer_form, shown_in, reached_in, found_in, walk_in, answer_in, bare_answer, is_step_form, step_answer_in}
 use Rattle.report_rules.specs.ReportOf.{has_form_for}
 use Rattle.weave_report.specs.ReportText.{state_words, answer_words, step_answer_words}
 use Rattle.weave_report.specs.TextOf.{IsName, IsTypedAnswer, IsTypedStepAnswer}
-use Rattle.proof_base.proofs.Steps.{bind_ok, ok_is}
+use Rattle.weave_data.proofs.Steps.{bind_ok, ok_is}
 use Rattle.weave_report.proofs.ReadSteps.{chosen, then_ok, is_word, or_cause_read}
 use Rattle.weave_report.proofs.FieldsRead.{name_read, name_again, names_read, names_again, small_number_read, small_number_again}
 use Rattle.weave_report.proofs.StatesRead.{state_read, state_again, no_words}

@@ -1,9 +1,11 @@
--- Where a text is cut.
+-- `cut_first` splits a text at its first mark, which is where `position` finds it; it gives nothing if there is none.
+-- Used by `cut_item` and `cut_tag`.
 use Rattle.std.proofs.Common.{◌≡◌, ℕ, suc, ◌+◌, ◌<◌, ◌≤◌, ◌-◌, Bool, true, false, cond, ltb, not, List, [], ◌∷◌, length, take, drop, get_or, Some, None, refl, sym, ap, ◌∙◌, arith, add-one}
 use Rattle.std.specs.List.{position, position_or_len}
 use Rattle.std.proofs.lemmas.Bool.{cond-true, cond-false, ltb-true, ltb-false}
 use Rattle.std.proofs.lemmas.List.{take_all, length-drop}
 use Rattle.std.proofs.lemmas.Option.{cond_some}
+use Rattle.weave_text.proofs.FirstPiece.{test_failed}
 use Rattle.weave_report.specs.ReadingStates.{Cut, cut_behind, cut_first}
 
 module _ (is_mark : ℕ → Bool) where
@@ -11,7 +13,7 @@ module _ (is_mark : ℕ → Bool) where
   abbrev cut_at : List ℕ → ℕ → Cut
   cut_at text at = (take at text, get_or text at 0, drop (suc at) text)
 
-  -- where the first mark of a text with one more byte in front stands
+  -- the place of the first mark of a text with one more byte in front
   place : (byte : ℕ) (text : List ℕ) (b : Bool) → is_mark byte ≡ b → position_or_len is_mark (byte ∷ text) ≡ cond b 0 (suc (position_or_len is_mark text))
   place byte text true e = ap (λ b. cond (not b) (1 + position_or_len is_mark text) 0) e
   place byte text false e = let same : 1 + position_or_len is_mark text ≡ suc (position_or_len is_mark text) = omega arith in ap (λ b. cond (not b) (1 + position_or_len is_mark text) 0) e ∙ same
@@ -35,11 +37,7 @@ module _ (is_mark : ℕ → Bool) where
   cut_nowhere [] h = refl
   cut_nowhere (byte ∷ text) h = nowhere byte text (is_mark byte) refl (omega arith) (λ e. cut_nowhere text (omega (arith, place byte text false e)))
 
-  past : (b : Bool) (at : ℕ) → cond b (Some at) None ≡ None → b ≡ false
-  past true at e = absurd cc
-  past false at e = refl
-
-  -- a text is cut where the first mark stands
+  -- a text is cut at its first mark
   pub cut_first-at : (text : List ℕ) (at : ℕ) → position is_mark text ≡ Some at → cut_first is_mark text ≡ Some (take at text, get_or text at 0, take (length text - (at + 1)) (drop (at + 1) text))
   cut_first-at text at e =
       let found = cond_some (ltb (position_or_len is_mark text) (length text)) (position_or_len is_mark text) at e in
@@ -48,4 +46,4 @@ module _ (is_mark : ℕ → Bool) where
 
   -- and nowhere without one
   pub cut_first-none : (text : List ℕ) → position is_mark text ≡ None → cut_first is_mark text ≡ None
-  cut_first-none text e = cut_nowhere text (ltb-false _ _ (past (ltb (position_or_len is_mark text) (length text)) (position_or_len is_mark text) e))
+  cut_first-none text e = cut_nowhere text (ltb-false _ _ (test_failed (ltb (position_or_len is_mark text) (length text)) (position_or_len is_mark text) e))

@@ -1,4 +1,5 @@
--- A transaction of a script that tells by name has few operations.
+-- A transaction of a script with distinct names has few operations.
+-- Used by `ops` and ReportRead.
 use Rattle.std.proofs.Common.{ℕ, zero, suc, ◌<◌, ◌^◌, List, [], ◌∷◌, length, lit<}
 use Rattle.std.specs.Prelude.{slice_get}
 use Rattle.std.specs.List.{AllByRecursion}

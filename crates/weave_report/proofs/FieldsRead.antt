@@ -1,4 +1,5 @@
 -- Fields that are read are written so, and fields that are written are read again.
+-- Used by AnswersRead, RepliesRead, ReportAgain, ReportRead and StatesRead.
 use Rattle.std.proofs.Common.{◌≡◌, ℕ, ◌<◌, ◌^◌, true, cond, inl, inr, List, [], ◌∷◌, ◌++◌, refl, sym, ap, ◌∙◌, subst, append_assoc, append-nil, arith}
 use Rattle.std.specs.Prelude.{Option, Some, None, Ok, Err, codes, nat_eq, nat_lt}
 use Rattle.std.specs.Fmt.{decimal}
@@ -16,7 +17,7 @@ use Rattle.weave_report.specs.declared.fault.ReportCause.TheVariants as cause
 use Rattle.weave_report.specs.ReadingFields.{Read, name_in, names_from, number_in, small_number_in, is_the_number, this_number_in, reason_in}
 use Rattle.weave_report.specs.ReportText.{reason_text}
 use Rattle.weave_report.specs.TextOf.{IsName}
-use Rattle.proof_base.proofs.Steps.{bind_ok, ok_is}
+use Rattle.weave_data.proofs.Steps.{bind_ok, ok_is}
 use Rattle.weave_report.proofs.ReadSteps.{err_is_not, passed, chosen, then_ok, is_word, or_cause_read, or_cause_again}
 use Rattle.weave_report.specs.TextLaws.{TextLaws}
 

@@ -1,4 +1,5 @@
--- The refusal that is told is the first.
+-- The refusal that is reported is the first.
+-- Used by `refusals_are_first`.
 use Rattle.std.proofs.Common.{◌≡◌, ℕ, ◌+◌, Bool, true, false, cond, List, [], ◌∷◌, ◌++◌, length, Ok, Err, refl, sym, ap, ◌∙◌, subst, arith}
 use Rattle.std.specs.Prelude.{Result}
 use Rattle.std.proofs.lemmas.Bool.{cond-false}
@@ -11,11 +12,11 @@ use Rattle.weave_report.specs.declared.read.parts.Place.{Place}
 use Rattle.weave_report.specs.declared.read.parts.Place.TheVariants.{Start, Replies, Gots, Pairs, Answers, Ended}
 use Rattle.weave_report.specs.declared.read.parts.Reading.{Reading}
 use Rattle.report_rules.specs.declared.report.Report.{Report}
-use Rattle.proof_base.specs.Steps.{◌>>=◌}
+use Rattle.weave_data.specs.Steps.{◌>>=◌}
 use Rattle.weave_report.specs.ReadingFields.{Read}
 use Rattle.weave_report.specs.Reading.{Refusal, after_any_line, after_line, after_lines, behind_line, report_in, start, whole_report}
 use Rattle.weave_report.specs.FirstRefusal.{IsFirstRefusal, IsRefusedAt, is_ended, read_over}
-use Rattle.proof_base.proofs.Steps.{bind_ok, ok_is}
+use Rattle.weave_data.proofs.Steps.{bind_ok, ok_is}
 
 abbrev refused : Refusal → Result Report Refusal
 refused refusal = Err refusal
@@ -28,7 +29,7 @@ told_at n why refusal e =
     let same : refusal ≡ (n, why) = sym (same_refusal (n, why) refusal e) in
     (ap (λ (refusal : Refusal). refusal.0) same, ap (λ (refusal : Refusal). refusal.1) same)
 
--- behind the last line
+-- after the last line
 not_whole : (n : ℕ) (place : Place) (report : Report) (refusal : Refusal) → whole_report n place report ≡ refused refusal → (refusal.0 ≡ n) × (is_ended place ≡ false) × (refusal.1 ≡ cause.End)
 not_whole n Ended report refusal e = absurd cc
 not_whole n Start report refusal e = let told = told_at n cause.End refusal e in (told.0, refl, told.1)
@@ -37,7 +38,7 @@ not_whole n (Gots commit answers) report refusal e = let told = told_at n cause.
 not_whole n Pairs report refusal e = let told = told_at n cause.End refusal e in (told.0, refl, told.1)
 not_whole n Answers report refusal e = let told = told_at n cause.End refusal e in (told.0, refl, told.1)
 
--- nothing stands before it
+-- no line is before it
 at_once : (script : Script) (n : ℕ) (from : Reading) (lines : List Bytes) (refusal : Refusal) → refusal.0 ≡ n → IsRefusedAt script from lines refusal.1 → IsFirstRefusal script n from lines refusal
 at_once script n from lines refusal number refused = record {
   before = [];
@@ -49,7 +50,7 @@ at_once script n from lines refusal number refused = record {
   refused = refused;
 }
 
--- one line that was accepted stands before
+-- one line that was accepted is before it
 further : (script : Script) (n : ℕ) (from next : Reading) (line : Bytes) (lines : List Bytes) (refusal : Refusal) → after_any_line script from line ≡ Ok next
     → IsFirstRefusal script (n + 1) next lines refusal → IsFirstRefusal script n from (line ∷ lines) refusal
 further script n from next line lines refusal step first = record {
@@ -62,7 +63,7 @@ further script n from next line lines refusal step first = record {
   refused = first.refused;
 }
 
--- the line that was refused isn't passed over
+-- the line that was refused isn't skipped
 line_refused : (script : Script) (from : Reading) (line : Bytes) (why : ReportCause) (b : Bool) → is_skipped line ≡ b
     → cond b (Ok from) (after_line script from (words_of line)) ≡ Err why → (is_skipped line ≡ false) × (after_line script from (words_of line) ≡ Err why)
 line_refused script from line why true skipped e = absurd cc
@@ -85,7 +86,7 @@ pub first_refused_of_text : (script : Script) (first_line : ℕ) (bytes : Bytes)
 unfolding report_in
 first_refused_of_text script first_line bytes refusal e = first_refused script first_line start (lines_of bytes) refusal e
 
--- ---- a first refusal is told
+-- ---- a first refusal is reported
 
 whole_or_told : (n : ℕ) (place : Place) (report : Report) → is_ended place ≡ false → whole_report n place report ≡ refused (n, cause.End)
 whole_or_told n Ended report h = absurd cc

@@ -1,4 +1,5 @@
--- Keys that are put behind others in a rising order.
+-- Keys that are put after others in a rising order.
+-- Used by `goes_last`, `with_last` and StatesRead.
 use Rattle.std.proofs.Common.{◌≡◌, ℕ, zero, suc, Bool, true, ◌&&◌, List, [], ◌∷◌, ◌++◌, length, refl, ap, ◌∙◌, subst, arith}
 use Rattle.std.specs.Prelude.{slice_get, Some}
 use Rattle.std.specs.declared.cmp.Ordering.{Ordering}

@@ -1,4 +1,5 @@
 -- Lists that are read as their words are cut are those that are read of all their words.
+-- Used by `counted_stamp` and `order_in`.
 use Rattle.std.proofs.Common.{◌≡◌, ℕ, ◌≤◌, ◌==◌, Bool, true, false, cond, List, [], ◌∷◌, ◌++◌, length, refl, sym, ap, ◌∙◌, arith, length-append}
 use Rattle.std.specs.Prelude.{◌&&◌, Option, None, Some, Ok, Err, min, nat_lt, option_map}
 use Rattle.std.proofs.lemmas.Bool.{eqb-true, eqb-false, false_from_ne_true}
@@ -10,7 +11,7 @@ use Rattle.weave_text.specs.Numbers.{number_of}
 use Rattle.program_defs.specs.declared.script.Script.{Script}
 use Rattle.weave_report.specs.declared.fault.ReportCause.TheVariants as cause
 use Rattle.weave_report.specs.Reading.{order_in}
-use Rattle.proof_base.specs.Steps.{◌>>=◌}
+use Rattle.weave_data.specs.Steps.{◌>>=◌}
 use Rattle.weave_report.specs.ReadingFields.{Read, counts_from, names_from, or_cause, stamp_of}
 use Rattle.weave_report.specs.ReadingLists.{few_counts, order_from, with_named}
 use Rattle.weave_report.specs.ReadingReplies.{named_from, request_named}

@@ -1,4 +1,5 @@
--- What a reader's answer tells of a text.
+-- What a reader's answer says of a text.
+-- Used by `read_report`.
 use Rattle.std.proofs.Common.{◌≡◌, ℕ, sym, ◌∙◌}
 use Rattle.std.specs.Prelude.{Result, Ok, Err, IfOk}
 use Rattle.weave_text.specs.Lines.{Bytes}

@@ -1,12 +1,13 @@
 -- Steps that were read, one after another.
+-- Used by AnswersRead, FieldsRead, RepliesRead, ReportAgain, ReportRead, RequestsRead, 2 more and crate weave_script.
 use Rattle.std.proofs.Common.{◌≡◌, Bool, true, false, cond, ◌⊎◌, inl, inr, refl, ap, ◌∙◌}
 use Rattle.std.specs.Prelude.{Option, Some, None, Ok, Err}
 use Rattle.std.specs.Str.{bytes_eq}
 use Rattle.std.proofs.lemmas.Slice.Eq.{bytes_eq-Decides}
-use Rattle.proof_base.proofs.Steps.{ok_is}
+use Rattle.weave_data.proofs.Steps.{ok_is}
 use Rattle.weave_text.specs.Lines.{Word}
 use Rattle.weave_report.specs.declared.fault.ReportCause.{ReportCause}
-use Rattle.proof_base.specs.Steps.{◌>>=◌}
+use Rattle.weave_data.specs.Steps.{◌>>=◌}
 use Rattle.weave_report.specs.ReadingFields.{Read, or_cause}
 
 module _ {A : Type 0} where

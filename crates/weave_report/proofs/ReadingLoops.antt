@@ -1,4 +1,5 @@
 -- Steps of loops that read words one after another.
+-- Used by `counted_stamp`.
 use Rattle.std.proofs.Common.{◌≡◌, ℕ, suc, ◌+◌, ◌<◌, List, ◌∷◌, length, map, drop, get_or, Bor, sym, ap, ◌∙◌, add-one}
 use Rattle.std.specs.Prelude.{Ok, Err}
 use Rattle.std.proofs.Math.Seq.{drop-cons}
@@ -6,7 +7,7 @@ use Rattle.std.proofs.lemmas.List.{drop-map}
 use Rattle.weave_report.specs.declared.fault.LineFault.{LineFault}
 use Rattle.weave_report.specs.declared.fault.LineFault.TheVariants.{Refused, Memory}
 use Rattle.weave_report.specs.ReadAnswers.{Gives, Changes}
-use Rattle.proof_base.specs.Steps.{◌>>=◌}
+use Rattle.weave_data.specs.Steps.{◌>>=◌}
 use Rattle.weave_report.specs.ReadingFields.{Read}
 
 -- the words that are left begin with the one at this place

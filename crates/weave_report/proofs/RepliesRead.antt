@@ -1,4 +1,5 @@
 -- The lines of replies that are read are written so, and those that are written are read again.
+-- Used by ReportAgain and ReportRead.
 use Rattle.std.proofs.Common.{◌≡◌, ℕ, ◌<◌, ◌^◌, Bool, true, false, ◌&&◌, cond, inl, inr, List, [], ◌∷◌, length, refl, sym, ap, ◌∙◌, subst, arith}
 use Rattle.std.specs.Prelude.{IsTrue, Option, Some, None, IsSomeAnd, Ok, Err, codes}
 use Rattle.std.specs.Fmt.{decimal}
@@ -21,7 +22,7 @@ use Rattle.weave_report.specs.declared.read.parts.ReplyLine.TheVariants.{Whole, 
 use Rattle.report_rules.specs.declared.report.Reply.{Reply}
 use Rattle.report_rules.specs.declared.report.ReplyState.{ReplyState}
 use Rattle.report_rules.specs.declared.report.ReplyState.TheVariants as told
-use Rattle.proof_base.specs.Steps.{◌>>=◌}
+use Rattle.weave_data.specs.Steps.{◌>>=◌}
 use Rattle.weave_report.specs.ReadingFields.{name_in, number_in, small_number_in, this_number_in, reason_in, stamp_in}
 use Rattle.weave_report.specs.ReadingStates.{is_state_form, state_in, is_answer_form, answer_in}
 use Rattle.weave_report.specs.ReadingReplies.{any_named, kind_named, program_named, gets_of, unbegun_in, begun_in, committed_in, conflict_in, refused_in, transaction_in, finished_by, finished_in, program_in, got_in}
@@ -29,7 +30,7 @@ use Rattle.program_defs.specs.Works.{is_look}
 use Rattle.report_rules.specs.ReportOf.{MatchesWork, IsReplyOf, is_stamp_of}
 use Rattle.weave_report.specs.ReportText.{begun_text, got_line, got_lines, is_program, kind_text, name_at, reply_line, stamp_text, state_words}
 use Rattle.weave_report.specs.TextOf.{IsTypedGot, IsTypedReplyState}
-use Rattle.proof_base.proofs.Steps.{bind_ok, ok_is}
+use Rattle.weave_data.proofs.Steps.{bind_ok, ok_is}
 use Rattle.weave_report.proofs.ReadSteps.{err_is_not, passed, chosen, then_ok, is_word}
 use Rattle.weave_report.proofs.FieldsRead.{name_read, number_read, small_number_read, this_number_read, this_number_again, reason_read}
 use Rattle.weave_report.proofs.StampsRead.{stamp_read}
@@ -53,7 +54,7 @@ module _ (laws : TextLaws) where
   commit_line script commit =
       codes "tx" ∷ name_at script commit.request ∷ stamp_text script.gates commit.stamp ∷ codes "committed" ∷ decimal commit.number ∷ []
 
-  -- a commit whose `get`s are still to be told
+  -- a commit whose `get`s are still to be read
   pub record IsCommit (script : Script) (commit : Commit) : Type 0 where
     pub within : commit.request < length script.requests
     pub kind : is_program script commit.request ≡ false

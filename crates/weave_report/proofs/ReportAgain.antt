@@ -1,4 +1,5 @@
 -- The lines of a report are read as it.
+-- Used by `text_is_of_one_report` and ReportComesBack.
 use Rattle.std.proofs.Common.{◌≡◌, ℕ, ◌+◌, ◌<◌, ◌≤◌, ◌^◌, Bool, true, false, List, [], ◌∷◌, ◌++◌, length, map, refl, sym, ap, ◌∙◌, append_assoc, append-nil, arith, length-append}
 use Rattle.std.specs.Prelude.{IsTrue, Option, Some, None, Ok, Err, codes, nat_lt, slice_get}
 use Rattle.std.specs.Fmt.{decimal}
@@ -29,7 +30,7 @@ use Rattle.report_rules.specs.declared.report.ReplyState.TheVariants as told
 use Rattle.report_rules.specs.declared.report.Report.{Report}
 use Rattle.report_rules.specs.declared.report.StepAnswer.{StepAnswer}
 use Rattle.program_defs.specs.Works.{is_look, ops_of}
-use Rattle.proof_base.specs.Steps.{◌>>=◌}
+use Rattle.weave_data.specs.Steps.{◌>>=◌}
 use Rattle.weave_report.specs.ReadingFields.{Read, name_in, names_in, number_in, reason_in, small_number_in, stamp_in, this_number_in}
 use Rattle.weave_report.specs.ReadingStates.{answer_in, is_answer_form, is_step_form, step_answer_in}
 use Rattle.weave_report.specs.ReadingReplies.{any_named, begun_in, committed_in, conflict_in, finished_by, finished_in, gets_of, kind_named, named_from, program_named, refused_in, unbegun_in}
@@ -110,7 +111,7 @@ module _ (laws : TextLaws) where
 
   -- ---- several lines
 
-  -- lines behind lines
+  -- lines after lines
   pub kept_append : (script : Script) (before middle : Reading) (xs ys : List Line) (last : Read Reading) → (after_kept laws) script before xs ≡ Ok middle → (after_kept laws) script middle ys ≡ last → (after_kept laws) script before (xs ++ ys) ≡ last
   kept_append script before middle [] ys last e k = ap (λ one. one >>= λ before. (after_kept laws) script before ys) e ∙ k
   kept_append script before middle (x ∷ xs) ys last e k = through (after_line script before x) e (λ next e. kept_append script next middle xs ys last e k)
@@ -238,7 +239,7 @@ module _ (laws : TextLaws) where
       ap (λ one. one >>= (λ pair. Ok (built replies (before ++ pair ∷ []) [] [] Pairs)) >>= λ next. (after_kept laws) script next (map (pair_line script) pairs)) (pair_again script pair h of.0 typed.0)
       ∙ pairs_again script replies (before ++ pair ∷ []) pairs h of.1 typed.1 ∙ ap (λ pairs. Ok (built replies pairs [] [] Pairs)) (append_assoc before (pair ∷ []) pairs)
 
-  -- where the order may stand
+  -- the place at which the order may be
   abbrev place_behind : List Pair → Place
   place_behind [] = Replies
   place_behind (pair ∷ pairs) = Pairs

@@ -1,4 +1,5 @@
 -- The words of a report's lines have no spaces and line feeds in them, so its lines come back from their text.
+-- Used by `printed_text_is_text` and ReportComesBack.
 use Rattle.std.proofs.Common.{◌≡◌, ℕ, zero, suc, ◌+◌, ◌<◌, ◌≤◌, ◌^◌, Bool, true, false, ◌&&◌, List, [], ◌∷◌, ◌++◌, length, map, take, refl, arith}
 use Rattle.std.specs.Prelude.{IsTrue, Option, Some, None, codes, nat_lt}
 use Rattle.std.specs.Fmt.{decimal}

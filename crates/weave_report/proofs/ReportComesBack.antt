@@ -1,4 +1,5 @@
 -- A text of a report is read as it, so a refused text is a text of none, and a printed report comes back.
+-- Used by `printed_reports_come_back` and `read_texts_are_texts`.
 use Rattle.std.proofs.Common.{◌≡◌, ℕ, ap, ◌∙◌, sym}
 use Rattle.std.specs.Prelude.{Result, Ok, Err}
 use Rattle.program_defs.specs.declared.script.Script.{Script}

@@ -1,4 +1,5 @@
--- The lines of a report, read one after another: what is read is told by the lines, and a report's lines are read as it.
+-- The lines of a report, read one after another: a report is read only from its lines, and these are read as it.
+-- Used by `read_texts_are_texts`, `text_is_of_one_report`, ReportAgain and ReportComesBack.
 use Rattle.std.proofs.Common.{◌≡◌, ℕ, zero, suc, ◌+◌, ◌<◌, ◌≤◌, ◌^◌, Bool, true, false, ◌&&◌, cond, inl, inr, List, [], ◌∷◌, ◌++◌, length, map, take, refl, sym, ap, ◌∙◌, subst, append_assoc, append-nil, arith, lit<}
 use Rattle.std.specs.Prelude.{IsTrue, Option, Some, None, Result, Ok, Err, codes, nat_lt, slice_get}
 use Rattle.std.specs.Fmt.{decimal}
@@ -7,11 +8,11 @@ use Rattle.std.specs.Str.{bytes_eq}
 use Rattle.std.proofs.lemmas.Bool.{and_parts, and_from, ltb-true, ltb-false}
 use Rattle.std.proofs.lemmas.List.{map-append}
 use Rattle.std.proofs.lemmas.List.Concat.{flat_map-append}
-use Rattle.proof_base.proofs.Lists.{all-push}
+use Rattle.weave_data.proofs.Lists.{all-push}
 use Rattle.weave_text.specs.Cutting.{is_empty, is_skipped, kept_lines, words_of}
 use Rattle.weave_text.specs.Lines.{Bytes, Word, Line}
+use Rattle.graph_ops.specs.Operations.{is_get}
 use Rattle.graph_ops.specs.declared.op.Op.{Op}
-use Rattle.graph_ops.specs.declared.op.Op.TheVariants.{Create, Delete, Set, Unset, Link, Unlink, Tag, Untag, Get}
 use Rattle.graph_ops.specs.declared.tx.Got.{Got}
 use Rattle.program_defs.specs.declared.script.Script.{Script}
 use Rattle.weave_report.specs.declared.fault.ReportCause.TheVariants as cause
@@ -26,7 +27,7 @@ use Rattle.report_rules.specs.declared.report.Reply.{Reply}
 use Rattle.report_rules.specs.declared.report.ReplyState.TheVariants as told
 use Rattle.report_rules.specs.declared.report.Report.{Report}
 use Rattle.report_rules.specs.declared.report.StepAnswer.{StepAnswer}
-use Rattle.proof_base.specs.Steps.{◌>>=◌}
+use Rattle.weave_data.specs.Steps.{◌>>=◌}
 use Rattle.weave_report.specs.ReadingFields.{Read, name_in, names_in, this_number_in}
 use Rattle.weave_report.specs.ReadingStates.{is_step_form, step_answer_in}
 use Rattle.weave_report.specs.ReadingReplies.{any_named, named_from, got_in, ops_at, program_in, transaction_in}
@@ -34,7 +35,7 @@ use Rattle.weave_report.specs.Reading.{reading, with_reply, with_pair, with_orde
 use Rattle.report_rules.specs.ReportOf.{IsReportOf, IsReplyOf, IsPairOf, is_request_of, numbers_of_gets}
 use Rattle.weave_report.specs.ReportText.{did_line, got_line, kind_text, name_at, order_line, pair_line, reply_lines, report_lines, stamp_text}
 use Rattle.weave_report.specs.TextOf.{IsName, IsTypedGot, IsTypedReplyState, IsTypedReport, IsTypedStepAnswer, HasDistinctNames}
-use Rattle.proof_base.proofs.Steps.{bind_ok, ok_is}
+use Rattle.weave_data.proofs.Steps.{bind_ok, ok_is}
 use Rattle.weave_report.proofs.ReadSteps.{err_is_not, passed, chosen, is_word}
 use Rattle.weave_report.proofs.FieldsRead.{name_read, names_read, this_number_read}
 use Rattle.weave_report.proofs.StatesRead.{no_words}
@@ -294,18 +295,15 @@ module _ (laws : TextLaws) where
 
   -- ---- what `get`s read
 
-  numbers_small : (n : ℕ) (ops : List Op) (k op : ℕ) → slice_get (numbers_of_gets n ops) k ≡ Some op → op < n + length ops
-  numbers_small n [] k op e = absurd cc
-  numbers_small n (Get v ∷ ops) zero op e = let same : n ≡ op = cc in omega (arith, same)
-  numbers_small n (Get v ∷ ops) (suc k) op e = let more = numbers_small (n + 1) ops k op e in omega (arith, more)
-  numbers_small n (Create v ∷ ops) k op e = let more = numbers_small (n + 1) ops k op e in omega (arith, more)
-  numbers_small n (Delete v ∷ ops) k op e = let more = numbers_small (n + 1) ops k op e in omega (arith, more)
-  numbers_small n (Set v key value ∷ ops) k op e = let more = numbers_small (n + 1) ops k op e in omega (arith, more)
-  numbers_small n (Unset v key ∷ ops) k op e = let more = numbers_small (n + 1) ops k op e in omega (arith, more)
-  numbers_small n (Link v edge target ∷ ops) k op e = let more = numbers_small (n + 1) ops k op e in omega (arith, more)
-  numbers_small n (Unlink v edge ∷ ops) k op e = let more = numbers_small (n + 1) ops k op e in omega (arith, more)
-  numbers_small n (Tag v edge key value ∷ ops) k op e = let more = numbers_small (n + 1) ops k op e in omega (arith, more)
-  numbers_small n (Untag v edge key ∷ ops) k op e = let more = numbers_small (n + 1) ops k op e in omega (arith, more)
+  numbers_small : (n : ℕ) (ops : List Op) (k number : ℕ) → slice_get (numbers_of_gets n ops) k ≡ Some number → number < n + length ops
+  numbers_small n [] k number e = absurd cc
+  numbers_small n (op ∷ ops) k number e = by (is_get op) (numbers_small (n + 1) ops) k e
+    where
+      by : (b : Bool) → ((k number : ℕ) → slice_get (numbers_of_gets (n + 1) ops) k ≡ Some number → number < n + 1 + length ops)
+          → (k : ℕ) → slice_get (cond b (n ∷ numbers_of_gets (n + 1) ops) (numbers_of_gets (n + 1) ops)) k ≡ Some number → number < n + length (op ∷ ops)
+      by true rest zero e = let same : n ≡ number = cc in omega (arith, same)
+      by true rest (suc k) e = let more = rest k number e in omega (arith, more)
+      by false rest k e = let more = rest k number e in omega (arith, more)
 
   get_is_small : (script : Script) (commit : Commit) (answers : List Got) (op : ℕ) → HasDistinctNames script → (IsCommit laws) script commit → next_get commit answers ≡ Some op → op < 2 ^ 32
   get_is_small script commit answers op tells of e =
@@ -426,7 +424,7 @@ module _ (laws : TextLaws) where
 
   -- ---- all lines
 
-  -- the lines that aren't passed over, one after another
+  -- the lines that aren't skipped, one after another
   abbrev pub after_kept : Script → Reading → List Line → Read Reading
   after_kept script before [] = Ok before
   after_kept script before (line ∷ lines) = after_line script before line >>= λ next. after_kept script next lines
@@ -446,7 +444,7 @@ module _ (laws : TextLaws) where
     told = refl;
   }
 
-  -- what is read to its end is told by the lines
+  -- what is read to its end has exactly these lines
   pub all_read_is_told : (script : Script) (lines : List Line) (report : Report) → HasDistinctNames script → after_kept script start lines ≡ Ok (reading report Ended) → (lines ≡ report_lines script report) × IsReportOf script report × IsTypedReport report
   all_read_is_told script lines report tells e =
       let led = lines_lead script start [] lines (reading report Ended) tells (start_leads script) e in (

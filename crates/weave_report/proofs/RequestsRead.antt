@@ -1,4 +1,5 @@
--- Requests are found by their names, and told by them.
+-- Requests are found by their names, and named by them.
+-- Used by RepliesRead, ReportAgain, ReportClean and ReportRead.
 use Rattle.std.proofs.Common.{◌≡◌, ℕ, zero, suc, ◌+◌, ◌<◌, Bool, true, false, cond, List, [], ◌∷◌, ◌++◌, length, map, refl, sym, ap, ◌∙◌, subst, append_assoc, append-nil, arith}
 use Rattle.std.specs.Prelude.{IsTrue, Option, Some, None, Ok, IsSomeAnd, option_and_then, slice_get}
 use Rattle.std.specs.Cmp.{eq_by_cmp_equiv}
@@ -25,7 +26,7 @@ use Rattle.report_rules.specs.ReportOf.{MatchesWork, is_request_of}
 use Rattle.weave_report.specs.ReportText.{is_program, name_at}
 use Rattle.weave_report.specs.TextOf.{IsName, IsTypedScript, HasDistinctNames, names_of}
 use Rattle.report_rules.specs.Lookups.{request_at}
-use Rattle.proof_base.proofs.Steps.{bind_ok, ok_is}
+use Rattle.weave_data.proofs.Steps.{bind_ok, ok_is}
 use Rattle.weave_report.proofs.ReadSteps.{then_ok, or_cause_read, or_cause_again}
 
 -- the name of the request of this number
@@ -177,7 +178,7 @@ kind_again program script r h k kind =
     or_cause_again cause.Request (option_and_then (of_kind program script) (request_named script (name_at script r))) r
     (ap (option_and_then (of_kind program script)) (named_again script r h k) ∙ of_kind-is program script r kind)
 
--- ---- what can be told of a request
+-- ---- what can be said of a request
 
 -- a place below the length has an element
 pub in_place : {X : Type 0} (xs : List X) (i : ℕ) → i < length xs → (x : X) × (slice_get xs i ≡ Some x)
@@ -193,7 +194,7 @@ look_told : (script : Script) (work : Work) (stamp : Option Stamp) (state : Repl
 look_told script (Change ops) stamp state h told = absurd cc
 look_told script (Look program) stamp state h told = told program refl
 
--- what a line can tell of a request
+-- what a line can say of a request
 abbrev pub MatchesWorkAt : Script → ℕ → Option Stamp → ReplyState → Type 0
 MatchesWorkAt script r stamp state = IsSomeAnd (request_at script r) (λ (request : Request). MatchesWork script request.work stamp state)
 

@@ -1,4 +1,5 @@
 -- Stamps that are read are written so, and stamps that are written are read again.
+-- Used by RepliesRead and ReportAgain.
 use Rattle.std.proofs.Common.{◌≡◌, ℕ, zero, suc, ◌-◌, ◌<◌, ◌≤◌, ◌^◌, min, Bool, true, ◌&&◌, ◌==◌, inl, inr, List, [], ◌∷◌, ◌++◌, length, map, take, drop, refl, sym, ap, ◌∙◌, subst, append_assoc, append-nil, arith, length-append, length-drop}
 use Rattle.std.specs.Prelude.{IsTrue, Ok, codes, nat_lt, replicate}
 use Rattle.std.specs.Fmt.{decimal}
@@ -10,11 +11,11 @@ use Rattle.weave_text.specs.Numbers.{number_of}
 use Rattle.vector_stamp.specs.declared.clock.Stamp.{Stamp}
 use Rattle.program_defs.specs.declared.script.Script.{Script}
 use Rattle.weave_report.specs.declared.fault.ReportCause.TheVariants as cause
-use Rattle.proof_base.specs.Steps.{◌>>=◌}
+use Rattle.weave_data.specs.Steps.{◌>>=◌}
 use Rattle.weave_report.specs.ReadingFields.{count_in, counts_from, eight_counts, stamp_of, stamp_parts, stamp_in}
 use Rattle.report_rules.specs.ReportOf.{has_64_bits, is_stamp_of}
 use Rattle.weave_report.specs.ReportText.{stamp_text}
-use Rattle.proof_base.proofs.Steps.{bind_ok, ok_is}
+use Rattle.weave_data.proofs.Steps.{bind_ok, ok_is}
 use Rattle.weave_report.proofs.ReadSteps.{err_is_not, passed, then_ok, or_cause_read, or_cause_again}
 use Rattle.weave_report.specs.TextLaws.{TextLaws}
 
@@ -116,7 +117,7 @@ module _ (laws : TextLaws) where
   length-take (suc n) [] = omega arith
   length-take (suc n) (x ∷ xs) = let more = length-take n xs in omega (arith, more)
 
-  -- what a stamp shows, and what stands behind it
+  -- the counts that a stamp's text shows, and zeros after them
   record AreShown (gates : ℕ) (counts : List ℕ) : Type 0 where
     shown : take gates (eight_counts counts) ≡ counts
     zeros : list_all (λ count. count == 0) (drop gates (eight_counts counts)) ≡ true
@@ -143,7 +144,7 @@ module _ (laws : TextLaws) where
             }
       ]
 
-  -- eight counts, of which those behind the first are 0
+  -- eight counts, of which those after the first ones are 0
   again_eight : (gates : ℕ) (counts : List ℕ) → length counts ≡ 8 → list_all (λ count. count == 0) (drop gates counts) ≡ true → eight_counts (take gates counts) ≡ counts
   again_eight gates counts eight zeros =
       let rest : drop gates counts ≡ replicate (8 - length (take gates counts)) 0 =

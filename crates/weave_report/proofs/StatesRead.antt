@@ -1,4 +1,5 @@
 -- States and answers that are read are written so, and those that are written are read again.
+-- Used by AnswersRead, RepliesRead and ReportRead.
 use Rattle.std.proofs.Common.{◌≡◌, ℕ, Bool, true, false, ◌&&◌, ◌||◌, ◌==◌, not, cond, inl, inr, List, [], ◌∷◌, ◌++◌, map, refl, sym, ap, ◌∙◌, subst, append_assoc, append-nil}
 use Rattle.std.specs.Prelude.{Option, Some, None, Ok, codes}
 use Rattle.std.specs.List.{AllByRecursion, list_all}
@@ -15,12 +16,12 @@ use Rattle.graph_ops.specs.declared.record.Record.{Record}
 use Rattle.weave_report.specs.declared.fault.ReportCause.TheVariants as cause
 use Rattle.weave_report.specs.declared.read.parts.Item.{Item}
 use Rattle.weave_report.specs.declared.read.parts.Item.TheVariants.{Property, Link}
-use Rattle.proof_base.specs.Steps.{◌>>=◌}
+use Rattle.weave_data.specs.Steps.{◌>>=◌}
 use Rattle.weave_report.specs.ReadingFields.{name_in}
 use Rattle.weave_report.specs.ReadingStates.{Cut, cut_behind, cut_first, is_equals, is_item_mark, pair_in, goes_last, with_last, tag_of, tag_in, tags_in, edge_of, item_of, item_in, with_property, with_item, items_in, empty_record, is_state_form, state_in}
 use Rattle.weave_report.specs.ReportText.{property_text, edge_text, content_words, state_words}
 use Rattle.weave_report.specs.TextOf.{IsName, IsTypedMap, IsTypedEdge, IsTypedRecord, IsTypedState}
-use Rattle.proof_base.proofs.Steps.{bind_ok, ok_is}
+use Rattle.weave_data.proofs.Steps.{bind_ok, ok_is}
 use Rattle.weave_report.proofs.ReadSteps.{err_is_not, passed, chosen, then_ok, is_word}
 use Rattle.weave_report.proofs.FieldsRead.{name_read, name_again}
 use Rattle.weave_report.proofs.KeysInOrder.{rising-push, rising-last}
@@ -54,7 +55,7 @@ module _ (laws : TextLaws) where
       third (Some cut) = cut.2
 
   module _ (is_mark : ℕ → Bool) where
-    -- a text is what stands before and behind its cut, with the mark between
+    -- a text is what is before and after its cut, with the mark between
     record IsCut (text : Bytes) (before : Bytes) (mark : ℕ) (behind : Bytes) : Type 0 where
       marked : is_mark mark ≡ true
       whole : text ≡ before ++ mark ∷ behind
@@ -177,7 +178,7 @@ module _ (laws : TextLaws) where
     regrouped : (pairs rest : List (Name × X)) (key : Name) (value : X) → IsTypedMap P (pairs ++ (key, value) ∷ rest) → IsTypedMap P ((pairs ++ (key, value) ∷ []) ++ rest)
     regrouped pairs rest key value h = subst (IsTypedMap P) (sym (append_assoc pairs ((key, value) ∷ []) rest)) h
 
-  -- what was read of pairs, behind others
+  -- what was read of pairs, after others
   record AreTold {X : Type 0} (P : X → Type 0) (text : Name × X → Word) (before : List (Name × X)) (words : List Word) (pairs : List (Name × X)) : Type 0 where
     typed : IsTypedMap P pairs
     words_are : map text pairs ≡ map text before ++ words
@@ -260,7 +261,7 @@ module _ (laws : TextLaws) where
   IsTypedItem (Property key value) = IsName key × IsName value
   IsTypedItem (Link name edge) = IsName name × IsTypedEdge edge
 
-  -- the one mark that isn't the other
+  -- the item mark that isn't `=`
   other_mark : (mark : ℕ) → is_item_mark mark ≡ true → is_equals mark ≡ false → mark ≡ 62
   other_mark mark h none = elim (or_cases (is_equals mark) (mark == 62) h) [ inl e ↦ absurd (absurd_test (is_equals mark) e none) | inr e ↦ eqb-true mark 62 e ]
     where

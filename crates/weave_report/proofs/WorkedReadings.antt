@@ -15,6 +15,7 @@ use Rattle.report_rules.specs.declared.report.ReplyState.TheVariants.{Unbegun, B
 use Rattle.report_rules.specs.declared.report.StepAnswer.TheVariants as step
 use Rattle.weave_report.specs.Reading.{report_in}
 use Rattle.report_rules.proofs.Examples.{reply}
+use Rattle.report_rules.specs.declared.report.Report.{Report}
 use Rattle.weave_report.proofs.WorkedTexts.{request, v}
 
 -- two gatekeepers, a transaction with a `get`, one without, and a program of each form
@@ -36,23 +37,31 @@ script = record {
 abbrev stamp : ℕ → ℕ → ℕ → ℕ → Stamp
 stamp epoch home a b = record { home = home; clock = record { epoch = epoch; counts = a ∷ b ∷ 0 ∷ 0 ∷ 0 ∷ 0 ∷ 0 ∷ 0 ∷ [] } }
 
-all_forms : report_in script 1 (codes "#c\nreport 1\ntx t 0:0:1,0 committed 18446744073709551615\ngot 2 record color=red f1>bob,since=y2016\ntx u 7:1:0,1 conflict v t\nprog p unbegun\n\nprog q 0:1:0,2 running\nprog r 0:1:0,3 done found v w\nprog s 0:1:0,4 done none\nsettled v t q\norder t r\ndid 1 ok\ndid 2 again 0 1\nend\n#")
-    ≡ Ok (record {
-      replies =
-          reply 0 (stamp 0 0 1 0) (Committed 18446744073709551615 (record { op = 2; state = Some (record { props = (codes "color", codes "red") ∷ []; edges = (codes "f1", record { target = codes "bob"; tags = (codes "since", codes "y2016") ∷ [] }) ∷ [] }) } ∷ []))
-          ∷ reply 1 (stamp 7 1 0 1) (Conflict v 0)
-          ∷ record { request = 2; stamp = None; state = Unbegun }
-          ∷ reply 3 (stamp 0 1 0 2) Begun
-          ∷ reply 4 (stamp 0 1 0 3) (Finished (Found (v ∷ codes "w" ∷ [])))
-          ∷ reply 5 (stamp 0 1 0 4) (Finished (Walk None)) ∷ [];
-      pairs = record { vertex = v; earlier = 0; later = 3 } ∷ [];
-      order = 0 ∷ 4 ∷ [];
-      answers = step.Ok ∷ step.Again 0 1 ∷ [];
-    })
+-- a report with a line of each form, comments and blank lines
+abbrev all_lines : Bytes
+all_lines = codes "#c\nreport 1\ntx t 0:0:1,0 committed 18446744073709551615\ngot 2 record color=red f1>bob,since=y2016\ntx u 7:1:0,1 conflict v t"
+    ++ codes "\nprog p unbegun\n\nprog q 0:1:0,2 running\nprog r 0:1:0,3 done found v w\nprog s 0:1:0,4 done none\nsettled v t q\norder t r\ndid 1 ok\ndid 2 again 0 1\nend\n#"
+
+-- what it says
+abbrev all_said : Report
+all_said = record {
+  replies =
+      reply 0 (stamp 0 0 1 0) (Committed 18446744073709551615 (record { op = 2; state = Some (record { props = (codes "color", codes "red") ∷ []; edges = (codes "f1", record { target = codes "bob"; tags = (codes "since", codes "y2016") ∷ [] }) ∷ [] }) } ∷ []))
+      ∷ reply 1 (stamp 7 1 0 1) (Conflict v 0)
+      ∷ record { request = 2; stamp = None; state = Unbegun }
+      ∷ reply 3 (stamp 0 1 0 2) Begun
+      ∷ reply 4 (stamp 0 1 0 3) (Finished (Found (v ∷ codes "w" ∷ [])))
+      ∷ reply 5 (stamp 0 1 0 4) (Finished (Walk None)) ∷ [];
+  pairs = record { vertex = v; earlier = 0; later = 3 } ∷ [];
+  order = 0 ∷ 4 ∷ [];
+  answers = step.Ok ∷ step.Again 0 1 ∷ [];
+}
+
+all_forms : report_in script 1 all_lines ≡ Ok all_said
 unfolding report_in number_of
 all_forms = refl
 
--- the second line, behind `report 1`, is refused for this
+-- the second line, after `report 1`, is refused for this
 abbrev IsRefusedFor : Bytes → ReportCause → Type 0
 IsRefusedFor line why = report_in script 1 (codes "report 1\n" ++ line) ≡ Err (2, why)
 

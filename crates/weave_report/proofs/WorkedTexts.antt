@@ -1,4 +1,5 @@
 -- Texts of reports, computed.
+-- Used by WorkedReadings.
 use Rattle.std.proofs.Common.{◌≡◌, ℕ, List, [], ◌∷◌, Some, None, refl}
 use Rattle.std.specs.Prelude.{codes}
 use Rattle.std.specs.Fmt.{digits}
@@ -37,7 +38,7 @@ reply r home a b c state = record {
 abbrev pub v : Bytes
 v = codes "v"
 
--- nothing to tell
+-- nothing to report
 empty_text : report_text (script 1 []) (record { replies = []; pairs = []; order = []; answers = [] }) ≡ codes "report 1\norder\nend\n"
 empty_text = refl
 

@@ -1,4 +1,4 @@
--- Where the first line of a report's text stands that can't be accepted.
+-- The first line of a report's text that can't be accepted.
 use Rattle.std.specs.Prelude.{◌≡◌, ◌+◌, ℕ, Bool, true, false, List, [], ◌∷◌, ◌++◌, length, Ok, Err}
 use Rattle.weave_text.specs.Cutting.{words_of, is_skipped}
 use Rattle.weave_text.specs.Lines.{Bytes}
@@ -8,11 +8,11 @@ use Rattle.weave_report.specs.declared.fault.ReportCause.TheVariants as cause
 use Rattle.weave_report.specs.declared.read.parts.Place.{Place}
 use Rattle.weave_report.specs.declared.read.parts.Place.TheVariants.{Ended}
 use Rattle.weave_report.specs.declared.read.parts.Reading.{Reading}
-use Rattle.proof_base.specs.Steps.{◌>>=◌}
+use Rattle.weave_data.specs.Steps.{◌>>=◌}
 use Rattle.weave_report.specs.ReadingFields.{Read}
 use Rattle.weave_report.specs.Reading.{Refusal, after_any_line, after_line}
 
--- the reading behind these lines, one after another
+-- the reading after these lines, one after another
 abbrev pub read_over : Script → Reading → List Bytes → Read Reading
 read_over script before [] = Ok before
 read_over script before (line ∷ lines) = after_any_line script before line >>= λ next. read_over script next lines
@@ -22,13 +22,13 @@ abbrev pub is_ended : Place → Bool
 is_ended Ended = true
 is_ended _ = false
 
--- behind this reading the first of the lines is refused for the cause; or there is none, and the report isn't whole
+-- after this reading the first of the lines is refused for the cause; or there is none, and the report isn't whole
 abbrev pub IsRefusedAt : Script → Reading → List Bytes → ReportCause → Type 0
 IsRefusedAt script reading [] why = (is_ended reading.place ≡ false) × (why ≡ cause.End)
 IsRefusedAt script reading (line ∷ lines) why =
     (is_skipped line ≡ false) × (after_line script reading (words_of line) ≡ Err why)
 
--- the refusal is the first one behind this reading, where the lines are numbered from n: those before it are accepted
+-- the refusal is the first one after this reading, with lines numbered from n: those before it are accepted
 pub record IsFirstRefusal (script : Script) (n : ℕ) (from : Reading) (lines : List Bytes)
     (refusal : Refusal) : Type 0 where
   pub before : List Bytes

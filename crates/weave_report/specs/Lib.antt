@@ -1,4 +1,4 @@
-pub use Rattle.proof_base.specs.Facts
+pub use Rattle.weave_data.specs.Facts
 pub use Rattle.report_rules.specs.Lookups
 pub use Rattle.report_rules.specs.Replay
 pub use Rattle.report_rules.specs.RightReport

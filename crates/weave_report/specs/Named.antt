@@ -5,7 +5,7 @@ use Rattle.weave_report.specs.ReadingReplies.{request_named}
 use Rattle.weave_report.specs.TextOf.{HasDistinctNames}
 use Rattle.weave_report.specs.declared.read.named.Named.TheInside.{Inside}
 
--- the map has for each name the request of that name, in a script that tells its requests by name
+-- the map has for each name the request of that name, in a script whose requests have distinct names
 pub record IsFound (named : Inside) : Type 0 where
   pub tells : HasDistinctNames named.script.now
   pub places : (name : List ℕ) → at_key name named.places.entries ≡ request_named named.script.now name

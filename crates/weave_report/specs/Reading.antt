@@ -18,7 +18,7 @@ use Rattle.report_rules.specs.declared.report.Reply.{Reply}
 use Rattle.report_rules.specs.declared.report.ReplyState.TheVariants as told
 use Rattle.report_rules.specs.declared.report.Report.{Report}
 use Rattle.report_rules.specs.declared.report.StepAnswer.{StepAnswer}
-use Rattle.proof_base.specs.Steps.{◌>>=◌}
+use Rattle.weave_data.specs.Steps.{◌>>=◌}
 use Rattle.weave_report.specs.ReadingFields.{Read, name_in, names_in, this_number_in}
 use Rattle.weave_report.specs.ReadingStates.{is_step_form, step_answer_in}
 use Rattle.weave_report.specs.ReadingReplies.{any_named, named_from, got_in, program_in, transaction_in}
@@ -50,7 +50,7 @@ abbrev pub commit_reply : Commit → List Got → Reply
 commit_reply commit answers =
     record { request = commit.request; stamp = Some commit.stamp; state = told.Committed commit.number answers }
 
--- behind a commit and so many answers: the next `get`'s is still to come, or it has them all
+-- after a commit and these answers: the next `get`'s is still to come, or it has them all
 abbrev pub behind_commit : Report → Commit → List Got → Reading
 behind_commit report commit answers =
     if nat_lt (length answers) (length commit.gets) then reading report (Gots commit answers)
@@ -63,12 +63,12 @@ after_first report (word ∷ version ∷ []) =
     else Err cause.Line
 after_first report _ = Err cause.Line
 
--- behind a reply's line
+-- after a reply's line
 abbrev pub behind_reply : Report → ReplyLine → Reading
 behind_reply report (Whole reply) = reading (with_reply report reply) Replies
 behind_reply report (Committed commit) = behind_commit report commit []
 
--- a pair, by the words behind `settled`
+-- a pair, by the words after `settled`
 abbrev pub pair_in : Script → List Word → Read Pair
 pair_in script (vertex ∷ earlier ∷ later ∷ []) =
     name_in vertex >>= λ vertex. name_in earlier >>= λ earlier. name_in later >>= λ later.
@@ -76,11 +76,11 @@ pair_in script (vertex ∷ earlier ∷ later ∷ []) =
     Ok (record { vertex = vertex; earlier = earlier; later = later })
 pair_in script _ = Err cause.Line
 
--- the order, by the words behind `order`
+-- the order, by the words after `order`
 abbrev pub order_in : Script → List Word → Read (List ℕ)
 order_in script words = names_in words >>= λ names. named_from script [] names
 
--- a line where pairs stand, or the order behind them
+-- after a line that has a pair, or the order after the pairs
 abbrev pub after_pairs : Script → Report → Line → Read Reading
 after_pairs script report [] = Err cause.Line
 after_pairs script report (word ∷ words) =
@@ -90,7 +90,7 @@ after_pairs script report (word ∷ words) =
     then (order_in script words >>= λ order. Ok (reading (with_order report order) Answers))
     else Err cause.Line)
 
--- a line where replies stand, or what is behind them
+-- after a line that has a reply, or what follows the replies
 abbrev pub after_replies : Script → Report → Line → Read Reading
 after_replies script report [] = Err cause.Line
 after_replies script report (word ∷ words) =
@@ -102,19 +102,19 @@ after_replies script report (word ∷ words) =
 abbrev pub next_get : Commit → List Got → Option ℕ
 next_get commit answers = slice_get commit.gets (length answers)
 
--- a line where the answer of a `get` stands
+-- after a line that has the answer of a `get`
 abbrev pub after_got : Option ℕ → Report → Commit → List Got → Line → Read Reading
 after_got None report commit answers line = Err cause.Line
 after_got (Some op) report commit answers line =
     got_in op line >>= λ got. Ok (behind_commit report commit (answers ++ got ∷ []))
 
--- a step's answer, by the words behind `did`, where the step has this number
+-- a step's answer, by the words after `did`, if the step has this number
 abbrev pub did_in : ℕ → List Word → Read StepAnswer
 did_in number [] = Err cause.Line
 did_in number (word ∷ answer) =
     if is_step_form answer then (this_number_in number word >>= λ number. step_answer_in answer) else Err cause.Line
 
--- a line where answers of steps stand, or the end
+-- after a line that has a step's answer, or the end
 abbrev pub after_answers : Report → Line → Read Reading
 after_answers report [] = Err cause.Line
 after_answers report (word ∷ words) =
@@ -122,7 +122,7 @@ after_answers report (word ∷ words) =
     then (did_in (length report.answers + 1) words >>= λ answer. Ok (reading (with_answer report answer) Answers))
     else (if bytes_eq word (codes "end") && is_empty words then Ok (reading report Ended) else Err cause.Line)
 
--- a line at its place
+-- after a line at its place
 abbrev pub after_line_at : Script → Place → Report → Line → Read Reading
 after_line_at script Start report line = after_first report line
 after_line_at script Replies report line = after_replies script report line
@@ -131,7 +131,7 @@ after_line_at script Pairs report line = after_pairs script report line
 after_line_at script Answers report line = after_answers report line
 after_line_at script Ended report line = Err cause.Line
 
--- a line behind a reading
+-- after one more line
 abbrev pub after_line : Script → Reading → Line → Read Reading
 after_line script before line = after_line_at script before.place before.report line
 
@@ -141,16 +141,16 @@ after_line script before line = after_line_at script before.place before.report 
 abbrev pub Refusal : Type 0
 Refusal = ℕ × ReportCause
 
--- behind the last line, which has the number before this one
+-- after the last line, which has the number before this one
 abbrev pub whole_report : ℕ → Place → Report → Result Report Refusal
 whole_report number Ended report = Ok report
 whole_report number _ report = Err (number, cause.End)
 
--- a line, which may be one that is passed over
+-- after a line, which may be skipped
 abbrev pub after_any_line : Script → Reading → Bytes → Read Reading
 after_any_line script before line = if is_skipped line then Ok before else after_line script before (words_of line)
 
--- the lines behind a line of this number, where it was read
+-- the lines after a line of this number, if it was read
 abbrev pub behind_line : ℕ → Read Reading → (Reading → Result Report Refusal) → Result Report Refusal
 behind_line number (Ok next) rest = rest next
 behind_line number (Err why) rest = Err (number, why)

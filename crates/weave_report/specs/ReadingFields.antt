@@ -2,7 +2,7 @@
 use Rattle.std.specs.Prelude.{ℕ, Bool, ◌-◌, ◌^◌, ◌&&◌, ◌==◌, nat_eq, nat_lt, min, List, [], ◌∷◌, ◌++◌, length, replicate, Option, Some, None, Result, Ok, Err, codes, if◌then◌else◌}
 use Rattle.std.specs.Option.{option_eq}
 use Rattle.std.specs.Str.{bytes_eq}
-use Rattle.proof_base.specs.Steps.{◌>>=◌}
+use Rattle.weave_data.specs.Steps.{◌>>=◌}
 use Rattle.vector_stamp.specs.declared.clock.Stamp.{Stamp}
 use Rattle.weave_data.specs.Names.{is_name}
 use Rattle.weave_data.specs.declared.name.Name.{Name}
@@ -18,7 +18,7 @@ use Rattle.weave_report.specs.declared.fault.ReportCause.TheVariants as cause
 abbrev pub Read : Type 0 → Type 0
 Read A = Result A ReportCause
 
--- the value, or this cause where there is none
+-- the value, or this cause if there is none
 abbrev pub or_cause : {A : Type 0} → ReportCause → Option A → Read A
 or_cause why None = Err why
 or_cause why (Some value) = Ok value
@@ -27,7 +27,7 @@ or_cause why (Some value) = Ok value
 abbrev pub name_in : Word → Read Name
 name_in word = if is_name word then Ok word else Err cause.Name
 
--- more names behind these
+-- more names after these
 abbrev pub names_from : List Name → List Word → Read (List Name)
 names_from before [] = Ok before
 names_from before (word ∷ words) = name_in word >>= λ name. names_from (before ++ name ∷ []) words
@@ -67,12 +67,12 @@ reason_in word =
 abbrev pub count_in : Word → Read ℕ
 count_in word = or_cause cause.Stamp (number_of word)
 
--- more numbers of a stamp behind these
+-- more numbers of a stamp after these
 abbrev pub counts_from : List ℕ → List Word → Read (List ℕ)
 counts_from before [] = Ok before
 counts_from before (word ∷ words) = count_in word >>= λ count. counts_from (before ++ count ∷ []) words
 
--- eight counts that begin with these, and are 0 behind them
+-- eight counts that begin with these, and are 0 after them
 abbrev pub eight_counts : List ℕ → List ℕ
 eight_counts counts = counts ++ replicate (8 - length counts) 0
 
@@ -91,6 +91,6 @@ stamp_parts gates (epoch ∷ home ∷ counts ∷ []) =
     stamp_of gates epoch home counts
 stamp_parts gates _ = Err cause.Stamp
 
--- a stamp, where there are so many gatekeepers
+-- a stamp, in a script of `gates` gatekeepers
 abbrev pub stamp_in : ℕ → Word → Read Stamp
 stamp_in gates word = stamp_parts gates (pieces_of 58 word)

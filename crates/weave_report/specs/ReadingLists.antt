@@ -5,7 +5,7 @@ use Rattle.weave_data.specs.declared.name.Name.{Name}
 use Rattle.weave_text.specs.Lines.{Word}
 use Rattle.program_defs.specs.declared.script.Script.{Script}
 use Rattle.weave_report.specs.declared.fault.ReportCause.TheVariants as cause
-use Rattle.proof_base.specs.Steps.{◌>>=◌}
+use Rattle.weave_data.specs.Steps.{◌>>=◌}
 use Rattle.weave_report.specs.ReadingFields.{Read, count_in, counts_from, name_in, or_cause, stamp_of}
 use Rattle.weave_report.specs.ReadingReplies.{request_named}
 

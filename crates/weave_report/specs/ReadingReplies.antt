@@ -1,6 +1,6 @@
 -- The lines of replies as they are read. The number of words and the fixed ones are judged first, then the fields from
--- the left, and last whether the request is the script's and of the line's kind. Of a finished program the name is judged
--- before the form of its answer.
+-- the left, and last whether the request is the script's and of the line's kind. Of a finished program the name is
+-- judged before the form of its answer.
 use Rattle.std.specs.Prelude.{ℕ, Bool, true, false, ◌+◌, ◌&&◌, List, [], ◌∷◌, ◌++◌, Option, Some, None, Ok, Err, option_and_then, codes, if◌then◌else◌}
 use Rattle.std.specs.Option.{option_map_or}
 use Rattle.std.specs.Str.{bytes_eq}
@@ -20,7 +20,7 @@ use Rattle.weave_report.specs.declared.read.parts.ReplyLine.{ReplyLine}
 use Rattle.weave_report.specs.declared.read.parts.ReplyLine.TheVariants.{Whole, Committed}
 use Rattle.report_rules.specs.declared.report.ReplyState.TheVariants as told
 use Rattle.program_defs.specs.Works.{ops_of}
-use Rattle.proof_base.specs.Steps.{◌>>=◌}
+use Rattle.weave_data.specs.Steps.{◌>>=◌}
 use Rattle.weave_report.specs.ReadingFields.{Read, or_cause, name_in, number_in, small_number_in, this_number_in, reason_in, stamp_in}
 use Rattle.weave_report.specs.ReadingStates.{is_state_form, state_in, is_answer_form, answer_in}
 use Rattle.report_rules.specs.ReportOf.{numbers_of_gets}
@@ -29,7 +29,7 @@ use Rattle.report_rules.specs.Lookups.{request_at}
 
 -- Requests by name
 
--- the number of the first of these requests that has the name, where the first of all has this number
+-- the number of the first of these requests that has the name, counted on from this number
 abbrev pub request_from : ℕ → Name → List Request → Option ℕ
 request_from r name [] = None
 request_from r name (request ∷ requests) =
@@ -39,7 +39,7 @@ request_from r name (request ∷ requests) =
 abbrev pub request_named : Script → Name → Option ℕ
 request_named script name = request_from 0 name script.requests
 
--- the request, where it is a program or a transaction as is asked
+-- the request, if it is of the kind asked for: a program, or a transaction
 abbrev pub of_kind : Bool → Script → ℕ → Option ℕ
 of_kind true script r = if is_program script r then Some r else None
 of_kind false script r = if is_program script r then None else Some r
@@ -53,7 +53,7 @@ kind_named program script name =
 abbrev pub any_named : Script → Name → Read ℕ
 any_named script name = or_cause cause.Request (request_named script name)
 
--- more requests, by their names, behind these
+-- more requests, by their names, after these
 abbrev pub named_from : Script → List ℕ → List Name → Read (List ℕ)
 named_from script before [] = Ok before
 named_from script before (name ∷ names) = any_named script name >>= λ r. named_from script (before ++ r ∷ []) names
@@ -136,7 +136,7 @@ program_named script name =
     (request_at script r))
     (request_named script name)
 
--- a finished program; where the name is that of no program of the script, its answer isn't looked at
+-- a finished program; if the name is that of no program of the script, its answer isn't looked at
 abbrev pub finished_by : Option (ℕ × Program) → Script → Word → List Word → Read ReplyLine
 finished_by None script stamp answer = stamp_in script.gates stamp >>= λ stamp. Err cause.Request
 finished_by (Some (r, program)) script stamp answer =
@@ -159,7 +159,7 @@ program_in script (name ∷ stamp ∷ state ∷ answer) =
     else Err cause.Line)
 program_in script _ = Err cause.Line
 
--- what a `get` read, by its line, where it is to be this operation
+-- what a `get` read, by its line, if it is to be this operation
 abbrev pub got_in : ℕ → List Word → Read Got
 got_in op (word ∷ number ∷ state) =
     if bytes_eq word (codes "got") && is_state_form state

@@ -19,12 +19,12 @@ use Rattle.weave_report.specs.declared.read.parts.Item.{Item}
 use Rattle.weave_report.specs.declared.read.parts.Item.TheVariants.{Property, Link}
 use Rattle.report_rules.specs.declared.report.StepAnswer.{StepAnswer}
 use Rattle.report_rules.specs.declared.report.StepAnswer.TheVariants as step
-use Rattle.proof_base.specs.Steps.{◌>>=◌}
+use Rattle.weave_data.specs.Steps.{◌>>=◌}
 use Rattle.weave_report.specs.ReadingFields.{Read, name_in, names_in, small_number_in, or_cause}
 
 -- Records
 
--- a text cut at one of its bytes: what stands before it, the byte, and what stands behind it
+-- a text cut at one of its bytes: what is before it, the byte, and what is after it
 abbrev pub Cut : Type 0
 Cut = Bytes × ℕ × Bytes
 
@@ -33,13 +33,13 @@ abbrev pub cut_behind : ℕ → Option Cut → Option Cut
 cut_behind byte None = None
 cut_behind byte (Some (before, mark, behind)) = Some (byte ∷ before, mark, behind)
 
--- the text cut at its first byte of a kind, where it has one
+-- the text cut at its first byte of a kind, if it has one
 abbrev pub cut_first : (ℕ → Bool) → Bytes → Option Cut
 cut_first is_mark [] = None
 cut_first is_mark (byte ∷ text) =
     if is_mark byte then Some ([], byte, text) else cut_behind byte (cut_first is_mark text)
 
--- the byte stands between a key and its value
+-- the byte between a key and its value
 abbrev pub is_equals : ℕ → Bool
 is_equals byte = byte == 61
 
@@ -69,7 +69,7 @@ tag_of (Some (key, mark, value)) = pair_in key value
 abbrev pub tag_in : Word → Read (Name × Name)
 tag_in word = tag_of (cut_first is_equals word)
 
--- more tags behind these
+-- more tags after these
 abbrev pub tags_in : List (Name × Name) → List Word → Read (List (Name × Name))
 tags_in before [] = Ok before
 tags_in before (word ∷ words) = tag_in word >>= λ tag. with_last before tag.0 tag.1 >>= λ tags. tags_in tags words
@@ -97,7 +97,7 @@ with_property held key value [] =
     with_last held.props key value >>= λ props. Ok (record { props = props; edges = held.edges })
 with_property held key value (edge ∷ edges) = Err cause.Line
 
--- a record with one more item: no property behind an edge, and each in the order of keys
+-- a record with one more item: no property after an edge, and each in the order of keys
 abbrev pub with_item : Record → Item → Read Record
 with_item held (Property key value) = with_property held key value held.edges
 with_item held (Link name edge) =

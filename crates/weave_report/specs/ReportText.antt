@@ -30,11 +30,11 @@ use Rattle.report_rules.specs.Lookups.{request_at}
 abbrev pub name_at : Script → ℕ → Bytes
 name_at script r = option_map_or (λ (request : Request). request.name) (request_at script r) []
 
--- whether a request is a program; one that the script doesn't have is told as a transaction
+-- whether a request is a program; one that the script doesn't have is printed as a transaction
 abbrev pub is_program : Script → ℕ → Bool
 is_program script r = option_map_or (λ (request : Request). is_look request.work) (request_at script r) false
 
--- `EPOCH:HOME:` and the counts of so many gatekeepers, with commas between
+-- `EPOCH:HOME:` and the counts of the first `gates` gatekeepers, with commas between
 abbrev pub stamp_text : ℕ → Stamp → Bytes
 stamp_text gates stamp =
     decimal stamp.clock.epoch ++ codes ":" ++ decimal stamp.home ++ codes ":"
@@ -85,7 +85,7 @@ abbrev pub stamp_word : ℕ → Option Stamp → Bytes
 stamp_word gates None = codes "unbegun"
 stamp_word gates (Some stamp) = stamp_text gates stamp
 
--- how a begun request is told that has no answer yet
+-- the text of a begun request that has no answer yet
 abbrev pub begun_text : Bool → Bytes
 begun_text true = codes "running"
 begun_text false = codes "begun"

@@ -1,4 +1,4 @@
--- The laws of words and lines that the laws of reports stand on, in one. No public contract cites this.
+-- The laws of words and lines that the laws of reports rely on, in one record. No public contract cites this.
 use Rattle.std.specs.Prelude.{◌≡◌, ◌<◌, ◌^◌, ◌++◌, ◌∷◌, [], ℕ, List, Some, IsTrue, not}
 use Rattle.std.specs.Char.{is_ascii_digit}
 use Rattle.std.specs.Fmt.{decimal}

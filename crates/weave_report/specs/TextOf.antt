@@ -25,7 +25,7 @@ use Rattle.program_defs.specs.Works.{ops_of}
 use Rattle.report_rules.specs.ReportOf.{IsReportOf}
 use Rattle.weave_report.specs.ReportText.{report_lines}
 
--- What the types of the program say of its values, beside what their definitions know: names are names, keys rise, and
+-- What the types of the program say of its values, besides what their definitions say: names are names, keys rise, and
 -- numbers are within their ranges
 
 -- the bytes are a name
@@ -47,12 +47,12 @@ pub record IsTypedRecord (held : Record) : Type 0 where
   pub props : IsTypedMap IsName held.props
   pub edges : IsTypedMap IsTypedEdge held.edges
 
--- a record, where there is one, is as types say
+-- a record, if there is one, is as types say
 abbrev pub IsTypedState : State → Type 0
 IsTypedState None = ⊤
 IsTypedState (Some held) = IsTypedRecord held
 
--- the states and names in a program's answer are
+-- the states and names in a program's answer are valid
 abbrev pub IsTypedAnswer : Answer → Type 0
 IsTypedAnswer (Shown state) = IsTypedState state
 IsTypedAnswer (Reached reached) = ⊤
@@ -60,7 +60,7 @@ IsTypedAnswer (Found vertices) = AllByRecursion IsName vertices
 IsTypedAnswer (Walk None) = ⊤
 IsTypedAnswer (Walk (Some vertices)) = AllByRecursion IsName vertices
 
--- what a `get` read is, and the operation's number has 32 bits
+-- what a `get` read is valid, and the operation's number has 32 bits
 pub record IsTypedGot (got : Got) : Type 0 where
   pub op : got.op < 2 ^ 32
   pub state : IsTypedState got.state
@@ -70,7 +70,7 @@ abbrev pub gots_of : ReplyState → List Got
 gots_of (Committed number answers) = answers
 gots_of _ = []
 
--- what stands in a reply is
+-- every field of a reply's state is valid
 abbrev pub IsTypedReplyState : ReplyState → Type 0
 IsTypedReplyState Unbegun = ⊤
 IsTypedReplyState Begun = ⊤
@@ -96,8 +96,8 @@ pub record IsTypedReport (report : Report) : Type 0 where
 abbrev pub names_of : List Request → List Name
 names_of requests = map (λ (request : Request). request.name) requests
 
--- a script whose requests are told by their names: no two have one name, and there are fewer than 2^32 of them and of
--- the operations of each
+-- a script whose requests are known by their names: no two have the same name, and there are fewer than 2^32 of them
+-- and of the operations of each
 pub record HasDistinctNames (script : Script) : Type 0 where
   pub distinct : IsDistinct same_name (names_of script.requests)
   pub few_requests : length script.requests < 2 ^ 32
@@ -108,7 +108,7 @@ pub record IsTypedScript (script : Script) : Type 0 where
   pub gates : script.gates < 2 ^ 32
   pub names : AllByRecursion IsName (names_of script.requests)
 
--- the lines of the text that aren't passed over are those of the report, which is one that some text can give
+-- the lines of the text that aren't skipped are those of the report, which is one that some text can give
 pub record IsReportTextOf (script : Script) (bytes : Bytes) (report : Report) : Type 0 where
   pub lines : kept_lines (lines_of bytes) ≡ report_lines script report
   pub of_script : IsReportOf script report

@@ -5,9 +5,9 @@ use std::alloc::{AllocError, AllocFailed};
 /// What is wrong with a line.
 #[derive(Clone, Copy, PartialEq, Eq, Debug)]
 pub enum ReportCause {
-    /// The first word is none that may stand there, the number of words is not that of the form, or a word that the form
-    /// fixes is not in its place; a reason of refusal is none; an answer hasn't the form of the script's program; an item
-    /// of a record has no `=` or `>`, or its key is out of order or repeated.
+    /// The first word is not allowed there, the number of words is not that of the form, or a word that the form
+    /// fixes is not in its place; a reason of refusal is none; an answer hasn't the form of the script's program; an
+    /// item of a record has no `=` or `>`, or its key is out of order or repeated.
     Line,
     /// A field that is to be a name is none.
     Name,
@@ -17,7 +17,7 @@ pub enum ReportCause {
     Request,
     /// A stamp doesn't have its form.
     Stamp,
-    /// The text ends before the report does. The line told is one more than the last.
+    /// The text ends before the report does. The line reported is one more than the last.
     End,
 }
 

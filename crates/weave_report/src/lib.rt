@@ -4,14 +4,8 @@
 #![tactic(auto)]
 
 mod fault;
-#[cfg(test)]
-mod list_tests;
 mod print;
-#[cfg(test)]
-mod print_tests;
 mod read;
-#[cfg(test)]
-mod read_tests;
 mod reading_laws;
 mod text_laws;
 

@@ -53,7 +53,7 @@ pub fn read_report(
     ensures complete { (report : Report) → IsReportTextOf script.now bytes.now report → IsReadAs report result }
     ensures refused { IfLineRefused result ((report : Report) → ¬ IsReportTextOf script.now bytes.now report) }
 
-    // The lines before the one that is told are accepted, and what was printed of a report is read as that report.
+    // The lines before the one that is reported are accepted, and a printed report is read as that report.
     ensures first { IfRefusedAs result (IsFirstRefusal script.now first_line start (lines_of bytes.now)) }
     ensures printed { (report : Report) → IsReportOf script.now report → IsTypedReport report
         → bytes.now ≡ report_text script.now report → IsReadAs report result }
@@ -101,7 +101,7 @@ fn after_lines(
     whole_report(number, reading)
 }
 
-// What is read behind one more line of this number, which isn't one that is passed over.
+// The reading after one more line, which has this number and isn't skipped.
 fn after_kept_line(
     alloc: Global,
     script: &Named,

@@ -6,7 +6,7 @@ use weave_text::{
     words_are_clean, words_lack_other_bytes,
 };
 
-/// The laws of words and lines that the laws of reports stand on.
+/// The laws of words and lines that the laws of reports rely on.
 pub(crate) fn texts_keep_the_laws()
     ensures { TextLaws }
 {

@@ -1,4 +1,5 @@
 -- Tests that were passed on the way of reading.
+-- Used by FieldLaws, HeaderLaws, OpLaws, Reached, RequestLaws and StepLaws.
 use Rattle.std.proofs.Common.{◌≡◌, Bool, true, false, cond, refl}
 
 -- which way a test went

@@ -1,4 +1,5 @@
--- The fault that is told of a text of a script and a report is its first one.
+-- The fault that is reported of a text of a script and a report is its first one.
+-- Used by `check_faults_are_first`.
 use Rattle.std.proofs.Common.{◌≡◌, ℕ, suc, ◌+◌, ◌<◌, ◌≤◌, Bool, true, false, ◌&&◌, cond, List, [], ◌∷◌, ◌++◌, length, Ok, Err, refl, sym, ap, subst, ◌∙◌, append-nil}
 use Rattle.std.specs.Prelude.{Result, nat_lt}
 use Rattle.std.proofs.Math.Bool.{and-false}
@@ -13,16 +14,16 @@ use Rattle.weave_script.specs.CheckFaults.{begins_report, IsFirstCheckFault, InS
 use Rattle.weave_script.specs.CheckText.{IsHead}
 use Rattle.weave_script.specs.CheckReading.{behind, cause_of, check_text}
 use Rattle.weave_script.specs.Faults.{IsFirstScriptFault}
-use Rattle.proof_base.specs.Steps.{◌>>=◌}
+use Rattle.weave_data.specs.Steps.{◌>>=◌}
 use Rattle.weave_script.specs.Fields.{ReadOrCause}
 use Rattle.weave_script.specs.ReadText.{Fault, Part, at_line, is_open, is_report, read_on, script_at, head_before}
 use Rattle.weave_script.specs.Reading.{start, after_line}
 use Rattle.weave_script.specs.ScriptLines.{IsTextOf}
 use Rattle.weave_script.specs.declared.fault.Cause.{Cause}
 use Rattle.weave_script.specs.declared.fault.Cause.TheVariants as causes
-use Rattle.weave_script.specs.declared.reading.Place.{Place}
-use Rattle.weave_script.specs.declared.reading.Place.TheVariants.{Start, Between, Inside, Behind}
-use Rattle.weave_script.specs.declared.reading.Reading.{Reading}
+use Rattle.weave_script.specs.declared.read.reading.Place.{Place}
+use Rattle.weave_script.specs.declared.read.reading.Place.TheVariants.{Start, Between, Inside, Behind}
+use Rattle.weave_script.specs.declared.read.reading.Reading.{Reading}
 use Rattle.weave_script.proofs.CheckLaws.{finish, told_behind}
 use Rattle.weave_script.proofs.FieldLaws.{NumberLaws}
 use Rattle.weave_script.proofs.FirstFault.{same_fault, told_at, further, at_once}
@@ -90,7 +91,7 @@ end_fails n from lines part fault to ends number = record {
 
 -- ---- the first fault of all
 
--- a report's reader tells of its first refusal
+-- the refusal that a report's reader gives is the first one
 abbrev pub RefusesFirst : Type 0
 RefusesFirst = (script : Script) (n : ℕ) (lines : List Bytes) (refusal : report.Refusal) → report.after_lines script n report.start lines ≡ Err refusal → IsFirstRefusal script n report.start lines refusal
 

@@ -1,4 +1,5 @@
 -- Texts of a script and a report: they are read as both, and what is read is a text of both.
+-- Used by `checks_are_of_one_report`, `checks_are_read`, `printed_checks_come_back` and 3 more.
 use Rattle.std.proofs.Common.{◌≡◌, ℕ, ◌+◌, ◌≤◌, true, List, [], ◌∷◌, ◌++◌, map, length, Option, Some, None, Ok, Err, refl, sym, ap, ◌∙◌, subst, append_assoc, append-nil, arith}
 use Rattle.std.specs.Prelude.{Result, IsTrue, nat_lt, codes}
 use Rattle.std.specs.List.{AllByRecursion, list_all}
@@ -14,14 +15,14 @@ use Rattle.weave_text.specs.Cutting.{lines_of, kept_lines, is_clean_line}
 use Rattle.weave_text.specs.Lines.{Bytes, Line, joined_words, lines_text}
 use Rattle.weave_script.specs.CheckText.{IsHead, IsCheckTextOf}
 use Rattle.weave_script.specs.CheckReading.{behind, check_text}
-use Rattle.proof_base.specs.Steps.{◌>>=◌}
+use Rattle.weave_data.specs.Steps.{◌>>=◌}
 use Rattle.weave_script.specs.ReadText.{Fault, Head, Part, at_line, is_open, read_on, script_at, head_before, head_of}
 use Rattle.weave_script.specs.Reading.{start}
 use Rattle.weave_script.specs.ScriptLines.{script_lines, script_text}
 use Rattle.weave_script.specs.Scripts.{IsRequest, IsScript, names_of}
 use Rattle.weave_script.specs.declared.fault.Cause.{Cause}
 use Rattle.weave_script.specs.declared.fault.Cause.TheVariants as causes
-use Rattle.proof_base.proofs.Steps.{bind_ok, ok_is}
+use Rattle.weave_data.proofs.Steps.{bind_ok, ok_is}
 use Rattle.weave_script.proofs.CheckReading.{reads_past, stops_at_report, text_behind}
 use Rattle.weave_script.proofs.CheckTexts.{told_by_name, both_texts}
 use Rattle.weave_script.proofs.FieldLaws.{NumberLaws}
@@ -161,7 +162,7 @@ check_is_short bytes script told e =
 
 -- ---- what is printed
 
--- clean lines come back from their text, alone and where more text follows
+-- clean lines come back from their text, alone and if more text follows
 pub record CleanLaws : Type 0 where
   pub lines : (lines : List Line) (text : Bytes) → IsTrue (list_all is_clean_line lines) → lines_of (lines_text lines ++ text) ≡ map joined_words lines ++ lines_of text
   pub kept : (lines : List Line) → IsTrue (list_all is_clean_line lines) → kept_lines (lines_of (lines_text lines)) ≡ lines

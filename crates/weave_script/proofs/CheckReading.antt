@@ -1,4 +1,5 @@
 -- A script that a report follows is read up to the report.
+-- Used by CheckLaws and CheckTold.
 use Rattle.std.proofs.Common.{◌≡◌, ℕ, suc, ◌+◌, Bool, true, false, ◌&&◌, cond, List, [], ◌∷◌, ◌++◌, length, Ok, Err, refl, sym, ap, ◌∙◌, arith}
 use Rattle.std.specs.Prelude.{Option, Result, codes, ◌==◌}
 use Rattle.std.specs.List.{onto_first}
@@ -9,14 +10,14 @@ use Rattle.weave_text.specs.Cutting.{lines_of, words_of, is_skipped, kept_lines}
 use Rattle.weave_text.specs.Lines.{Bytes, Word, Line}
 use Rattle.weave_script.specs.declared.fault.Cause.{Cause}
 use Rattle.weave_script.specs.declared.fault.Cause.TheVariants as causes
-use Rattle.weave_script.specs.declared.reading.Place.{Place}
-use Rattle.weave_script.specs.declared.reading.Place.TheVariants.{Start, Between, Inside, Behind}
-use Rattle.weave_script.specs.declared.reading.Reading.{Reading}
-use Rattle.proof_base.specs.Steps.{◌>>=◌}
+use Rattle.weave_script.specs.declared.read.reading.Place.{Place}
+use Rattle.weave_script.specs.declared.read.reading.Place.TheVariants.{Start, Between, Inside, Behind}
+use Rattle.weave_script.specs.declared.read.reading.Reading.{Reading}
+use Rattle.weave_data.specs.Steps.{◌>>=◌}
 use Rattle.weave_script.specs.ReadText.{Fault, Part, at_line, is_open, is_report, read_on}
 use Rattle.weave_script.specs.Reading.{after_line_at, within_limits, after_line}
 use Rattle.weave_script.specs.StepLines.{place_of, step_of}
-use Rattle.proof_base.proofs.Steps.{bind_ok, ok_is}
+use Rattle.weave_data.proofs.Steps.{bind_ok, ok_is}
 use Rattle.weave_report.proofs.ReadSteps.{is_word}
 use Rattle.weave_script.proofs.Reached.{after_lines}
 
@@ -58,7 +59,7 @@ from_kept begins n reading line lines =
     cond begins (Ok (record { reading = reading; line = n; left = line ∷ lines }))
     (at_line n (after_line reading (words_of line)) >>= λ next. read_on true (suc n) next lines)
 
--- lines that lead on are read past
+-- lines that are accepted are read past
 pub reads_past : (n : ℕ) (reading : Reading) (front back : List Bytes) (last : Reading) → after_lines reading (kept_lines front) ≡ Ok last → read_on true n reading (front ++ back) ≡ read_on true (n + length front) last back
 reads_past n reading [] back last e =
     let none : n ≡ n + 0 = omega arith in
@@ -125,12 +126,12 @@ stops_at_report n reading (line ∷ lines) first more opens report e = go (λ e.
           kept = refl;
         }
 
--- ---- the text behind some lines
+-- ---- the text after some lines
 
 tail_is : (a b : Bytes) (xs ys : List Bytes) → a ∷ xs ≡ b ∷ ys → xs ≡ ys
 tail_is a b xs ys e = cc
 
--- what stands behind a text's first line is the lines of a text
+-- what follows a text's first line is the lines of a text
 behind_first : (text first : Bytes) (rest : List Bytes) → lines_of text ≡ first ∷ rest → (left : Bytes) × (lines_of left ≡ rest)
 behind_first [] first rest e = absurd cc
 behind_first (byte ∷ text) first rest e = go (λ line more e. behind_first text line more e) (byte == 10) (lines_of text) refl e
@@ -141,7 +142,7 @@ behind_first (byte ∷ text) first rest e = go (λ line more e. behind_first tex
     go later false [] h e = ([], tail_is (byte ∷ []) first [] rest e)
     go later false (line ∷ more) h e = let left = later line more h in (left.0, left.1 ∙ tail_is (byte ∷ line) first more rest e)
 
--- and so is what stands behind some lines
+-- and so is what follows some lines
 pub text_behind : (text : Bytes) (front back : List Bytes) → lines_of text ≡ front ++ back → (left : Bytes) × (lines_of left ≡ back)
 text_behind text [] back e = (text, e)
 text_behind text (line ∷ front) back e = let next = behind_first text line (front ++ back) e in text_behind next.0 front back next.1

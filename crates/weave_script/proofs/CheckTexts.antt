@@ -1,4 +1,5 @@
 -- A script and the report that follows it, read together.
+-- Used by `read_check`, `report_texts_follow_script_texts` and CheckLaws.
 use Rattle.std.proofs.Common.{◌≡◌, ℕ, ◌<◌, ◌≤◌, ◌^◌, List, [], ◌∷◌, ◌++◌, length, Ok, Err, ap, subst, ◌∙◌, arith}
 use Rattle.std.specs.Prelude.{Result}
 use Rattle.std.specs.List.{AllByRecursion}
@@ -16,7 +17,7 @@ use Rattle.weave_text.specs.Cutting.{lines_of}
 use Rattle.weave_text.specs.Lines.{Bytes}
 use Rattle.weave_script.specs.CheckText.{IsHead, IsCheckTextOf}
 use Rattle.weave_script.specs.CheckReading.{behind, check_text}
-use Rattle.proof_base.specs.Steps.{◌>>=◌}
+use Rattle.weave_data.specs.Steps.{◌>>=◌}
 use Rattle.weave_script.specs.ReadText.{Fault, Head, head_of}
 use Rattle.weave_script.specs.ScriptLines.{IsTextOf}
 use Rattle.weave_script.specs.Scripts.{IsScript}
@@ -35,7 +36,7 @@ head_with script line left = record { script = script; line = line; left = lines
 abbrev read_head : Script → ℕ → Bytes → Result Head Fault
 read_head script line left = Ok (head_with script line left)
 
--- what is read behind a head
+-- what is read after a head
 pub behind_head : (bytes left : Bytes) (script : Script) (line : ℕ) (read : Result Report Refusal) → head_of bytes ≡ read_head script line left → report_in script line left ≡ read → check_text bytes ≡ behind script read
 unfolding report_in
 behind_head bytes left script line read head is = ap (λ h. h >>= λ (head : Head). behind head.script (after_lines head.script head.line start head.left)) head ∙ ap (behind script) is

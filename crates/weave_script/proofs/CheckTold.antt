@@ -1,4 +1,5 @@
--- The first fault of a text of a script and a report is told.
+-- The first fault of a text of a script and a report is reported.
+-- Used by `check_faults_are_first`.
 use Rattle.std.proofs.Common.{◌≡◌, ℕ, suc, ◌+◌, ◌≤◌, Bool, true, false, ◌&&◌, List, [], ◌∷◌, length, Ok, Err, refl, sym, ap, subst, ◌∙◌, append-nil}
 use Rattle.std.specs.Prelude.{Result, nat_lt, ◌==◌}
 use Rattle.std.specs.List.{onto_first}
@@ -13,12 +14,12 @@ use Rattle.weave_script.specs.CheckFaults.{begins_report, IsFirstCheckFault, InS
 use Rattle.weave_script.specs.CheckText.{IsHead}
 use Rattle.weave_script.specs.CheckReading.{behind, check_text}
 use Rattle.weave_script.specs.Faults.{IsScriptRefusedAt, IsFirstScriptFault}
-use Rattle.proof_base.specs.Steps.{◌>>=◌}
+use Rattle.weave_data.specs.Steps.{◌>>=◌}
 use Rattle.weave_script.specs.ReadText.{Fault, Part, at_line, is_open, is_report, read_on, head_before}
 use Rattle.weave_script.specs.Reading.{start}
 use Rattle.weave_script.specs.ScriptLines.{IsTextOf}
 use Rattle.weave_script.specs.declared.fault.Cause.TheVariants as causes
-use Rattle.weave_script.specs.declared.reading.Reading.{Reading}
+use Rattle.weave_script.specs.declared.read.reading.Reading.{Reading}
 use Rattle.weave_script.proofs.CheckLaws.{finish, told_behind, open_last}
 use Rattle.weave_script.proofs.CheckReading.{reads_past}
 use Rattle.weave_script.proofs.FieldLaws.{NumberLaws}
@@ -45,7 +46,7 @@ kept-report (first ∷ rest) e = go (first == 35) refl
 
 -- ---- where the reading of a script fails, and where it stops
 
--- what is told where the script's lines are read like this
+-- what is reported if the script's lines are read like this
 abbrev told : Result Part Fault → Result (Script × Report) Fault
 told read = (read >>= finish) >>= told_behind
 
@@ -70,7 +71,7 @@ stops_there n reading line lines opens begins =
 
 -- ---- the first fault
 
--- a report's first refusal is told by its reader
+-- a report's reader reports its first refusal
 abbrev pub TellsFirst : Type 0
 TellsFirst = (script : Script) (n : ℕ) (lines : List Bytes) (refusal : report.Refusal) → IsFirstRefusal script n report.start lines refusal → report.after_lines script n report.start lines ≡ Err refusal
 

@@ -1,12 +1,15 @@
 -- The lines of a script have clean words.
+-- Used by `printed_checks_come_back` and `printed_scripts_come_back`.
 use Rattle.std.proofs.Common.{◌≡◌, ℕ, ◌+◌, ◌≤◌, ◌<◌, ◌^◌, true, List, [], ◌∷◌, ◌++◌, map, Option, Some, None, refl, arith}
 use Rattle.std.specs.Prelude.{IsTrue, length, codes}
 use Rattle.std.specs.Fmt.{decimal}
 use Rattle.std.specs.List.{AllByRecursion, list_all}
-use Rattle.proof_base.proofs.Lists.{all-append, list_all-from}
+use Rattle.std.proofs.lemmas.Bool.{and_from}
+use Rattle.weave_data.proofs.Lists.{all-append, all-map, list_all-from}
 use Rattle.weave_data.specs.Names.{is_name}
+use Rattle.graph_ops.specs.Operations.{op_fields, op_word}
 use Rattle.graph_ops.specs.declared.op.Op.{Op}
-use Rattle.graph_ops.specs.declared.op.Op.TheVariants.{Create, Delete, Set, Unset, Link, Unlink, Tag, Untag, Get}
+use Rattle.graph_ops.proofs.EachOp.{word-is-name}
 use Rattle.program_defs.specs.declared.program.Filter.{Filter}
 use Rattle.program_defs.specs.declared.program.Program.{Program}
 use Rattle.program_defs.specs.declared.program.Program.TheVariants.{Show, Reach, Around, Path}
@@ -18,6 +21,7 @@ use Rattle.program_defs.specs.declared.script.Work.{Work}
 use Rattle.program_defs.specs.declared.script.Work.TheVariants.{Change, Look}
 use Rattle.weave_text.specs.Cutting.{is_clean, is_clean_line}
 use Rattle.weave_text.specs.Lines.{Word, Line}
+use Rattle.weave_text.proofs.Clean.{name_is_kept}
 use Rattle.weave_script.specs.ScriptLines.{op_line, end_line, filter_words, program_words, work_lines, request_lines, phase_lines, due_phases, later_phases, item_lines, step_line, steps_lines, script_lines, name_of_request}
 use Rattle.weave_script.specs.Scripts.{IsName, IsOperation, IsFilter, IsProgram, IsWork, IsRequest, IsStep, IsScript, steps_of}
 use Rattle.weave_script.proofs.Places.{request_is_named}
@@ -44,15 +48,9 @@ module _ (laws : CleanLaws) where
   small n most h k = laws.number n (omega arith)
 
   op_clean : (op : Op) → IsOperation op → IsCleanLine (op_line op)
-  op_clean (Create v) h = words_clean (v ∷ []) (name v h, tt)
-  op_clean (Delete v) h = words_clean (v ∷ []) (name v h, tt)
-  op_clean (Get v) h = words_clean (v ∷ []) (name v h, tt)
-  op_clean (Unset v key) h = words_clean (v ∷ key ∷ []) (name v h.0, (name key h.1, tt))
-  op_clean (Unlink v edge) h = words_clean (v ∷ edge ∷ []) (name v h.0, (name edge h.1, tt))
-  op_clean (Set v key value) h = words_clean (v ∷ key ∷ value ∷ []) (name v h.0, (name key h.1, (name value h.2, tt)))
-  op_clean (Link v edge target) h = words_clean (v ∷ edge ∷ target ∷ []) (name v h.0, (name edge h.1, (name target h.2, tt)))
-  op_clean (Untag v edge key) h = words_clean (v ∷ edge ∷ key ∷ []) (name v h.0, (name edge h.1, (name key h.2, tt)))
-  op_clean (Tag v edge key value) h = words_clean (v ∷ edge ∷ key ∷ value ∷ []) (name v h.0, (name edge h.1, (name key h.2, (name value h.3, tt))))
+  op_clean op h =
+      let word = word-is-name op in
+      and_from _ _ (name_is_kept (op_word op) word) (words_clean (op_line op) (name (op_word op) word, all-map IsName IsClean name (op_fields op) h))
 
   ops_clean : (ops : List Op) → AllByRecursion IsOperation ops → AllByRecursion IsCleanLine (map op_line ops)
   ops_clean [] h = tt

@@ -1,16 +1,17 @@
--- No line of a script has twelve words, so those behind them change nothing.
+-- No line of a script has twelve words, so words after the twelfth change nothing.
+-- Used by `take`.
 use Rattle.std.proofs.Common.{◌≡◌, Bool, List, [], ◌∷◌, take, refl, sym, ap, ◌∙◌}
 use Rattle.std.specs.Prelude.{◌&&◌, Result, Ok, Err}
 use Rattle.weave_text.specs.Lines.{Word, Line}
 use Rattle.weave_script.specs.declared.fault.LineFault.{LineFault}
 use Rattle.weave_script.specs.declared.fault.LineFault.TheVariants as line_fault
-use Rattle.weave_script.specs.declared.part.Taken.{Taken}
-use Rattle.weave_script.specs.declared.part.Taken.TheVariants as taken
-use Rattle.weave_script.specs.declared.reader.Reader.{Reader}
-use Rattle.weave_script.specs.declared.reading.Place.{Place}
-use Rattle.weave_script.specs.declared.reading.Place.TheVariants.{Start, Between, Inside, Behind}
-use Rattle.weave_script.specs.declared.reading.Reading.{Reading}
-use Rattle.proof_base.specs.Steps.{◌>>=◌}
+use Rattle.weave_script.specs.declared.read.part.Taken.{Taken}
+use Rattle.weave_script.specs.declared.read.part.Taken.TheVariants as taken
+use Rattle.weave_script.specs.declared.read.reader.Reader.{Reader}
+use Rattle.weave_script.specs.declared.read.reading.Place.{Place}
+use Rattle.weave_script.specs.declared.read.reading.Place.TheVariants.{Start, Between, Inside, Behind}
+use Rattle.weave_script.specs.declared.read.reading.Reading.{Reading}
+use Rattle.weave_data.specs.Steps.{◌>>=◌}
 use Rattle.weave_script.specs.Parts.{TakesLine, ends_before}
 use Rattle.weave_script.specs.ReadText.{is_open, is_report}
 use Rattle.weave_script.specs.Reading.{after_line, after_line_at, within_limits}

@@ -1,4 +1,5 @@
 -- A field that is read is the one word of what is read.
+-- Used by CheckFaults, CheckLaws, CheckTold, HeadTexts, HeaderLaws, Reached, ReadAgain, RequestLaws and 2 more.
 use Rattle.std.proofs.Common.{◌≡◌, ℕ, ◌≤◌, ◌<◌, ◌^◌, Ok, Err, ap, ◌∙◌, subst}
 use Rattle.std.specs.Prelude.{nat_lt}
 use Rattle.std.specs.Fmt.{decimal}
@@ -11,10 +12,10 @@ use Rattle.weave_text.specs.declared.numbers.Numeral.{Numeral}
 use Rattle.weave_text.specs.declared.numbers.Numeral.TheVariants.{NoNumber, TooLarge, Number}
 use Rattle.weave_script.specs.declared.fault.Cause.{Cause}
 use Rattle.weave_script.specs.declared.fault.Cause.TheVariants as causes
-use Rattle.proof_base.specs.Steps.{◌>>=◌}
+use Rattle.weave_data.specs.Steps.{◌>>=◌}
 use Rattle.weave_script.specs.Fields.{name_of, found_number, at_least, number_in}
 use Rattle.weave_script.specs.Scripts.{IsName}
-use Rattle.proof_base.proofs.Steps.{bind_ok, ok_is}
+use Rattle.weave_data.proofs.Steps.{bind_ok, ok_is}
 use Rattle.weave_script.proofs.Binds.{pick}
 
 -- a name that is read is the word
@@ -25,7 +26,7 @@ name_of-ok word name e = pick (is_name word) (Ok word) (Err causes.Name) (Ok nam
 pub name_of-name : (name : Name) → IsName name → name_of name ≡ Ok name
 name_of-name name h = cond-true (is_name name) (Ok name) (Err causes.Name) h
 
--- a number is told by one word
+-- a number is read only from its one word, and that is read as it
 pub record NumberLaws : Type 0 where
   pub back : (most n : ℕ) → most < 2 ^ 64 → n ≤ most → number_up_to most (decimal n) ≡ Number n
   pub word : (most : ℕ) (word : Word) (n : ℕ) → most < 2 ^ 64 → number_up_to most word ≡ Number n → (word ≡ decimal n) × (n ≤ most)

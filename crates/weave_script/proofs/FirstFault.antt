@@ -1,4 +1,5 @@
--- The fault that is told is the first.
+-- The fault that is reported is the first.
+-- Used by `faults_are_first` and CheckFaults.
 use Rattle.std.proofs.Common.{◌≡◌, ℕ, suc, ◌+◌, ◌<◌, ◌≤◌, Bool, true, false, cond, List, [], ◌∷◌, ◌++◌, length, Ok, Err, refl, sym, ap, ◌∙◌, arith}
 use Rattle.std.specs.Prelude.{Result, nat_lt}
 use Rattle.std.proofs.lemmas.Bool.{cond-true, cond-false, le-ltb, lt-ltb}
@@ -7,19 +8,19 @@ use Rattle.weave_text.specs.Cutting.{lines_of, words_of, is_skipped}
 use Rattle.weave_text.specs.Lines.{Bytes}
 use Rattle.weave_script.specs.declared.fault.Cause.{Cause}
 use Rattle.weave_script.specs.declared.fault.Cause.TheVariants as causes
-use Rattle.weave_script.specs.declared.reading.Reading.{Reading}
-use Rattle.proof_base.specs.Steps.{◌>>=◌}
+use Rattle.weave_script.specs.declared.read.reading.Reading.{Reading}
+use Rattle.weave_data.specs.Steps.{◌>>=◌}
 use Rattle.weave_script.specs.Fields.{ReadOrCause}
 use Rattle.weave_script.specs.Faults.{IsScriptRefusedAt, IsFirstScriptFault}
 use Rattle.weave_script.specs.ReadText.{Fault, Part, at_line, read_on, read_text, script_at}
 use Rattle.weave_script.specs.Reading.{start, after_line}
-use Rattle.proof_base.proofs.Steps.{ok_is}
+use Rattle.weave_data.proofs.Steps.{ok_is}
 
 -- the fault, as a result
 abbrev pub err : {A E : Type 0} → E → Result A E
 err e = Err e
 
--- two results that are one have one fault
+-- two equal results have the same fault
 pub same_fault : {A : Type 0} (a b : Fault) → err {A = A} a ≡ err b → a ≡ b
 same_fault a b e = cc
 
@@ -37,7 +38,7 @@ fault_at : (n : ℕ) (read : ReadOrCause Script) (fault : Fault) → at_line n r
 fault_at n (Ok value) fault e = absurd cc
 fault_at n (Err cause) fault e = let h = told_at n cause fault e in (ap (λ c. Err c) h.0, h.1)
 
--- one line that was accepted stands before
+-- one line that was accepted is before it
 unfoldable pub further : (n : ℕ) (from next : Reading) (line : Bytes) (lines : List Bytes) (fault : Fault) → ((more : List Bytes) → read_on false n from (line ∷ more) ≡ read_on false (suc n) next more)
     → IsFirstScriptFault (suc n) next lines fault → IsFirstScriptFault n from (line ∷ lines) fault
 further n from next line lines fault step first =
@@ -52,7 +53,7 @@ further n from next line lines fault step first =
       refused = first.refused;
     }
 
--- nothing stands before it
+-- no line is before it
 unfoldable pub at_once : (n : ℕ) (from : Reading) (lines : List Bytes) (fault : Fault) → fault.line ≡ n → IsScriptRefusedAt from lines fault.cause → IsFirstScriptFault n from lines fault
 at_once n from lines fault number refused =
     let none : n ≡ n + 0 = omega arith in

@@ -1,4 +1,5 @@
 -- Forms of lines, by their number of words.
+-- Used by `prog_of`.
 use Rattle.std.proofs.Common.{◌≡◌, ℕ, ◌<◌, [], ◌∷◌, length, Err, refl, arith}
 use Rattle.weave_text.specs.Lines.{Line}
 use Rattle.weave_script.specs.declared.fault.Cause.TheVariants as causes

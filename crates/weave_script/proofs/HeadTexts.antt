@@ -1,4 +1,5 @@
 -- Scripts that a report follows, and the lines before the report.
+-- Used by `heads_are_texts`, CheckFaults and CheckLaws.
 use Rattle.std.proofs.Common.{◌≡◌, ℕ, suc, ◌+◌, Bool, true, false, ◌&&◌, cond, List, [], ◌∷◌, ◌++◌, Ok, refl, sym, ap, subst, ◌∙◌, arith}
 use Rattle.std.specs.Prelude.{Result, nat_lt, length}
 use Rattle.std.proofs.lemmas.Bool.{cond-true, cond-false}
@@ -6,12 +7,12 @@ use Rattle.program_defs.specs.declared.script.Script.{Script}
 use Rattle.weave_text.specs.Cutting.{lines_of, words_of, is_skipped, kept_lines}
 use Rattle.weave_text.specs.Lines.{Bytes}
 use Rattle.weave_script.specs.declared.fault.Cause.TheVariants as causes
-use Rattle.weave_script.specs.declared.reading.Reading.{Reading}
+use Rattle.weave_script.specs.declared.read.reading.Reading.{Reading}
 use Rattle.weave_script.specs.CheckText.{IsHead}
-use Rattle.proof_base.specs.Steps.{◌>>=◌}
+use Rattle.weave_data.specs.Steps.{◌>>=◌}
 use Rattle.weave_script.specs.ReadText.{Fault, Part, Head, at_line, is_open, is_report, read_on, read_part, script_at, head_before, head_of}
 use Rattle.weave_script.specs.Reading.{start, after_line}
-use Rattle.proof_base.proofs.Steps.{bind_ok, bind_at, ok_is}
+use Rattle.weave_data.proofs.Steps.{bind_ok, bind_at, ok_is}
 use Rattle.weave_script.proofs.FieldLaws.{NumberLaws}
 use Rattle.weave_script.proofs.Reached.{after_lines, lines_lead, script_reached}
 use Rattle.weave_script.proofs.TextLaws.{at_line_ok, not_long}

@@ -1,4 +1,5 @@
--- A header that is read is told by its one line.
+-- A header is read only from its one line, and that is read as it.
+-- Used by Reached, ReadAgain and StepLaws.
 use Rattle.std.proofs.Common.{◌≡◌, ℕ, ◌≤◌, ◌<◌, ◌^◌, Bool, true, ◌&&◌, cond, [], ◌∷◌, Ok, Err, sym, ap, ◌∙◌, subst, lit<}
 use Rattle.std.specs.Prelude.{codes}
 use Rattle.std.specs.Fmt.{decimal}
@@ -8,11 +9,11 @@ use Rattle.weave_text.specs.Lines.{Word, Line}
 use Rattle.weave_text.specs.Numbers.{is_number}
 use Rattle.weave_script.specs.declared.fault.Cause.{Cause}
 use Rattle.weave_script.specs.declared.fault.Cause.TheVariants as causes
-use Rattle.proof_base.specs.Steps.{◌>>=◌}
+use Rattle.weave_data.specs.Steps.{◌>>=◌}
 use Rattle.weave_script.specs.Fields.{number_in}
 use Rattle.weave_script.specs.HeaderLine.{header_of, sizes_of}
 use Rattle.weave_script.specs.ScriptLines.{header_line}
-use Rattle.proof_base.proofs.Steps.{bind_ok, bind_at, ok_is}
+use Rattle.weave_data.proofs.Steps.{bind_ok, bind_at, ok_is}
 use Rattle.weave_report.proofs.ReadSteps.{is_word}
 use Rattle.weave_script.proofs.Binds.{pick}
 use Rattle.weave_script.proofs.FieldLaws.{NumberLaws, number_in-ok, number_in-number}

@@ -1,4 +1,5 @@
 -- The index of requests, as it grows.
+-- Used by `add_op`, `add_program`, `add_transaction`, `add_vertex` and LimitLaws.
 use Rattle.std.proofs.Common.{◌≡◌, ℕ, ◌+◌, suc, Bool, true, false, cond, ◌||◌, List, [], ◌∷◌, ◌++◌, length, Option, Some, None, refl, sym, ap, ◌∙◌, subst, arith, add-one}
 use Rattle.std.specs.Prelude.{is_some, count_by}
 use Rattle.std.specs.List.{flat_map}
@@ -10,16 +11,16 @@ use Rattle.weave_data.specs.Names.{same_name, one_name}
 use Rattle.weave_data.specs.Pairs.{at_key, has}
 use Rattle.weave_data.specs.declared.name.Name.{Name}
 use Rattle.graph_ops.specs.Mentions.{is_among, with_name}
+use Rattle.graph_ops.specs.Operations.{is_get}
 use Rattle.graph_ops.specs.declared.op.Op.{Op}
-use Rattle.graph_ops.specs.declared.op.Op.TheVariants.{Create, Delete, Set, Unset, Link, Unlink, Tag, Untag, Get}
 use Rattle.program_defs.specs.declared.script.Request.{Request}
 use Rattle.program_defs.specs.declared.script.Work.TheVariants.{Change}
 use Rattle.program_defs.specs.Works.{is_look}
 use Rattle.weave_script.specs.Indexed.{IsSetOf, IsPlaces, IsNewRequest}
-use Rattle.weave_script.specs.Limits.{with_names, vertices_of, vertices_of_work, vertices_of_op, programs_of, gets_of, gets_of_work, is_get}
+use Rattle.weave_script.specs.Limits.{with_names, vertices_of, vertices_of_work, vertices_of_op, programs_of, gets_of, gets_of_work}
 use Rattle.weave_script.specs.RequestLines.{request_of}
 use Rattle.weave_script.specs.StepLines.{place_of}
-use Rattle.weave_script.specs.declared.reading.Opening.{Opening}
+use Rattle.weave_script.specs.declared.read.reading.Opening.{Opening}
 use Rattle.weave_script.proofs.Keys.{same_both_ways, position_from-push_yes, position_from-push_no, position_from-last}
 
 -- the second table is the first with this value at a name
@@ -65,7 +66,7 @@ module _ {X : Type 0} where
 
 -- ---- places
 
--- a new name was put with the place behind all
+-- a new name was put with the place after all requests
 pub places_put : (pairs after : List (List ℕ × ℕ)) (requests : List Request) (name : Name) (place : ℕ) (request : Request)
     → Writes name place pairs after → IsPlaces pairs requests → IsNewRequest name place requests → request.name ≡ name → IsPlaces after (requests ++ request ∷ [])
 places_put pairs after requests name place request writes places new named other = writes other ∙ ap (λ b. cond b (Some place) (at_key other pairs)) (same_both_ways name other) ∙ go (same_name other name) refl
@@ -124,18 +125,6 @@ op_gets requests opening ops op =
 pub op_programs : (requests : List Request) (opening : Opening) (ops more : List Op)
     → programs_of (requests ++ request_of opening (Change more) ∷ []) ≡ programs_of (requests ++ request_of opening (Change ops) ∷ [])
 op_programs requests opening ops more = programs_of-push requests (request_of opening (Change more)) ∙ sym (programs_of-push requests (request_of opening (Change ops)))
-
--- an operation that is no `get` fails the test
-pub not_get : (op : Op) → ((v : Name) → op ≡ Get v → ⊥) → is_get op ≡ false
-not_get (Create v) other = refl
-not_get (Delete v) other = refl
-not_get (Set v key value) other = refl
-not_get (Unset v key) other = refl
-not_get (Link v edge target) other = refl
-not_get (Unlink v edge) other = refl
-not_get (Tag v edge key value) other = refl
-not_get (Untag v edge key) other = refl
-not_get (Get v) other = absurd (other v refl)
 
 -- a transaction without operations adds no vertex
 pub transaction_vertices : (requests : List Request) (opening : Opening) → vertices_of (requests ++ request_of opening (Change []) ∷ []) ≡ vertices_of requests

@@ -1,4 +1,5 @@
 -- One more request, and one more phase, at the end of a script's items.
+-- Used by Phases and Reached.
 use Rattle.std.proofs.Common.{◌≡◌, ℕ, ◌+◌, ◌<◌, Bool, true, false, cond, List, [], ◌∷◌, ◌++◌, length, refl, sym, ap, ◌∙◌, append_assoc, append-nil, arith}
 use Rattle.std.specs.Prelude.{nat_le}
 use Rattle.std.specs.List.{list_all}
@@ -6,11 +7,11 @@ use Rattle.std.proofs.lemmas.Bool.{and_parts, leb-true, false_from_ne_true}
 use Rattle.program_defs.specs.declared.script.Request.{Request}
 use Rattle.weave_script.specs.ScriptLines.{request_lines, phase_line, phase_lines, due_phases, later_phases, item_lines}
 
--- at most so many requests stand before each phase
+-- at most n requests are before each phase
 abbrev pub are_at_most : ℕ → List ℕ → Bool
 are_at_most n phases = list_all (λ phase. nat_le phase n) phases
 
--- where every phase is due, none is later
+-- if every phase is due, none is later
 pub all_due : (n : ℕ) (phases : List ℕ) → are_at_most n phases ≡ true → (due_phases n phases ≡ phases) × (later_phases n phases ≡ [])
 all_due n [] h = (refl, refl)
 all_due n (phase ∷ phases) h =
@@ -31,7 +32,7 @@ later_at_most n m (phase ∷ phases) h = step (nat_le phase n) (later_at_most n 
     step true k = k
     step false k = h
 
--- one more request adds its lines, where every phase is due before it
+-- one more request adds its lines, if every phase is due before it
 pub item_lines-push_request : (n m : ℕ) (requests : List Request) (request : Request) (phases : List ℕ) → m ≡ n + length requests → are_at_most m phases ≡ true
     → item_lines n (requests ++ request ∷ []) phases ≡ item_lines n requests phases ++ request_lines request
 item_lines-push_request n m [] request phases e h =
@@ -61,7 +62,7 @@ more_phases : (phases : List ℕ) (phase : ℕ) → phase_lines (phases ++ phase
 more_phases [] phase = refl
 more_phases (first ∷ phases) phase = ap (λ lines. phase_line ∷ lines) (more_phases phases phase)
 
--- one more phase behind all requests adds its line
+-- one more phase after all requests adds its line
 pub item_lines-push_phase : (n : ℕ) (requests : List Request) (phases : List ℕ) (phase : ℕ) → phase ≡ n + length requests
     → item_lines n requests (phases ++ phase ∷ []) ≡ item_lines n requests phases ++ phase_line ∷ []
 item_lines-push_phase n [] phases phase e = more_phases phases phase

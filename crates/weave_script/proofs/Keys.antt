@@ -1,20 +1,13 @@
--- What stands at a key of a map after another was put, and where a list of requests has a name.
+-- What is at a key of a map after another was put, and the place of a name in a list of requests.
+-- Used by Indexing.
 use Rattle.std.proofs.Common.{◌≡◌, ℕ, ◌+◌, suc, Bool, true, false, cond, List, [], ◌∷◌, ◌++◌, length, Option, Some, None, Ordering, refl, sym, ap, ◌∙◌, subst, arith}
 use Rattle.std.specs.declared.cmp.Ordering.TheVariants.{Less, Equal, Greater}
 use Rattle.std.specs.List.{position_from}
-use Rattle.std.specs.Ordering.{is_eq, match_ordering, ordering_reverse}
-use Rattle.std.specs.Cmp.Lexicographic.{nat_list_cmp_total}
-use Rattle.proof_base.proofs.Lists.{none-of_both}
+use Rattle.std.specs.Ordering.{is_eq, match_ordering}
+use Rattle.weave_data.proofs.Lists.{none-of_both}
 use Rattle.weave_data.specs.Names.{name_cmp, same_name, one_name}
 use Rattle.weave_data.specs.Pairs.{at_key, put}
-
-tied : (o : Ordering) → o ≡ ordering_reverse o → is_eq o ≡ true
-tied Less e = absurd cc
-tied Equal e = refl
-tied Greater e = absurd cc
-
-pub same_itself : (name : List ℕ) → same_name name name ≡ true
-same_itself name = tied (name_cmp name name) (nat_list_cmp_total.antisymm name name)
+use Rattle.graph_ops.proofs.Vertices.{itself}
 
 pub same_both_ways : (a b : List ℕ) → same_name a b ≡ same_name b a
 same_both_ways a b = go (same_name a b) refl (same_name b a) refl
@@ -22,8 +15,8 @@ same_both_ways a b = go (same_name a b) refl (same_name b a) refl
     go : (s : Bool) → same_name a b ≡ s → (t : Bool) → same_name b a ≡ t → s ≡ t
     go true h true k = refl
     go false h false k = refl
-    go true h false k = sym (subst (λ c. same_name c a ≡ true) (one_name a b h) (same_itself a)) ∙ k
-    go false h true k = sym h ∙ subst (λ c. same_name c b ≡ true) (one_name b a k) (same_itself b)
+    go true h false k = sym (subst (λ c. same_name c a ≡ true) (one_name a b h) (itself a)) ∙ k
+    go false h true k = sym h ∙ subst (λ c. same_name c b ≡ true) (one_name b a k) (itself b)
 
 module _ {X : Type 0} where
   kept_or_new : (q_is_k q_is_e : Bool) (v : X) (old : X) (rest : Option X) → (q_is_k ≡ true → q_is_e ≡ true → ⊥)
@@ -48,7 +41,7 @@ module _ {X : Type 0} where
       apart : same_name q k ≡ true → same_name q e.0 ≡ true → ⊥
       apart a b =
           let same : k ≡ e.0 = sym (one_name q k a) ∙ one_name q e.0 b in
-          let both : is_eq Greater ≡ true = sym (ap is_eq h) ∙ subst (λ c. same_name k c ≡ true) same (same_itself k) in
+          let both : is_eq Greater ≡ true = sym (ap is_eq h) ∙ subst (λ c. same_name k c ≡ true) same (itself k) in
           absurd cc
 
   pub at_key-put : (k q : List ℕ) (v : X) (es : List (List ℕ × X)) → at_key q (put k v es) ≡ cond (same_name q k) (Some v) (at_key q es)

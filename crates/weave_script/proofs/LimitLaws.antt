@@ -1,4 +1,5 @@
--- Limits that are kept, and by what stands in front.
+-- Limits that are kept, by a script's requests and by those of each part at its front.
+-- Used by Reached, ReadAgain and SmallScripts.
 use Rattle.std.proofs.Common.{◌≡◌, ℕ, ◌≤◌, Bool, true, false, cond, List, [], ◌∷◌, ◌++◌, length, Option, Some, None, refl, sym, ap, ◌∙◌, arith}
 use Rattle.std.specs.Prelude.{nat_lt}
 use Rattle.std.specs.List.{flat_map}
@@ -8,13 +9,14 @@ use Rattle.std.proofs.lemmas.List.{length-append}
 use Rattle.std.proofs.lemmas.List.Sums.{fold-append, sum_by-append}
 use Rattle.weave_data.specs.declared.name.Name.{Name}
 use Rattle.graph_ops.specs.Mentions.{is_among, with_name}
+use Rattle.graph_ops.specs.Operations.{is_get}
 use Rattle.graph_ops.specs.declared.op.Op.{Op}
 use Rattle.program_defs.specs.declared.script.Request.{Request}
 use Rattle.program_defs.specs.declared.script.Work.TheVariants.{Change}
 use Rattle.program_defs.specs.Works.{is_look}
 use Rattle.weave_script.specs.declared.fault.Cause.{Cause}
-use Rattle.weave_script.specs.declared.reading.Opening.{Opening}
-use Rattle.weave_script.specs.Limits.{over_limit, counts_of, with_names, vertices_of, vertices_of_op, vertices_of_work, is_get, gets_of, gets_of_work, programs_of}
+use Rattle.weave_script.specs.declared.read.reading.Opening.{Opening}
+use Rattle.weave_script.specs.Limits.{over_limit, counts_of, with_names, vertices_of, vertices_of_op, vertices_of_work, gets_of, gets_of_work, programs_of}
 use Rattle.weave_script.specs.RequestLines.{request_of}
 use Rattle.weave_script.proofs.Indexing.{vertices_of-push, gets_of-push, programs_of-push}
 
@@ -29,7 +31,7 @@ passed : (b : Bool) (cause : Cause) (rest : Option Cause) {P : Type 0} → cond 
 passed true cause rest h next = absurd cc
 passed false cause rest h next = next refl h
 
--- where no limit is met
+-- if no limit is met
 pub within-few : (operations : ℕ) (requests : List Request) (steps : ℕ) → over_limit (counts_of operations requests steps) ≡ None → (operations ≤ 64) × AreFew requests × (steps ≤ 100000)
 within-few operations requests steps h =
     passed _ _ _ h (λ a h. passed _ _ _ h (λ b h. passed _ _ _ h (λ c h. passed _ _ _ h (λ d h. passed _ _ _ h (λ e h. passed _ _ _ h (λ f h.
@@ -44,7 +46,7 @@ few-within operations requests steps a h f =
     ∙ cond-false (nat_lt 10000 (length (vertices_of requests))) _ _ (le-ltb 10000 (length (vertices_of requests)) h.vertices_few)
     ∙ cond-false (nat_lt 100000 steps) _ _ (le-ltb 100000 steps f)
 
--- ---- what stands in front meets no limit either
+-- ---- a part at the front meets no limit either
 
 grown : (b : Bool) (names more : List Name) → length names ≤ length (cond b names (names ++ more))
 grown true names more = omega arith

@@ -1,4 +1,5 @@
 -- What a line leads to.
+-- Used by `after_prog`, `after_tx` and ReadAgain.
 use Rattle.std.proofs.Common.{◌≡◌, ℕ, false, List, [], ◌∷◌, ◌++◌, Option, Some, None, Ok, Err, refl, sym, ap, ◌∙◌}
 use Rattle.std.specs.Prelude.{is_some, if◌then◌else◌}
 use Rattle.weave_script.specs.declared.fault.Cause.TheVariants as causes
@@ -8,9 +9,9 @@ use Rattle.program_defs.specs.declared.program.Program.{Program}
 use Rattle.program_defs.specs.declared.script.Request.{Request}
 use Rattle.program_defs.specs.declared.script.Work.TheVariants.{Look}
 use Rattle.weave_text.specs.Lines.{Line}
-use Rattle.weave_script.specs.declared.reading.Opening.{Opening}
-use Rattle.weave_script.specs.declared.reading.Reading.{Reading}
-use Rattle.proof_base.specs.Steps.{◌>>=◌}
+use Rattle.weave_script.specs.declared.read.reading.Opening.{Opening}
+use Rattle.weave_script.specs.declared.read.reading.Reading.{Reading}
+use Rattle.weave_data.specs.Steps.{◌>>=◌}
 use Rattle.weave_script.specs.Indexed.{IsPlaces}
 use Rattle.weave_script.specs.Reading.{after_prog, unless_taken}
 use Rattle.weave_script.specs.RequestLines.{request_of, prog_of}

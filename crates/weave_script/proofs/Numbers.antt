@@ -1,4 +1,5 @@
 -- What a word is as a number of at most so much.
+-- Used by `is_number`, `number_in` and HeaderLaws.
 use Rattle.std.proofs.Common.{◌≡◌, ℕ, ◌≤◌, Bool, true, false, cond, refl, subst}
 use Rattle.std.proofs.lemmas.Bool.{leb-true}
 use Rattle.std.specs.Prelude.{nat_le}

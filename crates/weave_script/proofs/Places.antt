@@ -1,16 +1,17 @@
 -- Names of requests, and their places.
+-- Used by Clean, Reached, ReadAgain and StepLaws.
 use Rattle.std.proofs.Common.{◌≡◌, ℕ, suc, zero, ◌+◌, ◌<◌, Bool, true, false, cond, List, [], ◌∷◌, ◌++◌, length, Option, Some, None, refl, ap, ◌∙◌, subst, arith}
 use Rattle.std.specs.List.{AllByRecursion, IsDistinct, position_from}
-use Rattle.proof_base.proofs.Lists.{none-of_both}
+use Rattle.weave_data.proofs.Lists.{none-of_both}
 use Rattle.weave_data.specs.Names.{same_name, one_name}
 use Rattle.weave_data.specs.declared.name.Name.{Name}
 use Rattle.program_defs.specs.declared.script.Request.{Request}
 use Rattle.weave_script.specs.ScriptLines.{name_of_request}
 use Rattle.weave_script.specs.Scripts.{IsName, IsRequest, names_of}
 use Rattle.weave_script.specs.StepLines.{place_of}
-use Rattle.weave_script.proofs.Keys.{same_itself}
+use Rattle.graph_ops.proofs.Vertices.{itself}
 
--- the name stands at none of these requests
+-- none of these requests has the name
 abbrev pub IsFree : Name → List Request → Type 0
 IsFree name requests = AllByRecursion (λ other. same_name other name ≡ false) (names_of requests)
 
@@ -46,7 +47,7 @@ all_at : (other : Name) (before : List Request) (request : Request) (behind : Li
 all_at other [] request behind h = h.0
 all_at other (first ∷ before) request behind h = all_at other before request behind h.1
 
--- a request's name stands at none before it
+-- a request's name is the name of none before it
 pub free_before : (before : List Request) (request : Request) (behind : List Request) → IsDistinct same_name (names_of (before ++ request ∷ behind)) → IsFree request.name before
 unfolding IsDistinct
 free_before [] request behind h = tt
@@ -62,7 +63,7 @@ found_at : (k : ℕ) (requests : List Request) (j : ℕ) → IsDistinct same_nam
 unfolding IsDistinct
 found_at k [] j h small = absurd (omega arith)
 found_at k (request ∷ requests) zero h small =
-    ap (λ b. cond b (Some k) (position_from (λ (r : Request). same_name r.name request.name) (k + 1) requests)) (same_itself request.name) ∙ ap (λ n. Some n) (omega arith)
+    ap (λ b. cond b (Some k) (position_from (λ (r : Request). same_name r.name request.name) (k + 1) requests)) (itself request.name) ∙ ap (λ n. Some n) (omega arith)
 found_at k (request ∷ requests) (suc j) h small =
     ap (λ b. cond b (Some k) (position_from (λ (r : Request). same_name r.name (name_of_request requests j)) (k + 1) requests)) (all_nth request.name requests j (omega arith) h.0)
     ∙ found_at (k + 1) requests j h.1 (omega arith) ∙ ap (λ n. Some n) (omega arith)

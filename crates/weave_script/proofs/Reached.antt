@@ -1,10 +1,11 @@
--- What the lines of a text that are read lead to: a script of which these are the lines.
+-- Reading is sound: lines that are read to the end give a valid script, and are its printed lines.
+-- Used by CheckLaws, CheckReading, CheckTold, HeadTexts, ReadAgain and TextLaws.
 use Rattle.std.proofs.Common.{◌≡◌, ℕ, ◌≤◌, true, cond, List, [], ◌∷◌, ◌++◌, map, length, Option, Some, None, Ok, Err, refl, sym, ap, ◌∙◌, subst, append_assoc, arith}
 use Rattle.std.specs.Prelude.{codes, is_some}
 use Rattle.std.specs.List.{AllByRecursion, IsDistinct}
 use Rattle.std.specs.Str.{bytes_eq}
 use Rattle.std.proofs.lemmas.List.{append-nil, length_push, map-append}
-use Rattle.proof_base.proofs.Lists.{all-push}
+use Rattle.weave_data.proofs.Lists.{all-push}
 use Rattle.weave_data.specs.Names.{same_name}
 use Rattle.weave_data.specs.declared.name.Name.{Name}
 use Rattle.graph_ops.specs.declared.op.Op.{Op}
@@ -15,11 +16,11 @@ use Rattle.program_defs.specs.declared.script.Work.TheVariants.{Change, Look}
 use Rattle.weave_text.specs.Lines.{Word, Line}
 use Rattle.weave_script.specs.declared.fault.Cause.{Cause}
 use Rattle.weave_script.specs.declared.fault.Cause.TheVariants as causes
-use Rattle.weave_script.specs.declared.reading.Opening.{Opening}
-use Rattle.weave_script.specs.declared.reading.Place.{Place}
-use Rattle.weave_script.specs.declared.reading.Place.TheVariants.{Start, Between, Inside, Behind}
-use Rattle.weave_script.specs.declared.reading.Reading.{Reading}
-use Rattle.proof_base.specs.Steps.{◌>>=◌}
+use Rattle.weave_script.specs.declared.read.reading.Opening.{Opening}
+use Rattle.weave_script.specs.declared.read.reading.Place.{Place}
+use Rattle.weave_script.specs.declared.read.reading.Place.TheVariants.{Start, Between, Inside, Behind}
+use Rattle.weave_script.specs.declared.read.reading.Reading.{Reading}
+use Rattle.weave_data.specs.Steps.{◌>>=◌}
 use Rattle.weave_script.specs.Fields.{ReadOrCause}
 use Rattle.weave_script.specs.HeaderLine.{header_of}
 use Rattle.weave_script.specs.Limits.{over_limit}
@@ -30,7 +31,7 @@ use Rattle.weave_script.specs.RequestLines.{request_of, tx_of, prog_of}
 use Rattle.weave_script.specs.ScriptLines.{header_line, op_line, opening_line, end_line, request_lines, phase_line, item_lines, step_line, steps_line, script_lines}
 use Rattle.weave_script.specs.Scripts.{IsOperation, IsRequest, IsStep, RiseTo, IsScript, names_of}
 use Rattle.weave_script.specs.StepLines.{place_of, step_of}
-use Rattle.proof_base.proofs.Steps.{bind_ok, ok_is}
+use Rattle.weave_data.proofs.Steps.{bind_ok, ok_is}
 use Rattle.weave_report.proofs.ReadSteps.{is_word}
 use Rattle.weave_script.proofs.Binds.{pick}
 use Rattle.weave_script.proofs.FieldLaws.{NumberLaws}
@@ -67,7 +68,7 @@ IsGood n m requests phases Between = AreGood n m requests phases
 IsGood n m requests phases (Inside opening ops) = AreGood n m requests phases × IsOpen n requests opening ops
 IsGood n m requests phases (Behind steps) = AreGood n m requests phases × AllByRecursion (IsStep n m (length requests)) steps
 
--- the lines of what stands before the place
+-- the lines of all that is before the place
 abbrev pub front_lines : ℕ → ℕ → List Request → List ℕ → List Line
 front_lines n m requests phases = header_line n m ∷ item_lines 0 requests phases
 

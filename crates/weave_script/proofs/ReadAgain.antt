@@ -1,4 +1,5 @@
 -- The lines of a script are read as it.
+-- Used by CheckLaws, CheckTold and TextLaws.
 use Rattle.std.proofs.Common.{◌≡◌, ℕ, ◌+◌, ◌≤◌, List, [], ◌∷◌, ◌++◌, map, length, Option, Some, None, Ok, Err, refl, sym, ap, ◌∙◌, subst, append_assoc, arith}
 use Rattle.std.specs.Prelude.{codes}
 use Rattle.std.specs.Fmt.{decimal}
@@ -13,11 +14,11 @@ use Rattle.program_defs.specs.declared.script.Step.{Step}
 use Rattle.program_defs.specs.declared.script.Work.{Work}
 use Rattle.program_defs.specs.declared.script.Work.TheVariants.{Change, Look}
 use Rattle.weave_text.specs.Lines.{Line}
-use Rattle.weave_script.specs.declared.reading.Opening.{Opening}
-use Rattle.weave_script.specs.declared.reading.Place.{Place}
-use Rattle.weave_script.specs.declared.reading.Place.TheVariants.{Start, Between, Inside, Behind}
-use Rattle.weave_script.specs.declared.reading.Reading.{Reading}
-use Rattle.proof_base.specs.Steps.{◌>>=◌}
+use Rattle.weave_script.specs.declared.read.reading.Opening.{Opening}
+use Rattle.weave_script.specs.declared.read.reading.Place.{Place}
+use Rattle.weave_script.specs.declared.read.reading.Place.TheVariants.{Start, Between, Inside, Behind}
+use Rattle.weave_script.specs.declared.read.reading.Reading.{Reading}
+use Rattle.weave_data.specs.Steps.{◌>>=◌}
 use Rattle.weave_script.specs.Fields.{ReadOrCause}
 use Rattle.weave_script.specs.HeaderLine.{header_of}
 use Rattle.weave_script.specs.Limits.{over_limit}
@@ -28,7 +29,7 @@ use Rattle.weave_script.specs.RequestLines.{request_of, tx_of}
 use Rattle.weave_script.specs.ScriptLines.{header_line, op_line, opening_line, end_line, program_words, work_lines, request_lines, phase_line, phase_lines, due_phases, later_phases, item_lines, step_line, steps_line, steps_lines, script_lines}
 use Rattle.weave_script.specs.Scripts.{IsOperation, IsWork, IsRequest, IsStep, RiseTo, IsScript, names_of, steps_of}
 use Rattle.weave_script.specs.StepLines.{place_of, step_of}
-use Rattle.proof_base.proofs.Steps.{bind_at}
+use Rattle.weave_data.proofs.Steps.{bind_at}
 use Rattle.weave_script.proofs.FieldLaws.{NumberLaws}
 use Rattle.weave_script.proofs.HeaderLaws.{AreSizes, header_of-line}
 use Rattle.weave_script.proofs.LimitLaws.{AreFew, within-few, few-within, front_few, front_ops_few}
@@ -40,7 +41,7 @@ use Rattle.weave_script.proofs.Reached.{at, after_lines}
 use Rattle.weave_script.proofs.RequestLaws.{IsOpening, tx_of-words, prog_of-words}
 use Rattle.weave_script.proofs.StepLaws.{step_of-line}
 
--- a line at its place, where no limit is met behind it
+-- a line at its place, if no limit is met after it
 line_again : (reading next : Reading) (line : Line) → after_line_at reading.place reading line ≡ Ok next → over_limit (counts_so_far next) ≡ None → after_line reading line ≡ Ok next
 line_again reading next line e within = ap (λ read. read >>= within_limits) e ∙ ap (unless_met next) within
 
@@ -185,7 +186,7 @@ module _ (laws : NumberLaws) where
 
   -- ---- scripts
 
-  -- where the script ends
+  -- the place at which the script ends
   abbrev pub last_place : Option (List Step) → Place
   last_place None = Between
   last_place (Some steps) = Behind steps

@@ -1,4 +1,5 @@
--- What begins a transaction, and a program, is told by its one line.
+-- The beginning of a transaction, and a program, is read only from its one line, and that is read as it.
+-- Used by Reached and ReadAgain.
 use Rattle.std.proofs.Common.{◌≡◌, ℕ, ◌-◌, ◌≤◌, ◌<◌, ◌^◌, true, [], ◌∷◌, ◌++◌, List, Option, Some, None, Ok, refl, sym, ap, ◌∙◌, subst, arith, lit<}
 use Rattle.std.specs.Prelude.{codes}
 use Rattle.std.specs.Fmt.{decimal}
@@ -10,18 +11,18 @@ use Rattle.program_defs.specs.declared.program.Program.TheVariants.{Show, Reach,
 use Rattle.weave_text.specs.Lines.{Word, Line}
 use Rattle.weave_script.specs.declared.fault.Cause.{Cause}
 use Rattle.weave_script.specs.declared.fault.Cause.TheVariants as causes
-use Rattle.weave_script.specs.declared.reading.Opening.{Opening}
-use Rattle.proof_base.specs.Steps.{◌>>=◌}
+use Rattle.weave_script.specs.declared.read.reading.Opening.{Opening}
+use Rattle.weave_data.specs.Steps.{◌>>=◌}
 use Rattle.weave_script.specs.Fields.{ReadOrCause, or_refused, name_of, number_in}
 use Rattle.weave_script.specs.RequestLines.{opening_of, tx_of, tag_of, filter_of, bound_of, show_program, reach_program, around_program, path_program, show_of, reach_of, around_of, path_of, program_of, prog_of}
 use Rattle.weave_script.specs.ScriptLines.{filter_words, program_words}
 use Rattle.weave_script.specs.Scripts.{IsName, IsFilter, IsProgram}
-use Rattle.proof_base.proofs.Steps.{bind_ok, bind_at, ok_is}
+use Rattle.weave_data.proofs.Steps.{bind_ok, bind_at, ok_is}
 use Rattle.weave_report.proofs.ReadSteps.{is_word}
 use Rattle.weave_script.proofs.Binds.{pick}
 use Rattle.weave_script.proofs.FieldLaws.{NumberLaws, name_of-ok, name_of-name, number_in-ok, number_in-number}
 
--- the name, the session and the gatekeeper, of so many, of a request
+-- a request's name and session are valid, and its gatekeeper is below `gates`
 pub record IsOpening (gates : ℕ) (opening : Opening) : Type 0 where
   pub name : IsName opening.name
   pub session : opening.session ≤ 63
@@ -78,7 +79,7 @@ filter_of-words (Some filter) h =
     ∙ bind_at (name_of filter.value) (λ value. Ok (Some (record { key = filter.key; value = value }))) filter.value (name_of-name filter.value h.1))
 
 module _ (laws : NumberLaws) where
-  -- ---- what stands before the work
+  -- ---- what is before the work
 
   opening_of-ok : (gates : ℕ) → 1 ≤ gates → gates ≤ 8 → (name session gate : Word) (opening : Opening) → opening_of gates name session gate ≡ Ok opening
       → IsOpening gates opening × (name ∷ session ∷ gate ∷ [] ≡ opening_words opening)

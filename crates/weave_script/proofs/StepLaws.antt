@@ -1,4 +1,5 @@
--- A step that is read is told by its one line.
+-- A step is read only from its one line, and that is read as it.
+-- Used by Reached and ReadAgain.
 use Rattle.std.proofs.Common.{◌≡◌, ℕ, ◌-◌, ◌≤◌, ◌<◌, true, List, [], ◌∷◌, length, Option, Some, None, Ok, refl, sym, ap, ◌∙◌, subst, arith, lit<}
 use Rattle.std.specs.Prelude.{codes}
 use Rattle.std.specs.Fmt.{decimal}
@@ -12,12 +13,12 @@ use Rattle.program_defs.specs.declared.script.Step.TheVariants.{Begin, Judge, Se
 use Rattle.weave_text.specs.Lines.{Word, Line}
 use Rattle.weave_script.specs.declared.fault.Cause.{Cause}
 use Rattle.weave_script.specs.declared.fault.Cause.TheVariants as causes
-use Rattle.proof_base.specs.Steps.{◌>>=◌}
+use Rattle.weave_data.specs.Steps.{◌>>=◌}
 use Rattle.weave_script.specs.Fields.{or_refused, name_of, number_in}
 use Rattle.weave_script.specs.ScriptLines.{step_line, name_of_request}
 use Rattle.weave_script.specs.Scripts.{IsRequest, IsStep, IsNotice, names_of}
 use Rattle.weave_script.specs.StepLines.{place_of, named_request, gate_of, shard_of, notice_of, epoch_of, of_gate, of_shard, of_request, hear_of, nop_of, apply_of, epoch_step_of, deliver_of, step_of, step_of_one, step_of_two, step_of_three}
-use Rattle.proof_base.proofs.Steps.{bind_ok, bind_at, ok_is}
+use Rattle.weave_data.proofs.Steps.{bind_ok, bind_at, ok_is}
 use Rattle.weave_report.proofs.ReadSteps.{is_word}
 use Rattle.weave_script.proofs.Binds.{pick}
 use Rattle.weave_script.proofs.FieldLaws.{NumberLaws, name_of-ok, name_of-name, number_in-ok, number_in-number}

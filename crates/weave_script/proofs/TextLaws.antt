@@ -1,4 +1,5 @@
 -- Texts and their scripts.
+-- Used by `printed_scripts_come_back`, `texts_are_of_one_script`, `texts_are_read`, CheckLaws, CheckTold and HeadTexts.
 use Rattle.std.proofs.Common.{◌≡◌, ℕ, suc, ◌≤◌, Bool, true, false, cond, List, [], ◌∷◌, length, Ok, Err, refl, sym, ap, ◌∙◌}
 use Rattle.std.specs.Prelude.{Result, nat_lt}
 use Rattle.std.proofs.lemmas.Bool.{cond-false, le-ltb, ltb-false}
@@ -7,14 +8,14 @@ use Rattle.weave_text.specs.Cutting.{lines_of, words_of, is_skipped, kept_lines}
 use Rattle.weave_text.specs.Lines.{Bytes}
 use Rattle.weave_script.specs.declared.fault.Cause.{Cause}
 use Rattle.weave_script.specs.declared.fault.Cause.TheVariants as causes
-use Rattle.weave_script.specs.declared.reading.Reading.{Reading}
-use Rattle.proof_base.specs.Steps.{◌>>=◌}
+use Rattle.weave_script.specs.declared.read.reading.Reading.{Reading}
+use Rattle.weave_data.specs.Steps.{◌>>=◌}
 use Rattle.weave_script.specs.Fields.{ReadOrCause}
 use Rattle.weave_script.specs.ReadText.{Fault, Part, at_line, read_on, read_part, read_text, script_at}
 use Rattle.weave_script.specs.Reading.{start, after_line}
 use Rattle.weave_script.specs.ScriptLines.{script_lines, script_text, IsTextOf}
 use Rattle.weave_script.specs.Scripts.{IsScript}
-use Rattle.proof_base.proofs.Steps.{bind_ok, bind_at, ok_is}
+use Rattle.weave_data.proofs.Steps.{bind_ok, bind_at, ok_is}
 use Rattle.weave_script.proofs.FieldLaws.{NumberLaws}
 use Rattle.weave_script.proofs.Reached.{after_lines, lines_lead, script_reached}
 use Rattle.weave_script.proofs.ReadAgain.{last_reading, script_at-last, script_again}

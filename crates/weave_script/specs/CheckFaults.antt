@@ -19,9 +19,9 @@ abbrev pub begins_report : List Bytes → Bool
 begins_report [] = false
 begins_report (line ∷ lines) = is_report (words_of line)
 
--- The first fault is one of three: the script's own, at a line that begins no report where one may begin; or the text is
--- a script without a report, and the fault is at the line after its last; or it is the first one of the report after the
--- script, with lines counted from the start of the whole text.
+-- The first fault is one of three: the script's own, at a line that begins no report where one may begin; or the text
+-- is a script without a report, and the fault is at the line after its last; or it is the first one of the report after
+-- the script, with lines counted from the start of the whole text.
 pub data IsFirstCheckFault (bytes : Bytes) : Fault → Type 0 where
   InScript : (fault : Fault) (first : IsFirstScriptFault 1 start (lines_of bytes) fault)
       → (is_open first.reading.place && begins_report first.rest) ≡ false → IsFirstCheckFault bytes fault

@@ -8,7 +8,7 @@ use Rattle.weave_report.specs.Reading.{Refusal, after_lines, start}
 use Rattle.weave_text.specs.Lines.{Bytes}
 use Rattle.weave_script.specs.declared.fault.Cause.{Cause}
 use Rattle.weave_script.specs.declared.fault.Cause.TheVariants as causes
-use Rattle.proof_base.specs.Steps.{◌>>=◌}
+use Rattle.weave_data.specs.Steps.{◌>>=◌}
 use Rattle.weave_script.specs.ReadText.{Fault, head_of}
 
 -- a report's cause, as one of the whole input

@@ -1,19 +1,19 @@
--- Where the first fault of a text stands.
+-- Where the first fault of a text is.
 use Rattle.std.specs.Prelude.{◌≡◌, ◌+◌, ℕ, false, List, [], ◌∷◌, ◌++◌, length, Ok, Err}
 use Rattle.weave_text.specs.Cutting.{words_of, is_skipped}
 use Rattle.weave_text.specs.Lines.{Bytes}
 use Rattle.weave_script.specs.declared.fault.Cause.{Cause}
-use Rattle.weave_script.specs.declared.reading.Reading.{Reading}
+use Rattle.weave_script.specs.declared.read.reading.Reading.{Reading}
 use Rattle.weave_script.specs.ReadText.{Fault, read_on, script_at}
 use Rattle.weave_script.specs.Reading.{after_line}
 
--- behind this reading the first of the lines is refused for the cause; or there is none, and the script can't end there
+-- after this reading the first of the lines is refused for the cause; or there is none, and the script can't end there
 abbrev pub IsScriptRefusedAt : Reading → List Bytes → Cause → Type 0
 IsScriptRefusedAt reading [] cause = script_at reading.place reading ≡ Err cause
 IsScriptRefusedAt reading (line ∷ lines) cause =
     (is_skipped line ≡ false) × (after_line reading (words_of line) ≡ Err cause)
 
--- the fault is the first one behind this reading, where the lines are numbered from n: those before it are accepted
+-- the fault is the first one after this reading, with lines numbered from n: those before it are accepted
 pub record IsFirstScriptFault (n : ℕ) (from : Reading) (lines : List Bytes) (fault : Fault) : Type 0 where
   pub before : List Bytes
   pub rest : List Bytes

@@ -1,6 +1,6 @@
 -- Fields of lines: what a word is read as, or for which cause it is refused.
 use Rattle.std.specs.Prelude.{ℕ, Option, Some, None, Result, Ok, Err, nat_lt, if◌then◌else◌}
-use Rattle.proof_base.specs.Steps.{◌>>=◌}
+use Rattle.weave_data.specs.Steps.{◌>>=◌}
 use Rattle.weave_data.specs.Names.{is_name}
 use Rattle.weave_data.specs.declared.name.Name.{Name}
 use Rattle.weave_text.specs.Lines.{Word}
@@ -14,7 +14,7 @@ use Rattle.weave_script.specs.declared.fault.Cause.TheVariants as causes
 abbrev pub ReadOrCause : Type 0 → Type 0
 ReadOrCause A = Result A Cause
 
--- what is there, or else refused for the cause
+-- what is there, or refused for the cause
 abbrev pub or_refused : {A : Type 0} → Cause → Option A → ReadOrCause A
 or_refused cause None = Err cause
 or_refused cause (Some value) = Ok value
@@ -23,13 +23,13 @@ or_refused cause (Some value) = Ok value
 abbrev pub name_of : Word → ReadOrCause Name
 name_of word = if is_name word then Ok word else Err causes.Name
 
--- the number that was found, where the cause is for larger ones
+-- the number that was found, or this cause for a larger one
 abbrev pub found_number : Cause → Numeral → ReadOrCause ℕ
 found_number cause NoNumber = Err causes.Number
 found_number cause TooLarge = Err cause
 found_number cause (Number n) = Ok n
 
--- the number, where it is at least so much
+-- the number, if it is at least `least`
 abbrev pub at_least : ℕ → Cause → ℕ → ReadOrCause ℕ
 at_least least cause n = if nat_lt n least then Err cause else Ok n
 

@@ -4,7 +4,7 @@ use Rattle.std.specs.Str.{bytes_eq}
 use Rattle.weave_text.specs.Lines.{Word, Line}
 use Rattle.weave_text.specs.Numbers.{is_number}
 use Rattle.weave_script.specs.declared.fault.Cause.TheVariants as causes
-use Rattle.proof_base.specs.Steps.{◌>>=◌}
+use Rattle.weave_data.specs.Steps.{◌>>=◌}
 use Rattle.weave_script.specs.Fields.{ReadOrCause, number_in}
 
 -- the numbers of gatekeepers and of shards that two words are

@@ -1,4 +1,4 @@
--- What the reader keeps beside the script so far. No public contract cites this.
+-- What the reader keeps besides the script so far. No public contract cites this.
 use Rattle.std.specs.Prelude.{◌≡◌, ℕ, List, length, None, Result, Ok, Err}
 use Rattle.weave_data.specs.Pairs.{at_key, has}
 use Rattle.weave_data.specs.declared.name.Name.{Name}
@@ -6,9 +6,9 @@ use Rattle.graph_ops.specs.Mentions.{is_among}
 use Rattle.program_defs.specs.declared.script.Request.{Request}
 use Rattle.weave_script.specs.declared.fault.LineFault.{LineFault}
 use Rattle.weave_script.specs.declared.fault.LineFault.TheVariants.{Refused, Memory}
-use Rattle.weave_script.specs.declared.index.Index.{Index}
-use Rattle.weave_script.specs.declared.reader.Reader.{Reader}
-use Rattle.weave_script.specs.declared.reading.Reading.{Reading}
+use Rattle.weave_script.specs.declared.read.index.Index.{Index}
+use Rattle.weave_script.specs.declared.read.reader.Reader.{Reader}
+use Rattle.weave_script.specs.declared.read.reading.Reading.{Reading}
 use Rattle.weave_script.specs.Fields.{ReadOrCause}
 use Rattle.weave_script.specs.Limits.{over_limit, vertices_of, programs_of, gets_of}
 use Rattle.weave_script.specs.Reading.{requests_so_far, counts_so_far}
@@ -23,7 +23,7 @@ pub record IsSetOf {X : Type 0} (pairs : List (List ℕ × X)) (names : List Nam
 abbrev pub IsPlaces : List (List ℕ × ℕ) → List Request → Type 0
 IsPlaces pairs requests = (name : Name) → at_key name pairs ≡ place_of name requests
 
--- no request has the name, and the place is that of a request behind them
+-- no request has the name, and the place is that of a request after all of them
 abbrev pub IsNewRequest : Name → ℕ → List Request → Type 0
 IsNewRequest name place requests = (place_of name requests ≡ None) × (place ≡ length requests)
 

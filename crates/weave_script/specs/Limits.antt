@@ -1,10 +1,10 @@
 -- The limits on a script, and what of it they count.
-use Rattle.std.specs.Prelude.{ℕ, Bool, true, false, List, [], ◌∷◌, length, fold, sum_by, count_by, Option, Some, None, nat_lt, if◌then◌else◌}
+use Rattle.std.specs.Prelude.{ℕ, ◌<◌, ◌≤◌, List, [], ◌∷◌, length, fold, sum_by, count_by, Option, Some, None, option_to_list, nat_lt, if◌then◌else◌}
 use Rattle.std.specs.List.{flat_map}
 use Rattle.weave_data.specs.declared.name.Name.{Name}
 use Rattle.graph_ops.specs.Mentions.{with_name}
+use Rattle.graph_ops.specs.Operations.{is_get, target_of, vertex_of}
 use Rattle.graph_ops.specs.declared.op.Op.{Op}
-use Rattle.graph_ops.specs.declared.op.Op.TheVariants.{Create, Delete, Set, Unset, Link, Unlink, Tag, Untag, Get}
 use Rattle.program_defs.specs.declared.program.Program.{Program}
 use Rattle.program_defs.specs.declared.program.Program.TheVariants.{Show, Reach, Around, Path}
 use Rattle.program_defs.specs.declared.script.Request.{Request}
@@ -13,7 +13,18 @@ use Rattle.program_defs.specs.declared.script.Work.TheVariants.{Change, Look}
 use Rattle.program_defs.specs.Works.{is_look}
 use Rattle.weave_script.specs.declared.fault.Cause.{Cause}
 use Rattle.weave_script.specs.declared.fault.Cause.TheVariants as causes
-use Rattle.weave_script.specs.declared.reading.Counts.{Counts}
+use Rattle.weave_script.specs.declared.read.reading.Counts.{Counts}
+
+-- how many bytes a text may have
+abbrev pub most_bytes : ℕ
+most_bytes = 4194304
+
+-- a text that may be read, and one that is too long
+abbrev pub IsShort : List ℕ → Type 0
+IsShort bytes = length bytes ≤ most_bytes
+
+abbrev pub IsLong : List ℕ → Type 0
+IsLong bytes = most_bytes < length bytes
 
 -- the table of limits: the cause of the first one that is met
 abbrev pub over_limit : Counts → Option Cause
@@ -26,17 +37,9 @@ over_limit counts =
     else if nat_lt 100000 counts.steps then Some causes.Steps
     else None
 
--- the names that stand in an operation as vertices
+-- the names in an operation that are of vertices
 abbrev pub vertices_of_op : Op → List Name
-vertices_of_op (Create v) = v ∷ []
-vertices_of_op (Delete v) = v ∷ []
-vertices_of_op (Set v key value) = v ∷ []
-vertices_of_op (Unset v key) = v ∷ []
-vertices_of_op (Link v edge target) = v ∷ target ∷ []
-vertices_of_op (Unlink v edge) = v ∷ []
-vertices_of_op (Tag v edge key value) = v ∷ []
-vertices_of_op (Untag v edge key) = v ∷ []
-vertices_of_op (Get v) = v ∷ []
+vertices_of_op op = vertex_of op ∷ option_to_list (target_of op)
 
 -- and in a program
 abbrev pub vertices_of_program : Program → List Name
@@ -58,11 +61,6 @@ with_names so_far names = fold (λ so_far name. with_name name so_far) so_far na
 abbrev pub vertices_of : List Request → List Name
 vertices_of requests = with_names [] (flat_map (λ request. vertices_of_work request.work) requests)
 
--- the operation is a `get`
-abbrev pub is_get : Op → Bool
-is_get (Get v) = true
-is_get _ = false
-
 -- how many operations of a transaction are `get`
 abbrev pub gets_of_work : Work → ℕ
 gets_of_work (Change ops) = count_by is_get ops
@@ -76,7 +74,7 @@ gets_of requests = sum_by (λ request. gets_of_work request.work) requests
 abbrev pub programs_of : List Request → ℕ
 programs_of requests = count_by (λ request. is_look request.work) requests
 
--- the counts of so many operations of an open transaction, of requests, and of so many steps
+-- the counts of a script, by the numbers of an open transaction's operations and of steps, and by the requests
 abbrev pub counts_of : ℕ → List Request → ℕ → Counts
 counts_of operations requests steps = record {
   operations = operations;

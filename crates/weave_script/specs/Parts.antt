@@ -6,12 +6,12 @@ use Rattle.weave_script.specs.declared.fault.LineFault.{LineFault}
 use Rattle.weave_script.specs.declared.fault.LineFault.TheVariants as line_fault
 use Rattle.weave_script.specs.declared.fault.ScriptFault.{ScriptFault}
 use Rattle.weave_script.specs.declared.fault.ScriptFault.TheVariants.{Refused, Memory}
-use Rattle.weave_script.specs.declared.head.Head.{Head}
-use Rattle.weave_script.specs.declared.part.Part.{Part}
-use Rattle.weave_script.specs.declared.part.Taken.{Taken}
-use Rattle.weave_script.specs.declared.part.Taken.TheVariants as taken
-use Rattle.weave_script.specs.declared.reader.Reader.{Reader}
-use Rattle.weave_script.specs.declared.reading.Reading.{Reading}
+use Rattle.weave_script.specs.declared.read.head.Head.{Head}
+use Rattle.weave_script.specs.declared.read.part.Part.{Part}
+use Rattle.weave_script.specs.declared.read.part.Taken.{Taken}
+use Rattle.weave_script.specs.declared.read.part.Taken.TheVariants as taken
+use Rattle.weave_script.specs.declared.read.reader.Reader.{Reader}
+use Rattle.weave_script.specs.declared.read.reading.Reading.{Reading}
 use Rattle.weave_script.specs.Indexed.{IsReaderReady}
 use Rattle.weave_script.specs.ReadText.{Fault, is_open, is_report}
 use Rattle.weave_script.specs.ReadText as text
@@ -24,11 +24,11 @@ GivesPart (Ok part) read =
 GivesPart (Err (Refused line cause)) read = read ≡ Err (record { line = line; cause = cause })
 GivesPart (Err Memory) read = Unit {0}
 
--- the line of these words is the first one of a report that may stand there
+-- the line of these words is the first one of a report that may begin there
 abbrev pub ends_before : Bool → Reading → Line → Bool
 ends_before report reading line = report && is_open reading.place && is_report line
 
--- what a line of these words is taken as, where it isn't skipped, and the reader after it, unless memory runs out
+-- what a line of these words that isn't skipped is taken as, and the reader after it, unless memory runs out
 abbrev pub TakesLine : Bool → Reading → Line → Reader → Result Taken LineFault → Type 0
 TakesLine report reading line reader (Ok taken.Line) =
     IsReaderReady reader × (ends_before report reading line ≡ false) × (after_line reading line ≡ Ok reader.reading)

@@ -7,12 +7,13 @@ use Rattle.weave_text.specs.Cutting.{lines_of, words_of, is_skipped}
 use Rattle.weave_text.specs.Lines.{Bytes, Line}
 use Rattle.weave_script.specs.declared.fault.Cause.{Cause}
 use Rattle.weave_script.specs.declared.fault.Cause.TheVariants as causes
-use Rattle.weave_script.specs.declared.reading.Place.{Place}
-use Rattle.weave_script.specs.declared.reading.Place.TheVariants.{Start, Between, Inside, Behind}
-use Rattle.weave_script.specs.declared.reading.Reading.{Reading}
-use Rattle.proof_base.specs.Steps.{◌>>=◌}
+use Rattle.weave_script.specs.declared.read.reading.Place.{Place}
+use Rattle.weave_script.specs.declared.read.reading.Place.TheVariants.{Start, Between, Inside, Behind}
+use Rattle.weave_script.specs.declared.read.reading.Reading.{Reading}
+use Rattle.weave_data.specs.Steps.{◌>>=◌}
 use Rattle.weave_script.specs.Fields.{ReadOrCause}
 use Rattle.weave_script.specs.Reading.{start, after_line}
+use Rattle.weave_script.specs.Limits.{most_bytes}
 
 -- a line, by its number from 1, or 0 for the whole text, and what is wrong with it
 pub record Fault : Type 0 where
@@ -25,7 +26,7 @@ pub record Part : Type 0 where
   pub line : ℕ
   pub left : List Bytes
 
--- what is told of line n
+-- what is reported of line n
 abbrev pub at_line : {A : Type 0} → ℕ → ReadOrCause A → Result A Fault
 at_line n (Ok value) = Ok value
 at_line n (Err cause) = Err (record { line = n; cause = cause })
@@ -35,14 +36,14 @@ abbrev pub is_report : Line → Bool
 is_report [] = false
 is_report (word ∷ words) = bytes_eq word (codes "report")
 
--- a request or a step may stand there
+-- a request or a step may come next
 abbrev pub is_open : Place → Bool
 is_open Start = false
 is_open Between = true
 is_open (Inside opening ops) = false
 is_open (Behind steps) = true
 
--- The lines from line n on; skipped ones count. Where a report is to follow, the script ends before its first line.
+-- The lines from line n on; skipped ones count. If a report is to follow, the script ends before its first line.
 abbrev pub read_on : Bool → ℕ → Reading → List Bytes → Result Part Fault
 read_on report n reading [] = Ok (record { reading = reading; line = n; left = [] })
 read_on report n reading (line ∷ lines) =
@@ -71,7 +72,7 @@ script_at (Behind steps) reading = Ok (script_with (Some steps) reading)
 -- how far a text of at most 4,194,304 bytes is read
 abbrev pub read_part : Bool → Bytes → Result Part Fault
 read_part report bytes =
-    if nat_lt 4194304 (length bytes) then Err (record { line = 0; cause = causes.TooLong })
+    if nat_lt most_bytes (length bytes) then Err (record { line = 0; cause = causes.TooLong })
     else read_on report 1 start (lines_of bytes)
 
 -- the script of a text
@@ -84,7 +85,7 @@ pub record Head : Type 0 where
   pub line : ℕ
   pub left : List Bytes
 
--- the script, where lines are left
+-- the script, if lines are left
 abbrev pub head_before : ℕ → Script → List Bytes → Result Head Fault
 head_before n script [] = Err (record { line = n; cause = causes.End })
 head_before n script (line ∷ lines) = Ok (record { script = script; line = n; left = line ∷ lines })

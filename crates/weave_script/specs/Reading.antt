@@ -9,12 +9,12 @@ use Rattle.weave_data.specs.declared.name.Name.{Name}
 use Rattle.weave_text.specs.Lines.{Line}
 use Rattle.weave_script.specs.declared.fault.Cause.{Cause}
 use Rattle.weave_script.specs.declared.fault.Cause.TheVariants as causes
-use Rattle.weave_script.specs.declared.reading.Counts.{Counts}
-use Rattle.weave_script.specs.declared.reading.Opening.{Opening}
-use Rattle.weave_script.specs.declared.reading.Place.{Place}
-use Rattle.weave_script.specs.declared.reading.Place.TheVariants.{Start, Between, Inside, Behind}
-use Rattle.weave_script.specs.declared.reading.Reading.{Reading}
-use Rattle.proof_base.specs.Steps.{◌>>=◌}
+use Rattle.weave_script.specs.declared.read.reading.Counts.{Counts}
+use Rattle.weave_script.specs.declared.read.reading.Opening.{Opening}
+use Rattle.weave_script.specs.declared.read.reading.Place.{Place}
+use Rattle.weave_script.specs.declared.read.reading.Place.TheVariants.{Start, Between, Inside, Behind}
+use Rattle.weave_script.specs.declared.read.reading.Reading.{Reading}
+use Rattle.weave_data.specs.Steps.{◌>>=◌}
 use Rattle.weave_script.specs.Fields.{ReadOrCause}
 use Rattle.weave_script.specs.HeaderLine.{header_of}
 use Rattle.weave_script.specs.Limits.{over_limit, counts_of}
@@ -53,11 +53,11 @@ counts_so_far reading =
     counts_of (length (operations_so_far reading.place)) (requests_so_far reading.place reading.requests)
     (length (steps_so_far reading.place))
 
--- refused where the name stands at a request
+-- refused if a request has the name
 abbrev pub unless_taken : {A : Type 0} → Name → List Request → A → ReadOrCause A
 unless_taken name requests value = if is_some (place_of name requests) then Err causes.Taken else Ok value
 
--- after a line `tx`, by the words behind it
+-- after a line `tx`, by the words after `tx`
 abbrev pub after_tx : Reading → Line → ReadOrCause Reading
 after_tx reading words =
     tx_of reading.gates words >>= λ opening.
@@ -70,7 +70,7 @@ after_prog reading words =
     unless_taken prog.0.name reading.requests
     (record reading { requests = reading.requests ++ request_of prog.0 (Look prog.1) ∷ [] })
 
--- after a line `phase`: as many requests as so far stand before it
+-- after a line `phase`: the requests so far are before it
 abbrev pub after_phase : Reading → Line → ReadOrCause Reading
 after_phase reading [] = Ok (record reading { phases = reading.phases ++ length reading.requests ∷ [] })
 after_phase reading (word ∷ words) = Err causes.Line
@@ -105,7 +105,7 @@ after_line_inside reading opening ops line =
     })
     else (op_of line >>= λ op. Ok (record reading { place = Inside opening (ops ++ op ∷ []) }))
 
--- after a line behind `steps`
+-- after a line that follows `steps`
 abbrev pub after_step : Reading → List Step → Line → ReadOrCause Reading
 after_step reading steps line =
     step_of reading.gates reading.shards (λ name. place_of name reading.requests) line >>= λ step.
@@ -118,12 +118,12 @@ after_line_at Between reading line = after_item reading line
 after_line_at (Inside opening ops) reading line = after_line_inside reading opening ops line
 after_line_at (Behind steps) reading line = after_step reading steps line
 
--- refused where there is a cause
+-- refused if there is a cause
 abbrev pub unless_met : {A : Type 0} → A → Option Cause → ReadOrCause A
 unless_met value None = Ok value
 unless_met value (Some cause) = Err cause
 
--- refused where a limit is met
+-- refused if a limit is met
 abbrev pub within_limits : Reading → ReadOrCause Reading
 within_limits reading = unless_met reading (over_limit (counts_so_far reading))
 

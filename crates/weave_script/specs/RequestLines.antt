@@ -9,11 +9,11 @@ use Rattle.program_defs.specs.declared.script.Request.{Request}
 use Rattle.program_defs.specs.declared.script.Work.{Work}
 use Rattle.weave_text.specs.Lines.{Word, Line}
 use Rattle.weave_script.specs.declared.fault.Cause.TheVariants as causes
-use Rattle.weave_script.specs.declared.reading.Opening.{Opening}
-use Rattle.proof_base.specs.Steps.{◌>>=◌}
+use Rattle.weave_script.specs.declared.read.reading.Opening.{Opening}
+use Rattle.weave_data.specs.Steps.{◌>>=◌}
 use Rattle.weave_script.specs.Fields.{ReadOrCause, or_refused, name_of, number_in}
 
--- the name, the session and the gatekeeper, of so many, of a request
+-- the name, the session and the gatekeeper, below `gates`, of a request
 abbrev pub opening_of : ℕ → Word → Word → Word → ReadOrCause Opening
 opening_of gates name session gate =
     name_of name >>= λ name.
@@ -30,7 +30,7 @@ abbrev pub tx_of : ℕ → Line → ReadOrCause Opening
 tx_of gates (name ∷ session ∷ gate ∷ []) = opening_of gates name session gate
 tx_of gates _ = Err causes.Line
 
--- A form is None where the words haven't it; else it is what their fields are read as.
+-- `None` if the words don't have the form; otherwise the result of reading their fields.
 abbrev pub Form : Type 0 → Type 0
 Form A = Option (ReadOrCause A)
 
@@ -38,7 +38,7 @@ Form A = Option (ReadOrCause A)
 abbrev pub tag_of : Word → Word → ReadOrCause (Option Filter)
 tag_of key value = name_of key >>= λ key. name_of value >>= λ value. Ok (Some (record { key = key; value = value }))
 
--- no filter, or behind `where` a key and a value
+-- no filter, or a key and a value after `where`
 abbrev pub filter_of : Line → Form (Option Filter)
 filter_of [] = Some (Ok None)
 filter_of (word ∷ key ∷ value ∷ []) =
@@ -65,22 +65,22 @@ path_program from to bound filter =
     name_of from >>= λ from. name_of to >>= λ to. bound_of bound >>= λ bound. filter >>= λ pass.
     Ok (Path from to bound pass)
 
--- behind `show`
+-- the words after `show`
 abbrev pub show_of : Line → Form Program
 show_of (v ∷ []) = Some (show_program v)
 show_of _ = None
 
--- behind `reach`
+-- the words after `reach`
 abbrev pub reach_of : Line → Form Program
 reach_of (from ∷ to ∷ words) = option_map (reach_program from to) (filter_of words)
 reach_of _ = None
 
--- behind `around`
+-- the words after `around`
 abbrev pub around_of : Line → Form Program
 around_of (from ∷ bound ∷ words) = option_map (around_program from bound) (filter_of words)
 around_of _ = None
 
--- behind `path`
+-- the words after `path`
 abbrev pub path_of : Line → Form Program
 path_of (from ∷ to ∷ bound ∷ words) = option_map (path_program from to bound) (filter_of words)
 path_of _ = None

@@ -6,8 +6,8 @@ use Rattle.std.specs.Option.{option_map_or}
 use Rattle.weave_text.specs.Cutting.{lines_of, kept_lines}
 use Rattle.weave_text.specs.Lines.{Bytes, Word, Line, lines_text}
 use Rattle.weave_data.specs.declared.name.Name.{Name}
+use Rattle.graph_ops.specs.Operations.{op_fields, op_word}
 use Rattle.graph_ops.specs.declared.op.Op.{Op}
-use Rattle.graph_ops.specs.declared.op.Op.TheVariants.{Create, Delete, Set, Unset, Link, Unlink, Tag, Untag, Get}
 use Rattle.program_defs.specs.declared.program.Filter.{Filter}
 use Rattle.program_defs.specs.declared.program.Program.{Program}
 use Rattle.program_defs.specs.declared.program.Program.TheVariants.{Show, Reach, Around, Path}
@@ -25,15 +25,7 @@ header_line gates shards = codes "weaver" ∷ codes "1" ∷ decimal gates ∷ de
 
 -- an operation's line: its word, and its fields in their order
 abbrev pub op_line : Op → Line
-op_line (Create v) = codes "create" ∷ v ∷ []
-op_line (Delete v) = codes "delete" ∷ v ∷ []
-op_line (Set v key value) = codes "set" ∷ v ∷ key ∷ value ∷ []
-op_line (Unset v key) = codes "unset" ∷ v ∷ key ∷ []
-op_line (Link v edge target) = codes "link" ∷ v ∷ edge ∷ target ∷ []
-op_line (Unlink v edge) = codes "unlink" ∷ v ∷ edge ∷ []
-op_line (Tag v edge key value) = codes "tag" ∷ v ∷ edge ∷ key ∷ value ∷ []
-op_line (Untag v edge key) = codes "untag" ∷ v ∷ edge ∷ key ∷ []
-op_line (Get v) = codes "get" ∷ v ∷ []
+op_line op = op_word op ∷ op_fields op
 
 -- the line that begins a transaction, with its name, session and gatekeeper
 abbrev pub opening_line : Name → ℕ → ℕ → Line
@@ -43,7 +35,7 @@ opening_line name session gate = codes "tx" ∷ name ∷ decimal session ∷ dec
 abbrev pub end_line : Line
 end_line = codes "end" ∷ []
 
--- the words of a filter, where a program has one
+-- the words of a filter, if a program has one
 abbrev pub filter_words : Option Filter → List Word
 filter_words None = []
 filter_words (Some filter) = codes "where" ∷ filter.key ∷ filter.value ∷ []
@@ -76,17 +68,17 @@ phase_line = codes "phase" ∷ []
 abbrev pub phase_lines : List ℕ → List Line
 phase_lines phases = map (λ _. phase_line) phases
 
--- the first phases, as far as at most so many requests stand before each
+-- the first phases, as far as each has at most n requests before it
 abbrev pub due_phases : ℕ → List ℕ → List ℕ
 due_phases n [] = []
 due_phases n (phase ∷ phases) = if nat_le phase n then phase ∷ due_phases n phases else []
 
--- the phases behind these
+-- the phases after these
 abbrev pub later_phases : ℕ → List ℕ → List ℕ
 later_phases n [] = []
 later_phases n (phase ∷ phases) = if nat_le phase n then later_phases n phases else phase ∷ phases
 
--- the lines of requests before which so many stand, with the phases between and behind them
+-- the lines of the requests after the first n, with the phases before, between and after them
 abbrev pub item_lines : ℕ → List Request → List ℕ → List Line
 item_lines n [] phases = phase_lines phases
 item_lines n (request ∷ requests) phases =
@@ -111,11 +103,11 @@ step_line requests (Reply request) = codes "reply" ∷ name_of_request requests 
 step_line requests (Collect shard) = codes "collect" ∷ decimal shard ∷ []
 step_line requests (Epoch gate epoch) = codes "epoch" ∷ decimal gate ∷ decimal epoch ∷ []
 
--- the line behind which the steps stand
+-- the line that the steps follow
 abbrev pub steps_line : Line
 steps_line = codes "steps" ∷ []
 
--- the lines of the steps, where the script has them
+-- the lines of the steps, if the script has them
 abbrev pub steps_lines : List Request → Option (List Step) → List Line
 steps_lines requests None = []
 steps_lines requests (Some steps) = steps_line ∷ map (step_line requests) steps

@@ -2,8 +2,8 @@
 use Rattle.std.specs.Prelude.{◌≡◌, ◌≤◌, ◌<◌, ℕ, List, [], ◌∷◌, length, Option, Some, None}
 use Rattle.std.specs.List.{AllByRecursion, IsDistinct}
 use Rattle.weave_data.specs.Names.{same_name}
+use Rattle.graph_ops.specs.Operations.{op_fields}
 use Rattle.graph_ops.specs.declared.op.Op.{Op}
-use Rattle.graph_ops.specs.declared.op.Op.TheVariants.{Create, Delete, Set, Unset, Link, Unlink, Tag, Untag, Get}
 use Rattle.program_defs.specs.declared.program.Filter.{Filter}
 use Rattle.program_defs.specs.declared.program.Program.{Program}
 use Rattle.program_defs.specs.declared.program.Program.TheVariants.{Show, Reach, Around, Path}
@@ -18,17 +18,9 @@ use Rattle.weave_script.specs.Limits.{over_limit, counts_of}
 
 -- every field is a name
 abbrev pub IsOperation : Op → Type 0
-IsOperation (Create v) = IsName v
-IsOperation (Delete v) = IsName v
-IsOperation (Set v key value) = IsName v × IsName key × IsName value
-IsOperation (Unset v key) = IsName v × IsName key
-IsOperation (Link v edge target) = IsName v × IsName edge × IsName target
-IsOperation (Unlink v edge) = IsName v × IsName edge
-IsOperation (Tag v edge key value) = IsName v × IsName edge × IsName key × IsName value
-IsOperation (Untag v edge key) = IsName v × IsName edge × IsName key
-IsOperation (Get v) = IsName v
+IsOperation op = AllByRecursion IsName (op_fields op)
 
--- names, where there is a filter
+-- names, if there is a filter
 abbrev pub IsFilter : Option Filter → Type 0
 IsFilter None = Unit {0}
 IsFilter (Some filter) = IsName filter.key × IsName filter.value
@@ -45,7 +37,7 @@ abbrev pub IsWork : Work → Type 0
 IsWork (Change ops) = AllByRecursion IsOperation ops × (length ops ≤ 64)
 IsWork (Look program) = IsProgram program
 
--- a request of a session 0 to 63 at one of so many gatekeepers
+-- a request of a session 0 to 63 at one of `gates` gatekeepers
 pub record IsRequest (gates : ℕ) (request : Request) : Type 0 where
   pub name : IsName request.name
   pub session : request.session ≤ 63
@@ -56,7 +48,7 @@ pub record IsRequest (gates : ℕ) (request : Request) : Type 0 where
 abbrev pub IsNotice : ℕ → Type 0
 IsNotice n = (1 ≤ n) × (n ≤ 100000)
 
--- a step in a script of so many gatekeepers, shards and requests
+-- a step in a script with these numbers of gatekeepers, shards and requests
 abbrev pub IsStep : ℕ → ℕ → ℕ → Step → Type 0
 IsStep gates shards requests (Begin request) = request < requests
 IsStep gates shards requests (Judge gate) = gate < gates
@@ -71,7 +63,7 @@ IsStep gates shards requests (Reply request) = request < requests
 IsStep gates shards requests (Collect shard) = shard < shards
 IsStep gates shards requests (Epoch gate epoch) = (gate < gates) × (1 ≤ epoch) × (epoch ≤ 1000000)
 
--- each number is at least the one before it, and so many at most
+-- each number is at least the one before it, the first is at least `low`, and all are at most `high`
 abbrev pub RiseTo : ℕ → ℕ → List ℕ → Type 0
 RiseTo low high [] = Unit {0}
 RiseTo low high (n ∷ ns) = (low ≤ n) × (n ≤ high) × RiseTo n high ns
@@ -81,8 +73,8 @@ abbrev pub steps_of : Option (List Step) → List Step
 steps_of None = []
 steps_of (Some steps) = steps
 
--- Everything is in its range, no two requests have one name, phases stand before, between and behind requests in their
--- order, and no limit is met.
+-- Everything is in its range, no two requests have the same name, phases are before, between and after requests in
+-- their order, and no limit is met.
 pub record IsScript (script : Script) : Type 0 where
   pub gates : (1 ≤ script.gates) × (script.gates ≤ 8)
   pub shards : (1 ≤ script.shards) × (script.shards ≤ 16)

@@ -1,4 +1,4 @@
--- The lines of steps, in a script of so many gatekeepers and shards whose requests have these places.
+-- The lines of steps, in a script with these numbers of gatekeepers and shards whose requests have these places.
 use Rattle.std.specs.Prelude.{ℕ, ◌-◌, List, [], ◌∷◌, Option, Ok, Err, codes, if◌then◌else◌}
 use Rattle.std.specs.List.{position_from}
 use Rattle.std.specs.Str.{bytes_eq}
@@ -9,14 +9,14 @@ use Rattle.program_defs.specs.declared.script.Step.{Step}
 use Rattle.program_defs.specs.declared.script.Step.TheVariants.{Begin, Judge, Send, Say, Hear, Nop, Deliver, Apply, Visit, Reply, Collect, Epoch}
 use Rattle.weave_text.specs.Lines.{Word, Line}
 use Rattle.weave_script.specs.declared.fault.Cause.TheVariants as causes
-use Rattle.proof_base.specs.Steps.{◌>>=◌}
+use Rattle.weave_data.specs.Steps.{◌>>=◌}
 use Rattle.weave_script.specs.Fields.{ReadOrCause, or_refused, name_of, number_in}
 
 -- the place, from 0, of the request of a name
 abbrev pub place_of : Name → List Request → Option ℕ
 place_of name requests = position_from (λ request. same_name request.name name) 0 requests
 
--- the place of the request that a word names, where names have these places
+-- the place of the request that a word names, by the places of names
 abbrev pub named_request : (Name → Option ℕ) → Word → ReadOrCause ℕ
 named_request places word = name_of word >>= λ name. or_refused causes.Request (places name)
 

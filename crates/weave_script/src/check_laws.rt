@@ -12,6 +12,7 @@ ghost use Rattle.weave_script.specs.CheckText.{IsCheckTextOf};
 ghost use Rattle.weave_script.specs.ReadText.{Fault};
 ghost use Rattle.weave_script.specs.ScriptLines.{IsTextOf, script_text};
 ghost use Rattle.weave_script.specs.Scripts.{IsScript};
+ghost use Rattle.weave_script.specs.Limits.{IsLong, IsShort};
 
 use crate::fault::Cause;
 use weave_report::{
@@ -27,10 +28,10 @@ pub fn checks_are_read()
     ensures read { (bytes : Bytes) (script : Script) (report : Report)
         → check_text bytes ≡ Ok (script, report) → IsCheckTextOf bytes script report }
     ensures short { (bytes : Bytes) (script : Script) (report : Report)
-        → check_text bytes ≡ Ok (script, report) → length bytes ≤ 4194304 }
-    ensures every_text { (bytes : Bytes) (script : Script) (report : Report) → length bytes ≤ 4194304
+        → check_text bytes ≡ Ok (script, report) → IsShort bytes }
+    ensures every_text { (bytes : Bytes) (script : Script) (report : Report) → IsShort bytes
         → IsCheckTextOf bytes script report → check_text bytes ≡ Ok (script, report) }
-    ensures refused { (bytes : Bytes) (fault : Fault) (script : Script) (report : Report) → length bytes ≤ 4194304
+    ensures refused { (bytes : Bytes) (fault : Fault) (script : Script) (report : Report) → IsShort bytes
         → check_text bytes ≡ Err fault → ¬ IsCheckTextOf bytes script report }
 {
     numbers_come_back();
@@ -52,7 +53,7 @@ pub fn printed_checks_come_back()
     ensures text { (script : Script) (report : Report) → IsScript script → IsReportOf script report
         → IsTypedReport report → IsCheckTextOf (script_text script ++ report_text script report) script report }
     ensures read { (script : Script) (report : Report) → IsScript script → IsReportOf script report
-        → IsTypedReport report → length (script_text script ++ report_text script report) ≤ 4194304
+        → IsTypedReport report → IsShort (script_text script ++ report_text script report)
         → check_text (script_text script ++ report_text script report) ≡ Ok (script, report) }
 {
     checks_are_read();
@@ -73,11 +74,11 @@ pub fn report_texts_follow_script_texts()
 /// lines are counted from the first one of all. It is reported whenever there is one. A text that is too long is
 /// refused as a whole.
 pub fn check_faults_are_first()
-    ensures first { (bytes : Bytes) (fault : Fault) → length bytes ≤ 4194304
+    ensures first { (bytes : Bytes) (fault : Fault) → IsShort bytes
         → check_text bytes ≡ Err fault → IsFirstCheckFault bytes fault }
-    ensures told { (bytes : Bytes) (fault : Fault) → length bytes ≤ 4194304
+    ensures told { (bytes : Bytes) (fault : Fault) → IsShort bytes
         → IsFirstCheckFault bytes fault → check_text bytes ≡ Err fault }
-    ensures too_long { (bytes : Bytes) → 4194304 < length bytes
+    ensures too_long { (bytes : Bytes) → IsLong bytes
         → check_text bytes ≡ Err (record { line = 0; cause = Cause.TooLong }) }
 {
     numbers_come_back();

@@ -5,7 +5,7 @@ use std::alloc::{AllocError, AllocFailed};
 /// What is wrong with a line. Causes are checked in this order; fields are checked from left to right.
 #[derive(Clone, Copy, PartialEq, Eq, Debug)]
 pub enum Cause {
-    /// The input has more than 4,194,304 bytes. The line told is 0.
+    /// The input has more than 4,194,304 bytes. The line reported is 0.
     TooLong,
     /// The first line that isn't skipped is no header, or there is no such line.
     Header,
@@ -13,11 +13,11 @@ pub enum Cause {
     Gatekeepers,
     /// The number of shards is not 1 to 16.
     Shards,
-    /// The line has none of the forms that may stand there.
+    /// The line has none of the forms that are allowed there.
     Line,
     /// A field that is to be a name is none.
     Name,
-    /// A field that is to be a number is none, or is outside its range where no other cause is for it.
+    /// A field that is to be a number is none, or is outside its range and no other cause is for that.
     Number,
     /// A session's number is not below 64.
     Session,
@@ -27,7 +27,7 @@ pub enum Cause {
     Shard,
     /// A bound is over 1,000.
     Bound,
-    /// The request's name stands at an earlier request.
+    /// An earlier request has the request's name.
     Taken,
     /// The line names no request of the script, or one of the other kind.
     Request,
@@ -39,13 +39,13 @@ pub enum Cause {
     Programs,
     /// It is the 1,001st `get`.
     Gets,
-    /// With the line more than 10,000 different names of vertices stand in operations and programs.
+    /// With the line there are more than 10,000 different names of vertices in operations and programs.
     Vertices,
     /// It is the 100,001st step.
     Steps,
-    /// In a report, a stamp has not its form.
+    /// In a report, a stamp doesn't have its form.
     Stamp,
-    /// The text ends inside a transaction, or before a report's end. The line told is one more than the last.
+    /// The text ends inside a transaction, or before a report's end. The line reported is one more than the last.
     End,
 }
 

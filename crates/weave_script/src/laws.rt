@@ -12,6 +12,7 @@ ghost use Rattle.weave_script.specs.ReadText.{Fault, Head, head_of, read_text};
 ghost use Rattle.weave_script.specs.Reading.{start};
 ghost use Rattle.weave_script.specs.ScriptLines.{IsTextOf, script_text};
 ghost use Rattle.weave_script.specs.Scripts.{IsScript};
+ghost use Rattle.weave_script.specs.Limits.{IsLong, IsShort};
 
 use crate::fault::Cause;
 use weave_text::{clean_lines_come_back, numbers_come_back, words_are_clean};
@@ -20,10 +21,10 @@ use weave_text::{clean_lines_come_back, numbers_come_back, words_are_clean};
 /// What is refused and isn't too long is a text of no script.
 pub fn texts_are_read()
     ensures read { (bytes : Bytes) (script : Script) → read_text bytes ≡ Ok script → IsTextOf bytes script }
-    ensures short { (bytes : Bytes) (script : Script) → read_text bytes ≡ Ok script → length bytes ≤ 4194304 }
-    ensures every_text { (bytes : Bytes) (script : Script) → length bytes ≤ 4194304
+    ensures short { (bytes : Bytes) (script : Script) → read_text bytes ≡ Ok script → IsShort bytes }
+    ensures every_text { (bytes : Bytes) (script : Script) → IsShort bytes
         → IsTextOf bytes script → read_text bytes ≡ Ok script }
-    ensures refused { (bytes : Bytes) (fault : Fault) (script : Script) → length bytes ≤ 4194304
+    ensures refused { (bytes : Bytes) (fault : Fault) (script : Script) → IsShort bytes
         → read_text bytes ≡ Err fault → ¬ IsTextOf bytes script }
 {
     numbers_come_back();
@@ -33,11 +34,11 @@ pub fn texts_are_read()
 /// after them it is refused for that cause. It is reported whenever there is one. A text that is too long is refused
 /// as a whole.
 pub fn faults_are_first()
-    ensures first { (bytes : Bytes) (fault : Fault) → length bytes ≤ 4194304
+    ensures first { (bytes : Bytes) (fault : Fault) → IsShort bytes
         → read_text bytes ≡ Err fault → IsFirstScriptFault 1 start (lines_of bytes) fault }
-    ensures reported { (bytes : Bytes) (fault : Fault) → length bytes ≤ 4194304
+    ensures reported { (bytes : Bytes) (fault : Fault) → IsShort bytes
         → IsFirstScriptFault 1 start (lines_of bytes) fault → read_text bytes ≡ Err fault }
-    ensures too_long { (bytes : Bytes) → 4194304 < length bytes
+    ensures too_long { (bytes : Bytes) → IsLong bytes
         → read_text bytes ≡ Err (record { line = 0; cause = Cause.TooLong }) }
 {}
 
@@ -53,7 +54,7 @@ pub fn texts_are_of_one_script()
 pub fn printed_scripts_come_back()
     ensures text { (script : Script) → IsScript script → IsTextOf (script_text script) script }
     ensures read { (script : Script) → IsScript script
-        → length (script_text script) ≤ 4194304 → read_text (script_text script) ≡ Ok script }
+        → IsShort (script_text script) → read_text (script_text script) ≡ Ok script }
 {
     clean_lines_come_back();
     words_are_clean();

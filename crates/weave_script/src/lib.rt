@@ -4,33 +4,19 @@
 //! text, or the first line that can't be accepted and the first cause that holds in it. `print_script` writes a
 //! script's one printed text. The laws in `laws.rt` tie the two: what is read is a text of that script, every text
 //! of a script that isn't too long is read as it, no text is of two scripts, a printed script comes back, and the
-//! fault that is told is the first.
+//! fault that is reported is the first.
 //!
-//! `read_check` gives what `check_text` in `specs/CheckText.antt` says of the bytes: a script and the report behind
+//! `read_check` gives what `check_text` in `specs/CheckText.antt` says of the bytes: a script and the report after
 //! it, or the first fault of both. `check_laws.rt` has the same laws of these texts.
 #![tactic(auto)]
 
 mod check;
 mod check_laws;
-#[cfg(test)]
-mod check_tests;
 mod fault;
-mod fields;
-mod head;
-mod header;
-mod index;
 mod laws;
 mod limits;
-mod ops;
-mod part;
 mod print;
-#[cfg(test)]
-mod print_tests;
 mod read;
-mod reader;
-mod reading;
-mod requests;
-mod steps;
 
 pub use check::read_check;
 pub use check_laws::{
@@ -47,6 +33,3 @@ pub use limits::{
 };
 pub use print::print_script;
 pub use read::read_script;
-
-#[cfg(test)]
-mod tests;

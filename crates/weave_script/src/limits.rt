@@ -3,7 +3,7 @@ ghost use Rattle.std.specs.Prelude.{◌≡◌};
 ghost use Rattle.weave_script.specs.Limits.{over_limit};
 
 use crate::fault::Cause;
-use crate::reading::Counts;
+use crate::read::reading::Counts;
 
 /// The most bytes of an input.
 pub const MOST_BYTES: usize = 4_194_304;

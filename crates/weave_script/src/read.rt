@@ -4,11 +4,23 @@ ghost use Rattle.program_defs.specs.declared.script.Script.{Script};
 ghost use Rattle.weave_script.specs.Answers.{IfRefused};
 ghost use Rattle.weave_script.specs.ReadText.{Fault, script_at, read_text};
 ghost use Rattle.weave_script.specs.ScriptLines.{IsTextOf};
+ghost use Rattle.weave_script.specs.Limits.{IsShort};
+
+mod fields;
+pub mod head;
+mod header;
+mod index;
+mod ops;
+mod part;
+mod reader;
+pub mod reading;
+mod requests;
+mod steps;
 
 use crate::fault::{Cause, ScriptFault};
 use crate::laws::texts_are_read;
-use crate::part::{Part, read_part};
-use crate::reading::{Place, Reading};
+use crate::read::part::{Part, read_part};
+use crate::read::reading::{Place, Reading};
 use program_defs::Script;
 use std::alloc::Global;
 
@@ -18,7 +30,7 @@ pub fn read_script(alloc: Global, bytes: &[u8]) -> Result<Script, ScriptFault>
     ensures read { IfOk result (λ script. read_text bytes.now ≡ Ok script) }
     ensures refused { IfRefused result (λ line cause. read_text bytes.now
         ≡ Err (record { line = line; cause = cause })) }
-    ensures not_valid { length bytes.now ≤ 4194304
+    ensures not_valid { IsShort bytes.now
         → IfRefused result (λ line cause. (script : Script) → ¬ IsTextOf bytes.now script) }
 {
     texts_are_read();

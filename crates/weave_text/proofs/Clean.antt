@@ -1,4 +1,5 @@
 -- Names and numbers are clean words.
+-- Used by `words_are_clean`, `words_lack_other_bytes` and crate weave_script.
 use Rattle.std.proofs.Common.{◌≡◌, ℕ, Bool, true, false, not, ◌==◌, ◌<◌, ◌^◌, List, [], ◌∷◌, ◌++◌, length, refl, sym, ap, ◌∙◌}
 use Rattle.std.specs.Prelude.{◌&&◌, nat_le}
 use Rattle.std.specs.Char.{is_ascii_digit}

@@ -1,10 +1,12 @@
 -- Where the first line of a text ends.
+-- Used by `first_line`.
 use Rattle.std.proofs.Common.{◌≡◌, ℕ, suc, ◌+◌, ◌-◌, ◌≤◌, ◌<◌, ◌==◌, Bool, true, false, not, cond, ltb, List, [], ◌∷◌, length, take, drop, Some, None, refl, sym, ap, ◌∙◌, arith}
 use Rattle.std.specs.List.{position, position_or_len, onto_first}
 use Rattle.std.proofs.lemmas.Bool.{ltb-true, ltb-false}
 use Rattle.std.proofs.lemmas.List.{take_all, length-drop}
 use Rattle.std.proofs.lemmas.Option.{cond_some}
 use Rattle.weave_text.specs.Cutting.{lines_of}
+use Rattle.weave_text.proofs.FirstPiece.{test_failed}
 
 -- the byte ends a line
 abbrev is_line_feed : ℕ → Bool
@@ -33,10 +35,6 @@ lines_of-cut text end e =
     let rest : take (length text - (end + 1)) (drop (end + 1) text) ≡ drop (end + 1) text = take_all _ _ (omega (arith, length-drop (end + 1) text)) in
     to_feed text (ltb-true _ _ found.0) ∙ ap (λ at. take at text ∷ lines_of (drop (at + 1) text)) found.1 ∙ ap (λ left. take end text ∷ lines_of left) (sym rest)
 
-past : (b : Bool) (at : ℕ) → cond b (Some at) None ≡ None → b ≡ false
-past true at e = absurd cc
-past false at e = refl
-
 one : (feed : Bool) (byte : ℕ) (text : List ℕ) → (1 ≤ length text → lines_of text ≡ text ∷ []) → suc (length text) ≤ cond (not feed) (1 + first text) 0
     → cond feed ([] ∷ lines_of text) (onto_first byte (lines_of text)) ≡ (byte ∷ text) ∷ []
 one true byte text rest h = absurd (omega arith)
@@ -51,9 +49,9 @@ to_end (byte ∷ text) some h = one (is_line_feed byte) byte text (λ some. to_e
     after true h = absurd (omega arith)
     after false h = omega arith
 
--- without a line feed the text is one line, where it has a byte
+-- without a line feed the text is one line, if it has a byte
 pub lines_of-whole : (text : List ℕ) → 1 ≤ length text → position (λ byte. byte == 10) text ≡ None → lines_of text ≡ text ∷ []
-lines_of-whole text some e = to_end text some (ltb-false _ _ (past (ltb (first text) (length text)) (first text) e))
+lines_of-whole text some e = to_end text some (ltb-false _ _ (test_failed (ltb (first text) (length text)) (first text) e))
 
 pub has_bytes : (text : List ℕ) (empty : Bool) → empty ≡ (length text == 0) → empty ≡ false → 1 ≤ length text
 has_bytes [] empty e none = absurd cc

@@ -1,4 +1,5 @@
 -- Where the first piece of a text ends.
+-- Used by `is_empty`, `next`, FirstLine and crate weave_report.
 use Rattle.std.proofs.Common.{◌≡◌, Bor, ℕ, suc, ◌+◌, ◌-◌, ◌≤◌, ◌==◌, Bool, true, false, not, cond, ltb, List, [], ◌∷◌, length, take, drop, Some, None, refl, sym, ap, ◌∙◌, arith}
 use Rattle.std.specs.List.{position, position_or_len, onto_first}
 use Rattle.std.proofs.lemmas.Bool.{ltb-true, ltb-false}
@@ -28,15 +29,16 @@ to_end : (at : ℕ) (text : Bytes) → length text ≤ position_or_len (λ b. b 
 to_end at [] h = refl
 to_end at (byte ∷ text) h = one (byte == at) byte at text (to_end at text) h
 
-past : (b : Bool) (at : ℕ) → cond b (Some at) None ≡ None → b ≡ false
-past true at e = absurd cc
-past false at e = refl
+-- a test that gave nothing failed
+pub test_failed : (b : Bool) (at : ℕ) → cond b (Some at) None ≡ None → b ≡ false
+test_failed true at e = absurd cc
+test_failed false at e = refl
 
 -- without such a byte the text is one piece
 pub pieces_of-whole : (at : ℕ) (text : Bytes) → position (λ byte. byte == at) text ≡ None → pieces_of at text ≡ text ∷ []
 pieces_of-whole at text e =
     let first = position_or_len (λ byte. byte == at) text in
-    to_end at text (ltb-false _ _ (past (ltb first (length text)) first e))
+    to_end at text (ltb-false _ _ (test_failed (ltb first (length text)) first e))
 
 has_piece : (is_mark : Bool) (byte : ℕ) (pieces : List Bytes) → is_empty (cond is_mark ([] ∷ pieces) (onto_first byte pieces)) ≡ false
 has_piece true byte pieces = refl
@@ -47,7 +49,7 @@ has_pieces : (at : ℕ) (text : Bytes) → is_empty (pieces_of at text) ≡ fals
 has_pieces at [] = refl
 has_pieces at (byte ∷ text) = has_piece (byte == at) byte (pieces_of at text)
 
--- where a text is left, a piece is
+-- if a text is left, a piece is
 pub none_left : (at : ℕ) (none : Bool) (left : Option (Bor Bytes)) → not none ≡ is_some left → none ≡ is_empty (pieces_left at (option_map (λ text. text.now) left))
 none_left at true None e = refl
 none_left at false None e = absurd cc

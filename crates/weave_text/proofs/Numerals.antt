@@ -1,24 +1,22 @@
 -- The number that a word is, and the one word of a number.
-use Rattle.std.proofs.Common.{◌≡◌, ℕ, zero, suc, ◌<◌, ◌≤◌, ◌^◌, Bool, true, false, ◌==◌, ◌&&◌, ◌||◌, not, cond, [], ◌∷◌, length, Some, None, refl, sym, ap, ◌∙◌, arith, rules, lit<}
+-- Used by `number`, `number_up_to`, `numbers_come_back` and Clean.
+use Rattle.std.proofs.Common.{◌≡◌, ℕ, zero, suc, ◌<◌, ◌≤◌, ◌^◌, Bool, true, false, ◌==◌, ◌&&◌, ◌||◌, not, cond, [], ◌∷◌, length, Some, None, refl, sym, ap, ◌∙◌, arith, lit<}
 use Rattle.std.specs.Prelude.{nat_lt, nat_le, Result, Ok, Err, get_or}
 use Rattle.std.specs.Char.{is_ascii_digit}
 use Rattle.std.specs.Fmt.{decimal}
 use Rattle.std.specs.List.{list_all}
 use Rattle.std.specs.Result.{OkIff, result_ok}
 use Rattle.std.specs.Str.{IsUtf8}
-use Rattle.std.specs.Str.Parse.{ParsesUnsigned, digits_value}
+use Rattle.std.specs.Str.Parse.{ParsesUnsigned}
 use Rattle.std.proofs.lemmas.Bool.{and_parts, cond-true, cond-false, lt-ltb, ltb-true, ltb-false, le-leb, leb-true, eqb-true, eq-eqb, false_from_ne_true}
 use Rattle.std.proofs.lemmas.Fmt.{IsAscii-from_digits, decimal_digit, decimal_nonempty, first_decimal, digits_decimal, digits_value-decimal, decimal-digits_value}
 use Rattle.std.proofs.lemmas.Option.{cond_some}
 use Rattle.std.proofs.lemmas.Str.{IsUtf8-from_ascii}
-use Rattle.std.proofs.lemmas.Str.Parse.{IsNumeralModel, numerals_by_value, parse_digits}
+use Rattle.std.proofs.lemmas.Str.Parse.{parse_digits}
+use Rattle.weave_data.proofs.Digits.{digits_are_numerals}
 use Rattle.weave_text.specs.Lines.{Word}
 use Rattle.weave_text.specs.Numbers.{is_number, value_of, number_of, number_up_to}
 use Rattle.weave_text.specs.declared.numbers.Numeral.TheVariants.{NoNumber, TooLarge, Number}
-
--- the digits of these words, and their value, are std's
-own : IsNumeralModel (λ ds. list_all is_ascii_digit ds ≡ true) (digits_value 10)
-own = numerals_by_value _ (search rules)
 
 -- a word of digits that doesn't begin with 0, or is `0`
 record IsPlain (word : Word) : Type 0 where
@@ -52,9 +50,9 @@ is_number-from (first ∷ rest) h =
 
 -- a number is a text
 pub number_is_utf8 : (word : Word) → is_number word ≡ true → IsUtf8 word
-number_is_utf8 word h = IsUtf8-from_ascii word (IsAscii-from_digits word (own.to word (plain_of word h).digits))
+number_is_utf8 word h = IsUtf8-from_ascii word (IsAscii-from_digits word (digits_are_numerals.to word (plain_of word h).digits))
 
--- what is read, where the form of the word is known
+-- what is read, if the form of the word is known
 pub number_of-tested : (word : Word) (form : Bool) → is_number word ≡ form → number_of word ≡ cond (form && nat_lt (value_of word) (2 ^ 64)) (Some (value_of word)) None
 unfolding number_of
 number_of-tested word form h = ap (λ form. cond (form && nat_lt (value_of word) (2 ^ 64)) (Some (value_of word)) None) h
@@ -63,7 +61,7 @@ number_of-tested word form h = ap (λ form. cond (form && nat_lt (value_of word)
 pub parsed_number : {E : Type 0} (word : Word) (r : Result ℕ E) → is_number word ≡ true → ParsesUnsigned 64 10 word r → result_ok r ≡ number_of word
 parsed_number {E} word r h p =
     let plain = plain_of word h in
-    given r (parse_digits own 64 word r p plain.digits) plain.some
+    given r (parse_digits digits_are_numerals 64 word r p plain.digits) plain.some
   where
     given : (r : Result ℕ E) → OkIff r ((0 < length word) × (value_of word < 2 ^ 64)) (value_of word) → 0 < length word → result_ok r ≡ number_of word
     given (Ok x) k some = sym (number_of-tested word true h ∙ cond-true (nat_lt (value_of word) (2 ^ 64)) _ _ (lt-ltb _ _ k.0.1) ∙ ap (λ n. Some n) (sym k.1))
@@ -72,7 +70,7 @@ parsed_number {E} word r h p =
 -- ---- numbers and their words
 
 decimal_is_plain : (n : ℕ) → n < 2 ^ 64 → IsPlain (decimal n)
-decimal_is_plain n small = record { digits = digits_decimal own n small; some = decimal_nonempty n small; leading = leads n small }
+decimal_is_plain n small = record { digits = digits_decimal digits_are_numerals n small; some = decimal_nonempty n small; leading = leads n small }
   where
     leads : (n : ℕ) → n < 2 ^ 64 → get_or (decimal n) 0 0 ≡ 48 → length (decimal n) ≡ 1
     leads zero small e = ap (λ word. length word) (decimal_digit 0 (lit< tt))
@@ -81,7 +79,7 @@ decimal_is_plain n small = record { digits = digits_decimal own n small; some = 
 -- a number's word is read as it
 pub number_of-decimal : (n : ℕ) → n < 2 ^ 64 → number_of (decimal n) ≡ Some n
 number_of-decimal n small =
-    let value = digits_value-decimal own n small in
+    let value = digits_value-decimal digits_are_numerals n small in
     number_of-tested (decimal n) true (is_number-from (decimal n) (decimal_is_plain n small))
     ∙ ap (λ m. cond (nat_lt m (2 ^ 64)) (Some m) None) value
     ∙ cond-true (nat_lt n (2 ^ 64)) _ _ (lt-ltb _ _ small)
@@ -93,7 +91,7 @@ decimal_of-number word n e =
     let read = cond_some (is_number word && nat_lt (value_of word) (2 ^ 64)) (value_of word) n e in
     let parts = and_parts (is_number word) (nat_lt (value_of word) (2 ^ 64)) read.0 in
     let plain = plain_of word parts.0 in
-    sym (decimal-digits_value own word plain.digits plain.some plain.leading (ltb-true _ _ parts.1)) ∙ ap decimal read.1
+    sym (decimal-digits_value digits_are_numerals word plain.digits plain.some plain.leading (ltb-true _ _ parts.1)) ∙ ap decimal read.1
 
 -- ---- numbers of at most so much
 
@@ -176,4 +174,4 @@ pub word_of-bounded : (most : ℕ) (word : Word) (n : ℕ) → most < 2 ^ 64 →
 word_of-bounded most word n fits e =
     let read = bounded_of most word n e in
     let plain = plain_of word read.form in
-    (sym (decimal-digits_value own word plain.digits plain.some plain.leading (omega (arith, read.small))) ∙ ap decimal read.value, omega (arith, read.small, read.value))
+    (sym (decimal-digits_value digits_are_numerals word plain.digits plain.some plain.leading (omega (arith, read.small))) ∙ ap decimal read.value, omega (arith, read.small, read.value))

@@ -7,7 +7,7 @@ use Rattle.weave_text.specs.Lines.{Word}
 use Rattle.weave_text.specs.declared.numbers.Numeral.{Numeral}
 use Rattle.weave_text.specs.declared.numbers.Numeral.TheVariants.{NoNumber, TooLarge, Number}
 
--- the word is one decimal digit or more, and begins with 0 only where it is `0`
+-- the word is one decimal digit or more, and begins with 0 only if it is `0`
 abbrev pub is_number : Word → Bool
 is_number [] = false
 is_number (first ∷ rest) = (not (first == 48) || (length rest == 0)) && list_all is_ascii_digit (first ∷ rest)
@@ -16,10 +16,11 @@ is_number (first ∷ rest) = (not (first == 48) || (length rest == 0)) && list_a
 abbrev pub value_of : Word → ℕ
 value_of word = digits_value 10 word
 
--- the number that the word is, where it is one of 64 bits
+-- the number that the word is, if it is one of 64 bits
 unfoldable pub number_of : Word → Option ℕ
 number_of word = if is_number word && nat_lt (value_of word) (2 ^ 64) then Some (value_of word) else None
 
--- what the word is as a number of at most so much
+-- what the word is as a number of at most `most`
 unfoldable pub number_up_to : ℕ → Word → Numeral
-number_up_to most word = if is_number word then (if nat_le (value_of word) most then Number (value_of word) else TooLarge) else NoNumber
+number_up_to most word =
+    if is_number word then (if nat_le (value_of word) most then Number (value_of word) else TooLarge) else NoNumber

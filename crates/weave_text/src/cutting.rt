@@ -6,7 +6,7 @@ ghost use Rattle.weave_text.specs.Cutting.{lines_of, pieces_of, words_of, is_ski
 use crate::cursor::Pieces;
 use std::alloc::{AllocError, Global};
 
-/// The first line of a text, and the text behind the line feed that ends it. `None` where the text has no line.
+/// The first line of a text, and the text after the line feed that ends it. `None` if the text has no line.
 pub fn first_line(text: &[u8]) -> Option<(&[u8], &[u8])>
     ensures lines { MatchOption result (lines_of text.now ≡ []) (λ cut. lines_of text.now
         ≡ cut.0.now ∷ lines_of cut.1.now) }
@@ -21,7 +21,7 @@ pub fn first_line(text: &[u8]) -> Option<(&[u8], &[u8])>
     }
 }
 
-/// Whether a line is passed over where it stands: it is empty, or begins with `#`.
+/// Whether a line is skipped: it is empty, or begins with `#`.
 pub fn is_skipped(line: &[u8]) -> bool
     ensures { result ≡ is_skipped line.now }
 {
@@ -31,21 +31,21 @@ pub fn is_skipped(line: &[u8]) -> bool
     }
 }
 
-/// The words of a line: what stands before, between and after its spaces. Where two spaces meet, or one stands at an end, there is an empty word.
+/// A line's words: what is before, between and after its spaces; an empty word if two spaces meet, or one is at an end.
 pub fn words(alloc: Global, line: &[u8]) -> Result<Vec<&[u8]>, AllocError>
     ensures { IfOk result (λ words. map (λ word. word.now) words.items ≡ words_of line.now) }
 {
     pieces(alloc, b' ', line)
 }
 
-/// The first words of a line, at most this many. The line isn't looked at behind them.
+/// The first words of a line, at most this many. The rest of the line isn't read.
 pub fn first_words(alloc: Global, most: usize, line: &[u8]) -> Result<Vec<&[u8]>, AllocError>
     ensures { IfOk result (λ words. map (λ word. word.now) words.items ≡ take most (words_of line.now)) }
 {
     Pieces::words(line).take(most).collect(alloc)
 }
 
-/// The pieces of a text: what stands before, between and after the bytes that are this one.
+/// The pieces of a text: what is before, between and after the occurrences of this byte.
 pub fn pieces(alloc: Global, at: u8, text: &[u8]) -> Result<Vec<&[u8]>, AllocError>
     ensures { IfOk result (λ pieces. map (λ piece. piece.now) pieces.items ≡ pieces_of at text.now) }
 {

@@ -10,7 +10,7 @@ ghost use Rattle.weave_text.specs.Numbers.{number_of, number_up_to};
 
 use crate::numbers::Numeral;
 
-/// Clean lines come back from their text, also where more text follows.
+/// Clean lines come back from their text, even if more text follows.
 pub fn clean_lines_come_back()
     ensures words { (line : Line) → IsTrue (is_clean_line line) → words_of (joined_words line) ≡ line }
     ensures lines { (lines : List Line) (text : Bytes) → IsTrue (list_all is_clean_line lines)
@@ -27,7 +27,8 @@ pub fn joined_pieces_come_back()
         → pieces_of byte (joined_texts (byte ∷ []) (piece ∷ pieces)) ≡ piece ∷ pieces }
 {}
 
-/// What was cut into words is these words with one space between, and what was cut at a byte is the pieces with it between.
+/// What was cut into words is these words with one space between, and what was cut at a byte is the pieces with it
+/// between.
 pub fn cut_texts_are_joined()
     ensures words { (line : Bytes) → joined_words (words_of line) ≡ line }
     ensures pieces { (byte : ℕ) (text : Bytes) → joined_texts (byte ∷ []) (pieces_of byte text) ≡ text }
@@ -38,12 +39,12 @@ pub fn lines_follow_one_another()
     ensures { (text more : Bytes) → lines_of (text ++ 10 ∷ more) ≡ lines_of (text ++ 10 ∷ []) ++ lines_of more }
 {}
 
-/// A text has at most as many lines as bytes.
+/// A text has no more lines than bytes.
 pub fn lines_are_few()
     ensures { (text : Bytes) → length (lines_of text) ≤ length text }
 {}
 
-/// Names and numbers of 64 bits are clean words, and no line that begins with a name is passed over.
+/// Names and numbers of 64 bits are clean words, and no line that begins with a name is skipped.
 pub fn words_are_clean()
     ensures name { (word : Word) → IsTrue (is_name word) → IsTrue (is_clean word) }
     ensures number { (n : ℕ) → n < 2 ^ 64 → IsTrue (is_clean (decimal n)) }
@@ -51,7 +52,7 @@ pub fn words_are_clean()
     ensures kept { (word : Word) → IsTrue (is_name word) → IsTrue (not (is_skipped word)) }
 {}
 
-/// A byte that stands in no name or number stands in none of these.
+/// A name lacks each byte that is no name byte, and a printed number lacks each byte that is no digit.
 pub fn words_lack_other_bytes()
     ensures name { (byte : ℕ) (word : Word) → IsTrue (not (is_name_byte byte)) → IsTrue (is_name word)
         → IsTrue (lacks byte word) }

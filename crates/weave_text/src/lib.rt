@@ -1,14 +1,13 @@
 //! Texts of lines of words: written, cut again, and the numbers in them.
 //!
-//! A text that is written of clean words comes back as these lines and words, a number's word comes back as the number, and what is cut into words is these words with one space between.
+//! A text that is written of clean words comes back as these lines and words, a number's word comes back as the number,
+//! and what is cut into words is these words with one space between.
 #![tactic(auto)]
 
 mod cursor;
 mod cutting;
 mod laws;
 mod numbers;
-#[cfg(test)]
-mod tests;
 mod text;
 
 pub use cursor::Pieces;

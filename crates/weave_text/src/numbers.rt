@@ -7,15 +7,15 @@ ghost use Rattle.weave_text.specs.Numbers.{is_number, number_of, number_up_to};
 /// What a word is as a number.
 #[derive(Clone, Copy, PartialEq, Eq, Debug)]
 pub enum Numeral {
-    /// It is none.
+    /// Not a number.
     NoNumber,
-    /// It is one, and above what is allowed.
+    /// A number above what is allowed.
     TooLarge,
-    /// It is this one.
+    /// This number.
     Number(u64),
 }
 
-/// The number that a word is: `0`, or decimal digits of which the first isn't 0. None also where it has more than 64 bits.
+/// The number that a word is: `0`, or decimal digits of which the first isn't 0. None also if it has more than 64 bits.
 pub fn number(word: &[u8]) -> Option<u64>
     ensures { result ≡ number_of word.now }
 {
@@ -28,7 +28,7 @@ pub fn number(word: &[u8]) -> Option<u64>
     digits.parse::<u64>().ok()
 }
 
-/// What a word is as a number of at most so much: `0`, or decimal digits of which the first isn't 0, however many.
+/// What a word is as a number of at most `most`: `0`, or decimal digits of which the first isn't 0, however many.
 pub fn number_up_to(most: u64, word: &[u8]) -> Numeral
     ensures { result ≡ number_up_to most word.now }
 {

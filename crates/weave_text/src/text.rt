@@ -6,7 +6,7 @@ use itoa::Buffer;
 use std::alloc::{AllocError, Global};
 use std::marker::Model;
 
-/// What is written so far, seen by contracts as the list of its bytes. The one error of writing is want of memory, and then the text is as before.
+/// What is written so far; contracts see the list of its bytes. The one error is out of memory, and changes nothing.
 #[derive(Drop)]
 pub struct Text {
     bytes: Vec<u8>,

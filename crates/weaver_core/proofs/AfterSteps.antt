@@ -1,4 +1,5 @@
 -- The values of the sessions after what the machines did at a step of a request.
+-- Used by `begin_change`, `begin_program`, `reply_to_change`, `reply_to_program` and VisitWith.
 use Rattle.std.proofs.Common.{◌≡◌, ◌≢◌, ℕ, ◌<◌, Bool, true, false, List, [], ◌∷◌, ◌++◌, length, Some, inl, inr, refl, sym, ap, subst, ◌∙◌}
 use Rattle.std.specs.Prelude.{◌&&◌, ◌||◌, not, slice_index_or, if◌then◌else◌}
 use Rattle.std.proofs.lemmas.Bool.{cases_Bool}

@@ -1,4 +1,5 @@
 -- A session with its log, and one of the sessions of a core.
+-- Used by `begin_next`, `begun`, `first_clients`, `first_unanswered`, `put`, `replied`, `reply_to_one` and 3 more.
 use Rattle.std.proofs.Common.{arith, ◌≡◌, ℕ, ◌+◌, ◌<◌, List, [], ◌∷◌, ◌++◌, length, map, get_or, AllPairs, Option, Some, refl, sym, ap, subst, ◌∙◌}
 use Rattle.std.specs.Prelude.{slice_get, slice_set}
 use Rattle.std.proofs.lemmas.List.{map-append}

@@ -1,9 +1,10 @@
 -- One of the gatekeepers of a core.
+-- Used by `begin`, `finish`, `first_gates`, `hear`, `hear_at`, `new`, `nop`, `raise`, `raise_at` and `send`.
 use Rattle.std.proofs.Common.{◌≡◌, ℕ, ◌+◌, ◌<◌, List, [], ◌∷◌, ◌++◌, length, map, Some, refl, sym, ap, ◌∙◌, subst, arith}
 use Rattle.std.specs.Prelude.{slice_get, slice_set}
 use Rattle.std.proofs.lemmas.List.{length-replicate, length-map, length-set}
 use Rattle.graph_ops.specs.declared.op.Op.{Op}
-use Rattle.gatekeeper.specs.Gates.{Adds, GateView, HasRoom, IsNew, SendsFlight}
+use Rattle.gatekeeper.specs.Gates.{Adds, GateView, MakesRoom, IsNew, SendsFlight}
 use Rattle.weave_entries.specs.declared.gate_log.GateEntry.{GateEntry}
 use Rattle.weave_entries.specs.declared.gate_log.GateDeed.{GateDeed}
 use Rattle.weave_entries.specs.declared.gate_log.GateDeed.TheVariants.{Sent}
@@ -18,7 +19,7 @@ abbrev pub table_of : ℕ → List GateView → GateTable
 table_of shards gates = record { shards = shards; logs = map log_of gates }
 
 -- room first, then an entry
-pub room-then-adds : (before more after : GateView) (entries author : ℕ) (deed : GateDeed) → HasRoom before more entries → Adds more after author deed → Adds before after author deed
+pub room-then-adds : (before more after : GateView) (entries author : ℕ) (deed : GateDeed) → MakesRoom before more entries → Adds more after author deed → Adds before after author deed
 room-then-adds before more after entries author deed room adds =
     let kept = room.kept in
     let less = adds.spare in

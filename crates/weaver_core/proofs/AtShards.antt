@@ -1,10 +1,11 @@
 -- One of the shards of a core.
+-- Used by `apply`, `arrive`, `collect`, `first_shards`, `kept`, `next_number`, `visit` and AtVisits.
 use Rattle.std.proofs.Common.{◌≡◌, ℕ, ◌+◌, ◌<◌, List, [], ◌∷◌, ◌++◌, length, map, Option, None, Some, Result, Ok, Err, IfOk, OnErr, refl, sym, ap, ◌∙◌, subst}
 use Rattle.std.specs.Prelude.{is_some, slice_get, slice_set, IsSome, if◌then◌else◌}
 use Rattle.std.proofs.lemmas.List.{length-replicate, length-map}
 use Rattle.shard_queue.specs.declared.inbox.Arrival.{Arrival}
 use Rattle.shard_queue.specs.declared.inbox.Arrival.TheVariants.{Kept, Repeat}
-use Rattle.shard_node.specs.Shards.{AddsEntry, IsNext, ShardView}
+use Rattle.shard_node.specs.Shards.{AddsEntry, CanApplyHead, ShardView}
 use Rattle.weave_entries.specs.declared.message.Message.{Message}
 use Rattle.weave_entries.specs.declared.shard_log.ShardEntry.{ShardEntry}
 use Rattle.weave_entries.specs.declared.shard_log.ShardDeed.{ShardDeed}
@@ -75,10 +76,10 @@ module _ (gates : ℕ) (shards : List ShardView) (s : ℕ) (before after : Shard
       (subst (λ (log : List ShardEntry). IsSome (arrived_at home number log)) log-is (had-arrived (arrived_at home number before.log) is), table-rests (repeat refl))
 
   -- and what was applied
-  pub applies-at : (home : ℕ) → IsNext home before.log → AddsEntry before after 0 (Applied home (processed_count home before.log + 1))
+  pub applies-at : (home : ℕ) → CanApplyHead home before.log → AddsEntry before after 0 (Applied home (processed_count home before.log + 1))
       → AppliesHead (table_of gates shards) (table_of gates (slice_set shards s after)) s home
   applies-at home next adds = record {
-    next = subst (λ (log : List ShardEntry). IsNext home log) log-is next;
+    next = subst (λ (log : List ShardEntry). CanApplyHead home log) log-is next;
     adds = adds-at (Applied home (processed_count home (log_at (table_of gates shards) s) + 1)) (subst (λ (log : List ShardEntry). AddsEntry before after 0 (Applied home (processed_count home log + 1))) log-is adds);
   }
 

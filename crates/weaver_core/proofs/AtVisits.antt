@@ -1,5 +1,6 @@
 -- A visit at one of the shards of a core, and in the oracle's log.
-use Rattle.std.proofs.Common.{◌≡◌, ◌⊎◌, ℕ, zero, suc, ◌<◌, Bool, true, false, not, List, [], ◌∷◌, ◌++◌, length, map, take, None, Some, Result, Ok, Err, IfOk, OnOk, inl, inr, refl, sym, ap, subst, ◌∙◌}
+-- Used by `visit`.
+use Rattle.std.proofs.Common.{◌≡◌, ℕ, ◌<◌, Bool, true, false, not, List, [], ◌∷◌, ◌++◌, length, map, take, None, Some, Result, Ok, Err, IfOk, OnOk, inl, inr, refl, sym, ap, subst, ◌∙◌}
 use Rattle.std.specs.Prelude.{◌||◌, slice_get, slice_set, if◌then◌else◌}
 use Rattle.std.specs.List.{list_any}
 use Rattle.std.proofs.lemmas.List.{map-append}
@@ -22,6 +23,7 @@ use Rattle.step_rules.specs.Entries.{made_entry}
 use Rattle.weaver_core.specs.ShardTable.{AddsToShard}
 use Rattle.weaver_core.specs.Visiting.{IsReadAtShard, Reads, entries_asked, state_seen, updates_seen}
 use Rattle.weaver_core.proofs.AtShards.{adds-at, log-is, table_of}
+use Rattle.vector_stamp.proofs.Seen.{last-cases}
 
 pub if_ok_on_three : {A E : Type 0} (result : Result A E) (P Q R : Type 0) (S T : A → Type 0) → ((a : A) → P → Q → R → S a → T a) → OnOk result P → OnOk result Q → OnOk result R → IfOk result S → IfOk result T
 if_ok_on_three (Ok a) P Q R S T go p q r s = go a p q r s
@@ -42,13 +44,6 @@ module _ (back : (entry : OracleEntry) → oracle_entry (settled_entry entry) �
   oracle-same old new is = sym (each-back new) ∙ ap (map oracle_entry) is ∙ each-back old
 
 -- A visit is marked exactly if the oracle made an entry
-
--- what was seen last is one update, or none
-pub last-cases : (n : ℕ) (updates : List Stamp) → (last_seen n updates ≡ []) ⊎ ((update : Stamp) × (last_seen n updates ≡ update ∷ []))
-last-cases zero updates = inl refl
-last-cases (suc n) [] = inl refl
-last-cases (suc zero) (update ∷ updates) = inr (update, refl)
-last-cases (suc (suc n)) (update ∷ updates) = last-cases (suc n) updates
 
 one-made : (pairs : List Given) (stamp update : Stamp) → list_any (λ (u : Stamp). not (precedes pairs u stamp)) (update ∷ []) ≡ made_entry (entries_of_settling 0 pairs (update ∷ []) stamp)
 one-made pairs stamp update = by (precedes pairs update stamp)
@@ -95,23 +90,23 @@ module _ (laws : VisitLaws) (gates : ℕ) (shards : List ShardView) (s : ℕ) (b
   deed-is : Visited r stamp v (updates_read pairs stamp v before.log) (is_settled_by pairs stamp v before.log) ≡ Visited r stamp v (updates_seen oracle before.log stamp v) (made_entry (entries_asked oracle before.log stamp v))
   deed-is = λ i. Visited r stamp v (updates-are i) (settled-is i)
 
-  pub visited-at : first_unready before.gates stamp before.log ≡ None → AddsEntry before after 0 (Visited r stamp v (updates_read pairs stamp v before.log) (is_settled_by pairs stamp v before.log))
-      → map settled_entry then_oracle ≡ map settled_entry oracle ++ entries_of_visit pairs 0 stamp v before.log
-      → IsReadAtShard (table_of gates shards) (table_of gates (slice_set shards s after)) oracle then_oracle s r stamp v
-  visited-at ready entry logged =
-      let here : Over before.log = (
-        ap (λ n. first_unready n stamp before.log) (sym made) ∙ ready,
-        adds-at gates shards s before after within at _ (subst (λ (deed : ShardDeed). AddsEntry before after 0 deed) deed-is entry),
-        oracle-more laws.back oracle then_oracle (entries_of_visit pairs 0 stamp v before.log) logged ∙ ap (λ (xs : List Stamp). oracle ++ entries_of_settling 0 pairs xs stamp) last-is,
-      ) in
-      let all = subst Over (log-is gates shards s before after within at) here in
-      record { ready = all.0; adds = all.1; oracle_is = all.2 }
+  module _ (ready : first_unready before.gates stamp before.log ≡ None)
+      (entry : AddsEntry before after 0 (Visited r stamp v (updates_read pairs stamp v before.log) (is_settled_by pairs stamp v before.log)))
+      (logged : map settled_entry then_oracle ≡ map settled_entry oracle ++ entries_of_visit pairs 0 stamp v before.log) where
+    visited-at : IsReadAtShard (table_of gates shards) (table_of gates (slice_set shards s after)) oracle then_oracle s r stamp v
+    visited-at =
+        let here : Over before.log = (
+          ap (λ n. first_unready n stamp before.log) (sym made) ∙ ready,
+          adds-at gates shards s before after within at _ (subst (λ (deed : ShardDeed). AddsEntry before after 0 deed) deed-is entry),
+          oracle-more laws.back oracle then_oracle (entries_of_visit pairs 0 stamp v before.log) logged ∙ ap (λ (xs : List Stamp). oracle ++ entries_of_settling 0 pairs xs stamp) last-is,
+        ) in
+        let all = subst Over (log-is gates shards s before after within at) here in
+        record { ready = all.0; adds = all.1; oracle_is = all.2 }
 
-  pub reads-at : (state : State) → first_unready before.gates stamp before.log ≡ None → AddsEntry before after 0 (Visited r stamp v (updates_read pairs stamp v before.log) (is_settled_by pairs stamp v before.log))
-      → map settled_entry then_oracle ≡ map settled_entry oracle ++ entries_of_visit pairs 0 stamp v before.log
-      → state ≡ state_of_updates (take (updates_read pairs stamp v before.log) (updates_of v before.log))
-      → Reads (table_of gates shards) (table_of gates (slice_set shards s after)) oracle then_oracle s r stamp v state
-  reads-at state ready entry logged is = record {
-    visited = visited-at ready entry logged;
-    state_is = is ∙ ap (λ n. state_of_updates (take n (updates_of v before.log))) updates-are ∙ ap (λ log. state_seen oracle log stamp v) (log-is gates shards s before after within at);
-  }
+    -- what a visit reads at one of the shards
+    pub reads-at : (state : State) → state ≡ state_of_updates (take (updates_read pairs stamp v before.log) (updates_of v before.log))
+        → Reads (table_of gates shards) (table_of gates (slice_set shards s after)) oracle then_oracle s r stamp v state
+    reads-at state is = record {
+      visited = visited-at;
+      state_is = is ∙ ap (λ n. state_of_updates (take n (updates_of v before.log))) updates-are ∙ ap (λ log. state_seen oracle log stamp v) (log-is gates shards s before after within at);
+    }

@@ -1,4 +1,5 @@
 -- The author of a program's begin, by its gatekeeper's log.
+-- Used by FinishDone.
 use Rattle.std.proofs.Common.{◌≡◌, ◌⊎◌, ℕ, suc, ◌<◌, true, false, List, [], ◌∷◌, length, take, get_or, Contains, IsTrue, Some, inl, inr, refl, sym, ap, subst, ◌∙◌}
 use Rattle.std.specs.Prelude.{◌==◌, fold, if◌then◌else◌}
 use Rattle.std.specs.List.{find}
@@ -6,8 +7,8 @@ use Rattle.std.proofs.Math.Seq.{take-suc}
 use Rattle.std.proofs.lemmas.Bool.{both_ways, cases_Bool, eq-eqb, eqb-true}
 use Rattle.std.proofs.lemmas.List.Sums.{fold-append}
 use Rattle.std.proofs.lemmas.Option.{same_Some}
-use Rattle.proof_base.proofs.Members.{find_has, flat_has, has_flat, has_head, has_none, has_read, has_tail}
-use Rattle.proof_base.proofs.Ordered.{find_by_key}
+use Rattle.weave_data.proofs.Members.{find_has, flat_has, has_flat, has_head, has_none, has_read, has_tail}
+use Rattle.weave_data.proofs.Ordered.{find_by_key}
 use Rattle.program_defs.specs.declared.script.Script.{Script}
 use Rattle.weave_entries.specs.declared.gate_log.GateEntry.{GateEntry}
 use Rattle.weave_entries.specs.declared.gate_log.GateDeed.{GateDeed}

@@ -1,11 +1,12 @@
 -- A running program can visit any vertex, and can be finished.
-use Rattle.std.proofs.Common.{◌≡◌, ◌≢◌, ℕ, zero, suc, ◌<◌, false, List, [], ◌∷◌, ◌++◌, length, take, drop, Contains, IsTrue, Option, None, Some, inl, inr, refl, sym, ap, subst, ◌∙◌, arith}
+-- Used by `visit`, Authors, BegunProgram, FinishDone, Marked, MarksFound and ProgramStamped.
+use Rattle.std.proofs.Common.{◌≡◌, ◌≢◌, ℕ, zero, suc, ◌<◌, false, List, [], ◌∷◌, ◌++◌, length, take, drop, Contains, IsTrue, Option, None, Some, inl, inr, refl, sym, ap, subst, ◌∙◌, arith, take-append-drop}
 use Rattle.std.specs.Prelude.{◌==◌, IsSomeAnd, slice_index_or}
 use Rattle.std.specs.List.{flat_map, list_any}
 use Rattle.std.proofs.lemmas.Bool.{and_from, both_ways, eq-eqb, eqb-true}
-use Rattle.std.proofs.lemmas.List.Elements.{All-from_recursion, Contains-append_cases, Contains-get_or}
-use Rattle.proof_base.proofs.Members.{any_from, filter_has, find_has, flat_has, has_flat, has_map, has_none, has_read, has_head, has_tail, map_has}
-use Rattle.proof_base.proofs.Places.{all-from}
+use Rattle.std.proofs.lemmas.List.Elements.{All-from_recursion, Contains-append_cases, Contains-append_right, Contains-get_or}
+use Rattle.weave_data.proofs.Members.{any_from, filter_has, find_has, flat_has, has_flat, has_map, has_none, has_read, has_head, has_tail, map_has}
+use Rattle.weave_data.proofs.ListPlaces.{all-from}
 use Rattle.weave_data.specs.Names.{shard_of}
 use Rattle.weave_data.specs.declared.name.Name.{Name}
 use Rattle.vector_stamp.specs.declared.clock.Stamp.{Stamp}
@@ -34,6 +35,7 @@ use Rattle.weave_account.specs.Shards.{update_of}
 use Rattle.weave_entries.proofs.OwnStamps.{program-begun}
 use Rattle.weaver_core.specs.Visiting.{CanBeVisited}
 use Rattle.weaver_core.proofs.CitedLaws.{AskedLaws, BegunLaws, CommitLaws, RunLaws}
+use Rattle.step_rules.proofs.VisitLogs.{in-take}
 
 -- the laws that are cited of visits
 pub record CanVisitLaws : Type 0 where
@@ -48,18 +50,12 @@ pub record CanVisitLaws : Type 0 where
 
 -- Members
 
-pub in-take : {A : Type 0} (n : ℕ) (xs : List A) (x : A) → Contains (take n xs) x → Contains xs x
-in-take zero xs x h = absurd (has_none x h)
-in-take (suc n) [] x h = absurd (has_none x h)
-in-take (suc n) (y ∷ xs) x h = elim (has_read y (take n xs) x h) [
-  | inl same ↦ subst (λ z. Contains (y ∷ xs) z) same (has_head y xs)
-  | inr more ↦ has_tail y xs x (in-take n xs x more)
-]
-
-in-drop : {A : Type 0} (n : ℕ) (xs : List A) (x : A) → Contains (drop n xs) x → Contains xs x
-in-drop zero xs x h = h
-in-drop (suc n) [] x h = absurd (has_none x h)
-in-drop (suc n) (y ∷ xs) x h = has_tail y xs x (in-drop n xs x h)
+-- a stamp that is kept is that of an update
+kept-of-update : (v : Name) (log : List ShardEntry) (stamp : Stamp) → Contains (kept_stamps v log) stamp → Contains (update_stamps v log) stamp
+kept-of-update v log stamp h =
+    let n = dropped_of v log in
+    let stamps = update_stamps v log in
+    subst (λ (all : List Stamp). Contains all stamp) (take-append-drop n stamps) (Contains-append_right (take n stamps) (drop n stamps) stamp h)
 
 -- a commit was judged
 commit-deed : (author : ℕ) (deed : StoreDeed) (c : Commit) → Contains (commit_by deed) c → ((judged_by author deed).request ≡ c.request) × ((judged_by author deed).stamp ≡ c.stamp)
@@ -141,7 +137,7 @@ module _ (run : RunLaws) (script : Script) (account : Account) (limits : IsWithi
       | inl same ↦ subst (λ (s : Stamp). Contains (begun_stamps account) s) same (has_map (λ (b : Begun). b.stamp) (all_begun account) begun among-begun)
       | inr rest ↦ elim (Contains-append_cases (kept_stamps v here) (ends_of (pairs_in account)) stamp rest) [
         | inl kept ↦
-            let from = map_has (λ (update : Update). update.stamp) (updates_of v here) stamp (in-drop (dropped_of v here) (update_stamps v here) stamp kept) in
+            let from = map_has (λ (update : Update). update.stamp) (updates_of v here) stamp (kept-of-update v here stamp kept) in
             subst (λ (s : Stamp). Contains (begun_stamps account) s) from.2 (laws.updates script account limits is v (shard_of v script.shards) from.0 from.1)
         | inr end ↦
             let from = laws.asked.no_others (pairs_in account) stamp end in
@@ -155,7 +151,7 @@ module _ (run : RunLaws) (script : Script) (account : Account) (limits : IsWithi
 
     pub can-be-visited : CanBeVisited account.oracle here begun.stamp v
     can-be-visited = record {
-      other_ids = All-from_recursion (λ (stamp : Stamp). id_of stamp ≢ id_of begun.stamp) (kept_stamps v here) (all-from (λ (stamp : Stamp). id_of stamp ≢ id_of begun.stamp) (kept_stamps v here) (λ stamp h. update-differs stamp (in-drop (dropped_of v here) (update_stamps v here) stamp h)));
+      other_ids = All-from_recursion (λ (stamp : Stamp). id_of stamp ≢ id_of begun.stamp) (kept_stamps v here) (all-from (λ (stamp : Stamp). id_of stamp ≢ id_of begun.stamp) (kept_stamps v here) (λ stamp h. update-differs stamp (kept-of-update v here stamp h)));
       coherent = laws.asked.part (begun.stamp ∷ kept_stamps v here ++ ends_of (pairs_in account)) (begun_stamps account) (laws.stamps.coherent script account limits is) known;
       base = laws.kept script account limits is request.gate begun is-running v;
     }

@@ -1,4 +1,5 @@
 -- `say`, `hear` and `epoch`, by what the gatekeepers did.
+-- Used by `hear`, `raise` and `say`.
 use Rattle.std.proofs.Common.{◌≡◌, ℕ, Bool, nat_lt, List, [], ◌∷◌, ◌++◌, Option, refl, sym, ap, ◌∙◌}
 use Rattle.std.specs.Prelude.{is_some, if◌then◌else◌}
 use Rattle.std.proofs.lemmas.Bool.{not-false, not-true}

@@ -1,4 +1,5 @@
 -- The machines of a script before the first step, and after each one.
+-- Used by `new`, `start` and `step`.
 use Rattle.std.proofs.Common.{◌≡◌, ℕ, zero, suc, List, [], length, replicate, map, refl, sym, ap, subst, ◌∙◌}
 use Rattle.std.specs.Prelude.{slice_index_or}
 use Rattle.std.specs.List.{range_with_len}
@@ -20,7 +21,7 @@ use Rattle.weaver_core.specs.Clients.{ClientTable, SessionValues, no_values}
 use Rattle.weaver_core.specs.Cores.{AreOf, MachinesFrame, IsFrameOf, MachinesDo, MachinesView, machines_of}
 use Rattle.weaver_core.specs.GateTable.{GateTable}
 use Rattle.weaver_core.specs.ShardTable.{ShardTable}
-use Rattle.proof_base.proofs.Members.{has_none}
+use Rattle.weave_data.proofs.Members.{has_none}
 use Rattle.weave_account.specs.Account.{session_log}
 use Rattle.weave_entries.specs.declared.session_log.SessionEntry.{SessionEntry}
 use Rattle.weaver_core.specs.Splitting.{AreAllByLog, AreValuesByLog}

@@ -1,5 +1,6 @@
 -- A table of requests, by the ids of their events, and the pairs that are found by it.
-use Rattle.std.proofs.Common.{◌≡◌, ℕ, suc, ◌<◌, cond, List, [], ◌∷◌, length, drop, get_or, Option, None, Some, sym, ap, ◌∙◌, drop-cons}
+-- Used by `pairs_of` and `requests_by_event`.
+use Rattle.std.proofs.Common.{◌≡◌, ℕ, suc, ◌<◌, Bool, cond, List, [], ◌∷◌, length, drop, get_or, Option, None, Some, sym, ap, ◌∙◌, drop-cons}
 use Rattle.std.proofs.Math.Bool.{or-false}
 use Rattle.std.specs.Map.{lookup}
 use Rattle.weave_data.specs.declared.name.Name.{Name}
@@ -8,6 +9,7 @@ use Rattle.vector_stamp.specs.Order.{id_of}
 use Rattle.weave_entries.specs.declared.oracle_log.OracleEntry.{OracleEntry}
 use Rattle.weave_entries.specs.declared.shard_log.ShardEntry.{ShardEntry}
 use Rattle.weave_entries.specs.declared.store_log.StoreEntry.{StoreEntry}
+use Rattle.report_rules.specs.declared.report.Pair.{Pair}
 use Rattle.weaver_core.specs.Marks.{AddsVisits, all_visits, is_in, mark_of, was_asked}
 use Rattle.weaver_core.specs.Reporting.{HasRequests, all_pairs_found, found_in, key_of, request_from, request_with, same_key}
 
@@ -20,9 +22,14 @@ table-more stamps n stamp written es fs within at is has writes id =
     ∙ ap (λ (o : Option Stamp). request_from n id (o ∷ drop (suc n) stamps)) (sym at)
     ∙ sym (ap (request_from n id) (drop-cons stamps n None within))
 
+-- the pairs by the requests of stamps, and by which visits there were
+abbrev pairs-by : (Stamp → Option ℕ) → (ℕ × Name × ℕ → Bool) → List StoreEntry → List OracleEntry → List Pair
+pairs-by request_of visited store oracle = all_pairs_found request_of store (mark_of request_of visited store) oracle
+
 -- the pairs by such a table of all requests, and by one of the visits, are those by the stamps and by the shards' logs
-pub all-found : {X : Type 0} (entries : List ((ℕ × ℕ × ℕ) × ℕ)) (stamps : List (Option Stamp)) → HasRequests 0 stamps entries → (visits : List ((ℕ × Name × ℕ) × X)) (logs : List (List ShardEntry)) → AddsVisits {X = X} [] visits (all_visits logs)
+pub all-found : {X : Type 0} (entries : List ((ℕ × ℕ × ℕ) × ℕ)) (stamps : List (Option Stamp)) → HasRequests 0 stamps entries
+    → (visits : List ((ℕ × Name × ℕ) × X)) (logs : List (List ShardEntry)) → AddsVisits {X = X} [] visits (all_visits logs)
     → (store : List StoreEntry) (oracle : List OracleEntry)
-    → all_pairs_found (found_in entries) store (mark_of (found_in entries) (is_in visits) store) oracle ≡ all_pairs_found (request_with stamps) store (mark_of (request_with stamps) (was_asked (all_visits logs)) store) oracle
+    → pairs-by (found_in entries) (is_in visits) store oracle ≡ pairs-by (request_with stamps) (was_asked (all_visits logs)) store oracle
 all-found entries stamps has visits logs adds store oracle =
-    λ i. all_pairs_found (λ (event : Stamp). has (id_of event) i) store (mark_of (λ (event : Stamp). has (id_of event) i) (λ (key : ℕ × Name × ℕ). (adds key ∙ or-false (was_asked (all_visits logs) key)) i) store) oracle
+    λ i. pairs-by (λ (event : Stamp). has (id_of event) i) (λ (key : ℕ × Name × ℕ). (adds key ∙ or-false (was_asked (all_visits logs) key)) i) store oracle

@@ -1,10 +1,11 @@
 -- `reply` of a program, by what its gatekeeper, its session and the program did.
+-- Used by `finish`.
 use Rattle.std.proofs.Common.{◌≡◌, ℕ, Bool, true, false, not, List, Contains, IsTrue, Option, None, Some, is_some, inl, inr, refl, sym, ap, subst, ◌∙◌, arith}
 use Rattle.std.specs.Prelude.{◌&&◌, ◌||◌, ◌==◌, if◌then◌else◌}
 use Rattle.std.specs.List.{list_any}
 use Rattle.std.proofs.lemmas.Bool.{cases_Bool, eqb-true}
 use Rattle.std.proofs.lemmas.Option.{same_Some}
-use Rattle.proof_base.proofs.Members.{any_has}
+use Rattle.weave_data.proofs.Members.{any_has}
 use Rattle.vector_stamp.specs.declared.clock.Clock.{Clock}
 use Rattle.graph_ops.specs.Operations.{State}
 use Rattle.program_defs.specs.Agreement.{AreSameReads}
@@ -21,7 +22,6 @@ use Rattle.weave_data.specs.declared.name.Name.{Name}
 use Rattle.weave_entries.specs.declared.gate_log.GateEntry.{GateEntry}
 use Rattle.weave_entries.specs.declared.gate_log.GateDeed.TheVariants.{Finished as FinishedDeed}
 use Rattle.weave_entries.specs.declared.oracle_log.OracleEntry.{OracleEntry}
-use Rattle.weave_entries.specs.declared.session_log.SessionEntry.{SessionEntry}
 use Rattle.weave_entries.specs.declared.session_log.SessionDeed.TheVariants.{Replied}
 use Rattle.weave_entries.specs.declared.store_log.StoreEntry.{StoreEntry}
 use Rattle.weave_entries.specs.GateReplay.{ended_in, has_ended_in, is_begun, program_begun, running_of}
@@ -40,7 +40,7 @@ use Rattle.weaver_core.specs.Staying.{StayLaws}
 use Rattle.weaver_core.specs.Walks.{IsRunningIn}
 use Rattle.weaver_core.specs.declared.walks.Running.{Running}
 use Rattle.weaver_core.specs.Splitting.{AreAllByLog, RepliesToProgram, ValuesAfterFinish}
-use Rattle.weaver_core.specs.Visiting.{Asks}
+use Rattle.weaver_core.specs.Visiting.{AsksForNextVisit}
 use Rattle.path_program.specs.AnyPrograms.{next_read}
 use Rattle.weaver_core.proofs.Authors.{last-author-is}
 use Rattle.weaver_core.proofs.OpenRuns.{open-runs}
@@ -74,9 +74,6 @@ module _ (script : Script) (old : gates.GateTable) (store : List StoreEntry) (or
   abbrev log : List GateEntry
   log = gate_log account request.gate
 
-  abbrev session : List SessionEntry
-  session = session_log account request.session
-
   abbrev next : Option Name
   next = next_visit (reads_of account r) program
 
@@ -86,7 +83,7 @@ module _ (script : Script) (old : gates.GateTable) (store : List StoreEntry) (or
     running_is : (clients.values_at was.values request.session).running ≡ Some running
     runs : IsRunningIn script account r running
 
-  its-run : AreAllByLog script account was.values → clients.is_open_in r session ≡ true → IsItsRun
+  its-run : AreAllByLog script account was.values → clients.is_open_in r (session_log account request.session) ≡ true → IsItsRun
   its-run all waits =
       let one = open-runs stay script account are.limits are.core.account was.values all r request request-is (are.limits.sessions r request request-is) program looks waits in
       record { running = one.running; running_is = one.running_is; runs = one.runs }
@@ -151,7 +148,7 @@ module _ (script : Script) (old : gates.GateTable) (store : List StoreEntry) (or
     ]
 
     -- the walk of the program that is running is its own
-    its-next : (running : Running) (runs : IsRunningIn script account r running) → Asks running.walk → next_read running.walk ≡ next
+    its-next : (running : Running) (runs : IsRunningIn script account r running) → AsksForNextVisit running.walk → next_read running.walk ≡ next
     its-next running runs asks =
         next-over free running.walk runs.program (reads_of account r) asks runs.runs.walk
         ∙ ap (next_visit (reads_of account r)) (same-program (same-request running runs))

@@ -1,4 +1,5 @@
 -- The first request without a reply, in the script's order, by the sessions of a core.
+-- Used by `first_unanswered`.
 use Rattle.std.proofs.Common.{◌≡◌, ℕ, ◌<◌, ◌≤◌, ◌==◌, true, false, List, [], length, AllPairs, IsTrue, Some, inl, inr, sym, ap, ◌∙◌, arith}
 use Rattle.std.specs.Prelude.{slice_get}
 use Rattle.std.specs.List.{range_with_len}
@@ -6,7 +7,7 @@ use Rattle.std.proofs.lemmas.Bool.{cases_lt, cases_order, eqb-true, le-ltb, lt-l
 use Rattle.std.proofs.lemmas.List.{get_or_past}
 use Rattle.std.proofs.lemmas.List.FromFn.{length-map-range_with_len}
 use Rattle.std.proofs.lemmas.Option.{none-some, slice_get_within}
-use Rattle.proof_base.proofs.Members.{filter_has}
+use Rattle.weave_data.proofs.Members.{filter_has}
 use Rattle.vector_stamp.specs.declared.clock.Clock.{Clock}
 use Rattle.program_defs.specs.declared.script.Request.{Request}
 use Rattle.program_defs.specs.declared.script.Script.{Script}
@@ -23,7 +24,8 @@ use Rattle.weaver_core.specs.GateTable.{GateTable}
 use Rattle.weaver_core.specs.ShardTable.{ShardTable}
 use Rattle.weaver_core.proofs.CitedLaws.{RequestLaws}
 use Rattle.weaver_core.proofs.BeginDone.{requests-are}
-use Rattle.weaver_core.proofs.Turns.{SessionLaws, at-place, below, get-before, place-of, reply-is}
+use Rattle.weaver_core.proofs.Turns.{SessionLaws, below, place-of, reply-is}
+use Rattle.step_rules.proofs.SessionTurns.{at-place, get-before}
 
 -- of numbers that rise, one at an earlier place, or at the same one, is at most this one
 at-most : (requests : List ℕ) → AllPairs (λ (a b : ℕ). a < b) requests → (i j a : ℕ) → slice_get requests i ≡ Some a → j ≤ i → (b : ℕ) × (slice_get requests j ≡ Some b) × (b ≤ a)

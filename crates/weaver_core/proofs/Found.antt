@@ -1,12 +1,13 @@
 -- The requests of an account's events, by the stamps of all requests.
+-- Used by MarksFound, ProgramStamped and Unordered.
 use Rattle.std.proofs.Common.{◌≡◌, ◌≢◌, ◌⊎◌, ℕ, zero, suc, ◌+◌, ◌<◌, Bool, true, false, cond, ◌&&◌, ◌==◌, List, [], ◌∷◌, length, get_or, Contains, IsTrue, Option, None, Some, inl, inr, refl, sym, ap, subst, ◌∙◌, arith}
 use Rattle.std.specs.Prelude.{◌↔◌, slice_get}
 use Rattle.std.specs.List.{find}
 use Rattle.std.specs.Option.{option_map}
 use Rattle.std.proofs.lemmas.Bool.{and_from, and_parts, both_ways, cases_Bool, cases_eq, eq-eqb, eqb-true, ne_eqb}
 use Rattle.std.proofs.lemmas.Option.{get_or_from_slice_get, none-some, same_Some, slice_get_within}
-use Rattle.proof_base.proofs.Members.{cut_at, find_has, find_lacks, flat_has, has_head, has_none, has_read, has_tail, map_has}
-use Rattle.proof_base.proofs.Ordered.{find_by_key, pairs_cases}
+use Rattle.weave_data.proofs.Members.{cut_at, find_has, find_lacks, flat_has, has_head, has_none, has_read, has_tail, map_has}
+use Rattle.weave_data.proofs.Ordered.{find_by_key, pairs_cases}
 use Rattle.vector_stamp.specs.declared.clock.EventId.{EventId}
 use Rattle.vector_stamp.specs.declared.clock.Stamp.{Stamp}
 use Rattle.vector_stamp.specs.Order.{id_of, same_stamp}

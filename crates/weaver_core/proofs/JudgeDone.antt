@@ -1,10 +1,11 @@
 -- `judge`, by what store and oracle did.
+-- Used by `judge`.
 use Rattle.std.proofs.Common.{◌≡◌, ◌≢◌, ◌⊎◌, ℕ, ◌<◌, ◌^◌, List, [], ◌∷◌, ◌++◌, length, Contains, IsTrue, Option, None, Some, inl, inr, refl, sym, ap, subst, ◌∙◌, arith}
 use Rattle.std.specs.Prelude.{is_some, ◌==◌, IsSome, IsSomeAnd, if◌then◌else◌}
 use Rattle.std.proofs.lemmas.Bool.{eq-eqb}
 use Rattle.std.proofs.lemmas.List.Elements.{All-from_recursion, Contains-append_cases, Contains-get_or}
-use Rattle.proof_base.proofs.Members.{find_lacks, has_flat, has_map, has_read, map_has}
-use Rattle.proof_base.proofs.Places.{all-from}
+use Rattle.weave_data.proofs.Members.{find_lacks, has_flat, has_map, has_read, map_has}
+use Rattle.weave_data.proofs.ListPlaces.{all-from}
 use Rattle.vector_stamp.specs.declared.clock.Clock.{Clock}
 use Rattle.vector_stamp.specs.declared.clock.Stamp.{Stamp}
 use Rattle.vector_stamp.specs.Order.{id_of}

@@ -1,4 +1,5 @@
 -- No transaction is in flight at any gatekeeper of a core.
+-- Used by `none_in_flight`.
 use Rattle.std.proofs.Common.{◌≡◌, ℕ, zero, suc, true, false, not, List, [], ◌∷◌, map, IsTrue, Option, None, Some, is_some, refl, ap}
 use Rattle.std.specs.Prelude.{◌↔◌, slice_index_or}
 use Rattle.std.specs.List.{list_all}

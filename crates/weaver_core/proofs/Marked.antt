@@ -1,11 +1,13 @@
--- The pairs that are found by events, places and marks are those of the account.
+-- The pairs that a report lists are the account's, if each mark (the vertex of a visit, or none of a commit) is right;
+-- an entry of the oracle that a commit asked for has no visit.
+-- Used by MarksFound, ProgramStamped, Replied and Unordered.
 use Rattle.std.proofs.Common.{◌≡◌, ◌≢◌, ℕ, suc, ◌+◌, ◌≤◌, Bool, true, false, List, [], ◌∷◌, ◌++◌, length, Contains, IsTrue, Option, None, Some, inl, inr, refl, sym, ap, subst, ◌∙◌, length-append, arith}
 use Rattle.std.specs.Prelude.{◌↔◌, ◌&&◌, ◌==◌, slice_get, IsSomeAnd, cond}
 use Rattle.std.specs.List.{cons_option, filter_map, find, flat_map, list_any}
 use Rattle.std.specs.Option.{option_and_then, option_map, option_or}
 use Rattle.std.proofs.lemmas.Bool.{and_parts, cases_Bool, cases_eq}
 use Rattle.std.proofs.lemmas.Option.{get_or_from_slice_get, none-some}
-use Rattle.proof_base.proofs.Members.{cut_at, flat_has, has_flat, has_head, has_none, has_tail, only}
+use Rattle.weave_data.proofs.Members.{cut_at, flat_has, has_flat, has_head, has_none, has_tail, only}
 use Rattle.weave_data.specs.declared.name.Name.{Name}
 use Rattle.vector_stamp.specs.declared.clock.Stamp.{Stamp}
 use Rattle.vector_stamp.specs.Order.{id_of, same_stamp}
@@ -28,7 +30,7 @@ use Rattle.weave_entries.specs.declared.shard_log.ShardDeed.{ShardDeed}
 use Rattle.weave_entries.specs.declared.shard_log.ShardDeed.TheVariants.{Arrived, Applied, Visited, Collected}
 use Rattle.weave_entries.specs.declared.store_log.StoreEntry.{StoreEntry}
 use Rattle.weave_entries.specs.GateReplay.{Begun, program_by, programs_of}
-use Rattle.weave_entries.specs.OracleReplay.{pairs_of_entry, settled_entry}
+use Rattle.weave_entries.specs.OracleReplay.{pairs_of_entry, pairs_of_log, settled_entry}
 use Rattle.weave_entries.specs.ShardReplay.{Visit, visit_by, visits_of}
 use Rattle.weave_entries.specs.StoreReplay.{Judgement, commit_by, commits_of, judgements_of}
 use Rattle.weave_account.specs.declared.account.Account.{Account}
@@ -43,6 +45,7 @@ use Rattle.weaver_core.specs.Marks.{IsMarkOf, IsMarkedAs}
 use Rattle.weaver_core.specs.Reporting.{all_pairs_found, pair_found, pairs_before, pairs_found}
 use Rattle.weaver_core.proofs.CanVisit.{commit-judged, inside}
 use Rattle.weaver_core.proofs.Turns.{place-of}
+use Rattle.weave_account.proofs.PlacedPairs.{are-append}
 
 -- Pairs one by one
 
@@ -51,12 +54,6 @@ are-length account [] [] are = refl
 are-length account [] (g ∷ gs) are = absurd are
 are-length account (p ∷ ps) [] are = absurd are
 are-length account (p ∷ ps) (g ∷ gs) are = ap suc (are-length account ps gs are.1)
-
-are-append : (account : Account) (ps qs : List Pair) (gs hs : List Given) → ArePairsOf account ps gs → ArePairsOf account qs hs → ArePairsOf account (ps ++ qs) (gs ++ hs)
-are-append account [] qs [] hs are more = more
-are-append account [] qs (g ∷ gs) hs are more = absurd are
-are-append account (p ∷ ps) qs [] hs are more = absurd are
-are-append account (p ∷ ps) qs (g ∷ gs) hs are more = (are.0, are-append account ps qs gs hs are.1 more)
 
 are-split : (account : Account) (ps qs : List Pair) (gs hs : List Given) → length ps ≤ length gs → length qs ≤ length hs → ArePairsOf account (ps ++ qs) (gs ++ hs) → ArePairsOf account ps gs × ArePairsOf account qs hs
 are-split account [] qs [] hs few less are = (tt, are)
@@ -68,7 +65,7 @@ are-split account (p ∷ ps) qs [] hs few less are = absurd (omega (arith, few))
 are-split account (p ∷ ps) qs (g ∷ gs) hs few less are =
     let rest = are-split account ps qs gs hs (omega (arith, few)) less are.1 in ((are.0, rest.0), rest.1)
 
--- a list of what is found is no longer if less is found
+-- if a search finds something only where another does, it finds at most as much
 filter-fewer : {A B C : Type 0} (f : A → Option B) (g : A → Option C) → ((x : A) → g x ≡ None → f x ≡ None) → (xs : List A) → length (filter_map f xs) ≤ length (filter_map g xs)
 filter-fewer f g fewer [] = omega arith
 filter-fewer {B = B} {C = C} f g fewer (x ∷ xs) = by (f x) (g x) (fewer x) (filter-fewer f g fewer xs)
@@ -88,13 +85,21 @@ module _ (account : Account) where
       by place None none = refl
       by place (Some event) none = absurd (none-some (event, entry.later) (sym none))
 
-  all-fewer : (log : List OracleEntry) → length (flat_map (λ (entry : OracleEntry). placed_by account (settled_entry entry)) log) ≤ length (flat_map (λ (entry : OracleEntry). pairs_of_entry (settled_entry entry)) log)
+  -- the pairs of a log's entries by their places
+  abbrev all-placed : List OracleEntry → List Pair
+  all-placed log = flat_map (λ (entry : OracleEntry). placed_by account (settled_entry entry)) log
+
+  -- the stamps of an entry are begun
+  abbrev HasBegunStamps : SettledEntry → Type 0
+  HasBegunStamps settled = (event : Stamp) → Contains (settled.later ∷ settled.earlier) event → IsBegunStamp account event
+
+  all-fewer : (log : List OracleEntry) → length (all-placed log) ≤ length (pairs_of_log log)
   all-fewer [] = omega arith
   all-fewer (entry ∷ log) =
       let one = placed-fewer (settled_entry entry) in
       let rest = all-fewer log in
-      let a = length-append (placed_by account (settled_entry entry)) (flat_map (λ (one : OracleEntry). placed_by account (settled_entry one)) log) in
-      let b = length-append (pairs_of_entry (settled_entry entry)) (flat_map (λ (one : OracleEntry). pairs_of_entry (settled_entry one)) log) in
+      let a = length-append (placed_by account (settled_entry entry)) (all-placed log) in
+      let b = length-append (pairs_of_entry (settled_entry entry)) (pairs_of_log log) in
       omega (arith, one, rest, a, b)
 
   -- an entry that a visit asked for
@@ -111,20 +116,21 @@ module _ (account : Account) where
         let given : pairs_of_entry settled ≡ (e, settled.later) ∷ [] = λ i. filter_map (λ (place : ℕ). option_map {U = Given} (λ (event : Stamp). (event, settled.later)) (slice_get (marked.earlier_is i) place)) (marked.places_are i) in
         subst (λ (ps : List Pair). ArePairsOf account ps (pairs_of_entry settled)) (sym mine) (subst (λ (gs : List Given). ArePairsOf account (pair ∷ []) gs) (sym given) (marked.is_pair, tt))
 
-    module _ (placed : (settled : SettledEntry) → IsAskedByCommit account settled → ((event : Stamp) → Contains (settled.later ∷ settled.earlier) event → IsBegunStamp account event) → pairs_found request_of account.store None settled ≡ placed_by account settled) where
-      entry-are : (settled : SettledEntry) → ((event : Stamp) → Contains (settled.later ∷ settled.earlier) event → IsBegunStamp account event) → (mark : Option Name) → IsMarkedAs account settled mark → ArePairsOf account (placed_by account settled) (pairs_of_entry settled) → ArePairsOf account (pairs_found request_of account.store mark settled) (pairs_of_entry settled)
+    module _ (placed : (settled : SettledEntry) → IsAskedByCommit account settled → HasBegunStamps settled → pairs_found request_of account.store None settled ≡ placed_by account settled) where
+      entry-are : (settled : SettledEntry) → HasBegunStamps settled → (mark : Option Name) → IsMarkedAs account settled mark → ArePairsOf account (placed_by account settled) (pairs_of_entry settled) → ArePairsOf account (pairs_found request_of account.store mark settled) (pairs_of_entry settled)
       entry-are settled begun None asked are = subst (λ (ps : List Pair). ArePairsOf account ps (pairs_of_entry settled)) (sym (placed settled asked begun)) are
       entry-are settled begun (Some v) marked are = marked-are settled v marked
 
-      pub all-are : (mark : SettledEntry → Option Name) (log : List OracleEntry) → ((entry : OracleEntry) → Contains log entry → (event : Stamp) → Contains ((settled_entry entry).later ∷ (settled_entry entry).earlier) event → IsBegunStamp account event)
+      pub all-are : (mark : SettledEntry → Option Name) (log : List OracleEntry)
+          → ((entry : OracleEntry) → Contains log entry → HasBegunStamps (settled_entry entry))
           → ((entry : OracleEntry) → Contains log entry → IsMarkedAs account (settled_entry entry) (mark (settled_entry entry)))
-          → ArePairsOf account (flat_map (λ (entry : OracleEntry). placed_by account (settled_entry entry)) log) (flat_map (λ (entry : OracleEntry). pairs_of_entry (settled_entry entry)) log)
-          → ArePairsOf account (all_pairs_found request_of account.store mark log) (flat_map (λ (entry : OracleEntry). pairs_of_entry (settled_entry entry)) log)
+          → ArePairsOf account (all-placed log) (pairs_of_log log)
+          → ArePairsOf account (all_pairs_found request_of account.store mark log) (pairs_of_log log)
       all-are mark [] begun marked are = tt
       all-are mark (entry ∷ log) begun marked are =
-          let parts = are-split account (placed_by account (settled_entry entry)) (flat_map (λ (one : OracleEntry). placed_by account (settled_entry one)) log) (pairs_of_entry (settled_entry entry)) (flat_map (λ (one : OracleEntry). pairs_of_entry (settled_entry one)) log)
+          let parts = are-split account (placed_by account (settled_entry entry)) (all-placed log) (pairs_of_entry (settled_entry entry)) (pairs_of_log log)
           (placed-fewer (settled_entry entry)) (all-fewer log) are in
-          are-append account (pairs_found request_of account.store (mark (settled_entry entry)) (settled_entry entry)) (all_pairs_found request_of account.store mark log) (pairs_of_entry (settled_entry entry)) (flat_map (λ (one : OracleEntry). pairs_of_entry (settled_entry one)) log)
+          are-append account (pairs_found request_of account.store (mark (settled_entry entry)) (settled_entry entry)) (all_pairs_found request_of account.store mark log) (pairs_of_entry (settled_entry entry)) (pairs_of_log log)
           (entry-are (settled_entry entry) (begun entry (has_head entry log)) (mark (settled_entry entry)) (marked entry (has_head entry log)) parts.0)
           (all-are mark log (λ one h. begun one (has_tail entry log one h)) (λ one h. marked one (has_tail entry log one h)) parts.1)
 

@@ -1,4 +1,5 @@
 -- The vertices that are found for the entries of the oracle are those of the visits that asked for them.
+-- Used by Unordered.
 use Rattle.std.proofs.Common.{◌≡◌, ◌⊎◌, ℕ, zero, suc, ◌-◌, Bool, true, false, cond, ◌&&◌, ◌==◌, List, [], ◌∷◌, ◌++◌, length, map, take, Contains, IsTrue, Option, None, Some, inl, inr, refl, sym, ap, subst, ◌∙◌, arith}
 use Rattle.std.specs.Prelude.{nat_lt, slice_get, slice_index_or, IsSomeAnd, if◌then◌else◌}
 use Rattle.std.specs.List.{find}
@@ -7,8 +8,8 @@ use Rattle.std.proofs.lemmas.Bool.{and_from, and_parts, cases_Bool, eq-eqb, eqb-
 use Rattle.std.proofs.lemmas.List.Concat.{flat_map-append}
 use Rattle.std.proofs.lemmas.List.Elements.{filter-append}
 use Rattle.std.proofs.lemmas.Option.{get_or_from_slice_get, none-some, same_Some, slice_get-map}
-use Rattle.proof_base.proofs.Members.{any_from, any_has, cut_at, find_has, find_lacks, flat_has, has_cut, has_flat, has_head, has_map, has_none, has_read, has_tail, map_has, only}
-use Rattle.proof_base.proofs.Ordered.{find_by_key}
+use Rattle.weave_data.proofs.Members.{any_from, any_has, cut_at, find_has, find_lacks, flat_has, has_cut, has_flat, has_head, has_map, has_none, has_read, has_tail, map_has, only}
+use Rattle.weave_data.proofs.Ordered.{find_by_key}
 use Rattle.weave_data.specs.Names.{one_name, same_name, shard_of}
 use Rattle.weave_data.specs.declared.name.Name.{Name}
 use Rattle.graph_ops.proofs.Vertices.{itself}
@@ -43,11 +44,11 @@ use Rattle.weave_account.specs.Oracle.{IsAskedByCommit, IsAskedByVisit, seen_las
 use Rattle.weave_account.specs.Shards.{IsRightVisit, ShardFitsAs, update_of}
 use Rattle.weave_account.specs.Store.{Judges}
 use Rattle.weaver_core.specs.Marks.{IsMarkOf, IsMarkedAs, adds_visit, all_visits, counts_by, counts_if, counts_in, first_seen, mark_of, same_visit, was_asked}
-use Rattle.weaver_core.proofs.AtVisits.{last-cases}
 use Rattle.weaver_core.proofs.CanVisit.{commit-judged, inside}
 use Rattle.weaver_core.proofs.Found.{stamp-of-begun}
 use Rattle.weaver_core.proofs.Marked.{begun-looks, find-none, not-both}
 use Rattle.weaver_core.proofs.Turns.{place-of}
+use Rattle.vector_stamp.proofs.Seen.{last-cases}
 
 -- The oracle's rule
 

@@ -1,11 +1,12 @@
 -- `nop`, `deliver`, `apply` and `collect`, by what gatekeepers and shards did.
+-- Used by `apply`, `collect`, `deliver`, `kept`, `next_message` and `nop`.
 use Rattle.std.proofs.Common.{◌≡◌, ℕ, ◌+◌, ◌-◌, ◌<◌, ◌^◌, ◌==◌, Bool, true, cond, List, length, Contains, Option, None, Some, inl, inr, refl, sym, ap, subst, ◌∙◌, arith}
 use Rattle.std.specs.Prelude.{is_some, slice_get, if◌then◌else◌}
 use Rattle.std.specs.Option.{ForSome}
 use Rattle.std.proofs.lemmas.Bool.{cases_Bool}
 use Rattle.std.proofs.lemmas.Option.{none-some}
-use Rattle.proof_base.proofs.Images.{get-has}
-use Rattle.proof_base.proofs.Members.{map_has}
+use Rattle.weave_data.proofs.Images.{get-has}
+use Rattle.weave_data.proofs.Members.{map_has}
 use Rattle.vector_stamp.specs.declared.clock.Clock.{Clock}
 use Rattle.shard_queue.specs.Sent.{sent_as}
 use Rattle.program_defs.specs.Limits.{IsWithinLimits}
@@ -30,7 +31,7 @@ use Rattle.step_rules.specs.Entries.{after_deliver}
 use Rattle.weaver_core.specs.Clients.{ClientTable}
 use Rattle.weaver_core.specs.Cores.{AreOf, MachinesDo, MachinesView, machines_of}
 use Rattle.weaver_core.specs.GateTable.{GateTable, log_at}
-use Rattle.weaver_core.specs.Messages.{AppliesAtShard, DeliversToShard, SendsEmptyMessage, nop_deed}
+use Rattle.weaver_core.specs.Messages.{AppliesAtShard, DeliversToShard, DoesNop, nop_deed}
 use Rattle.weaver_core.specs.ShardTable.{AddsToShard, ShardTable}
 use Rattle.weaver_core.proofs.Resting.{done, gate-frame, gate-gains, rests, same-gates, same-shards, shard-frame, shard-gains}
 
@@ -60,7 +61,7 @@ module _ (script : Script) (old : GateTable) (store : List StoreEntry) (oracle :
   abbrev nop-answer : Bool → StepAnswer
   nop-answer busy = if busy then answer.Busy else answer.Ok
 
-  pub nop-done : (new : GateTable) (g s : ℕ) (a : StepAnswer) → SendsEmptyMessage old new g s a → MachinesDo script (step.Nop g s) before (machines_of new store oracle shards was notices) a
+  pub nop-done : (new : GateTable) (g s : ℕ) (a : StepAnswer) → DoesNop old new g s a → MachinesDo script (step.Nop g s) before (machines_of new store oracle shards was notices) a
   nop-done new g s answer.Ok did =
       let deed = nop_deed g s (log_at old g) in
       done script (step.Nop g s) before _ (ap nop-answer did.1) (ap state-of (gate-gains old store oracle shards was notices new g 0 deed did.0))

@@ -1,4 +1,5 @@
 -- A request without a begin in its session's log has no stamp there, and the other way round.
+-- Used by BegunProgram, Idle, ProgramStamped and Waiting.
 use Rattle.std.proofs.Common.{◌≡◌, ℕ, Bool, true, false, List, [], ◌∷◌, Option, None, Some, refl, sym, ap}
 use Rattle.std.specs.Prelude.{◌||◌, ◌==◌, cond}
 use Rattle.std.specs.List.{find, list_any}

@@ -1,16 +1,17 @@
 -- The stamps that are noted are those with which the requests were begun.
+-- Used by Stamped and Unordered.
 use Rattle.std.proofs.Common.{◌≡◌, ℕ, ◌<◌, Bool, true, false, cond, List, [], ◌∷◌, ◌++◌, length, replicate, get_or, Option, None, Some, inl, inr, refl, sym, ap, ◌∙◌, arith}
 use Rattle.std.specs.Prelude.{◌==◌}
 use Rattle.std.specs.List.{find, flat_map}
 use Rattle.std.specs.Option.{option_map, option_or}
 use Rattle.std.proofs.lemmas.Bool.{cases_eq, eq-eqb, ne_eqb}
 use Rattle.std.proofs.lemmas.List.{get_or-replicate, get_or-set_other, get_or-set_same, length-replicate, length-set}
+use Rattle.weave_data.proofs.Options.{map-or, or_none}
 use Rattle.vector_stamp.specs.declared.clock.Stamp.{Stamp}
 use Rattle.weave_entries.specs.declared.session_log.SessionEntry.{SessionEntry}
 use Rattle.weave_entries.specs.declared.session_log.SessionDeed.{SessionDeed}
 use Rattle.weave_entries.specs.declared.session_log.SessionDeed.TheVariants.{Begun, Replied}
 use Rattle.weave_entries.specs.SessionReplay.{begin_by, begins_in, session_stamp_of}
-use Rattle.shard_node.proofs.Places.{map-or, or_none}
 use Rattle.weaver_core.specs.Clients.{stamp_in}
 use Rattle.weaver_core.specs.Noting.{all_noted, noted, noted_all, noted_by}
 

@@ -1,4 +1,5 @@
 -- A program that has begun and has no reply is the one that is running in its session.
+-- Used by AfterSteps, FinishDone, StepValues and VisitWith.
 use Rattle.std.proofs.Common.{◌≡◌, ℕ, ◌<◌, Bool, true, false, List, Option, None, Some, inl, inr, refl, sym, ap, subst, ◌∙◌}
 use Rattle.std.specs.Prelude.{not, slice_get, if◌then◌else◌}
 use Rattle.std.specs.Option.{option_and_then, option_map}

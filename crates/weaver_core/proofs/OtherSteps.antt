@@ -1,4 +1,5 @@
 -- What is kept after a step that is of no request.
+-- Used by `other_step`.
 use Rattle.std.proofs.Common.{List, [], sym, ap, subst}
 use Rattle.std.specs.Prelude.{slice_index_or}
 use Rattle.program_defs.specs.Limits.{IsWithinLimits}

@@ -1,4 +1,5 @@
 -- The machines of a core, each by itself.
+-- Used by `join` and `split`.
 use Rattle.std.proofs.Common.{◌≡◌, ℕ, ◌<◌, List, [], ◌∷◌, length, map, AllPairs, Option, None, Some, refl, sym, ap, subst, ◌∙◌, arith}
 use Rattle.std.specs.Prelude.{slice_get, slice_index_or}
 use Rattle.std.proofs.lemmas.List.{length-map}
@@ -24,7 +25,8 @@ use Rattle.weaver_core.specs.Splitting.{AreAllByLog, ArePartsFor, AreValuesByLog
 use Rattle.weaver_core.specs.declared.client.Client.{Client}
 use Rattle.weaver_core.specs.declared.split.Split.{Split}
 use Rattle.weaver_core.proofs.Tables.{image-at}
-use Rattle.weaver_core.proofs.Turns.{at-place, place-of}
+use Rattle.weaver_core.proofs.Turns.{place-of}
+use Rattle.step_rules.proofs.SessionTurns.{at-place}
 
 -- the state of parts
 pub state-of-parts : (table : gates.GateTable) (store : List StoreEntry) (oracle : List OracleEntry) (rows : shards.ShardTable) (clients : ClientTable) (notices : List Clock) (split : Split)
@@ -155,29 +157,29 @@ module _ (split : Split) (can : CanBeJoined split) where
           (subst (AreValuesByLog split.script (account_of split) client.log.items) (sym (image-at values_of split.clients.items n client at no_values)) (record { running = mine.running; replies = mine.replies }))
       by {n} None at below = absurd (past split.clients.items n below at)
 
-  module _ (table : gates.GateTable) (rows : shards.ShardTable) (clients : ClientTable) (machines : MachinesView) where
+  module _ (table : gates.GateTable) (rows : shards.ShardTable) (clients : ClientTable) (machines : MachinesView)
+      (is : machines ≡ machines_of table split.store split.oracle rows clients split.notices.items)
+      (table-is : table ≡ record { shards = split.script.shards; logs = map gates.log_of split.gates.items })
+      (rows-are : rows ≡ record { gates = split.script.gates; logs = map shards.log_of split.shards.items })
+      (requests : clients.requests ≡ map requests_in split.clients.items) (logs : clients.logs ≡ map log_of split.clients.items)
+      (values : clients.values ≡ map values_of split.clients.items) where
+    state-is : machines.state ≡ state_of split
+    state-is = ap (λ (m : MachinesView). m.state) is ∙ (λ i. record {
+      account = record { gates = (table-is i).logs; store = split.store; oracle = split.oracle; shards = (rows-are i).logs; sessions = logs i };
+      notices = split.notices.items;
+    })
+
+    are-of : AreOf split.script machines
+    are-of = joined-are machines state-is
+        (ap (λ (m : MachinesView). m.frame.gates) is ∙ ap (λ (t : gates.GateTable). length t.logs) table-is ∙ length-map split.gates.items gates.log_of)
+        (ap (λ (m : MachinesView). m.frame.shards) is ∙ ap (λ (t : gates.GateTable). t.shards) table-is)
+        (ap (λ (m : MachinesView). m.frame.senders) is ∙ ap (λ (t : shards.ShardTable). t.gates) rows-are)
+        (ap (λ (m : MachinesView). m.frame.requests) is ∙ requests)
+
+    values-kept : AreAllByLog split.script machines.state.account machines.values
+    values-kept = subst (λ (one : CoreState). AreAllByLog split.script one.account machines.values) (sym state-is)
+        (subst (AreAllByLog split.script (account_of split)) (sym (ap (λ (m : MachinesView). m.values) is ∙ values)) joined-values)
+
     -- so the joined machines keep what a core keeps
-    pub joined : machines ≡ machines_of table split.store split.oracle rows clients split.notices.items
-        → table ≡ record { shards = split.script.shards; logs = map gates.log_of split.gates.items }
-        → rows ≡ record { gates = split.script.gates; logs = map shards.log_of split.shards.items }
-        → clients.requests ≡ map requests_in split.clients.items → clients.logs ≡ map log_of split.clients.items
-        → clients.values ≡ map values_of split.clients.items
-        → (machines.state ≡ state_of split) × (AreOf split.script machines × AreAllByLog split.script machines.state.account machines.values)
-    joined is table-is rows-are requests logs values = (state, (are, kept))
-      where
-        state : machines.state ≡ state_of split
-        state = ap (λ (m : MachinesView). m.state) is ∙ (λ i. record {
-          account = record { gates = (table-is i).logs; store = split.store; oracle = split.oracle; shards = (rows-are i).logs; sessions = logs i };
-          notices = split.notices.items;
-        })
-
-        are : AreOf split.script machines
-        are = joined-are machines state
-            (ap (λ (m : MachinesView). m.frame.gates) is ∙ ap (λ (t : gates.GateTable). length t.logs) table-is ∙ length-map split.gates.items gates.log_of)
-            (ap (λ (m : MachinesView). m.frame.shards) is ∙ ap (λ (t : gates.GateTable). t.shards) table-is)
-            (ap (λ (m : MachinesView). m.frame.senders) is ∙ ap (λ (t : shards.ShardTable). t.gates) rows-are)
-            (ap (λ (m : MachinesView). m.frame.requests) is ∙ requests)
-
-        kept : AreAllByLog split.script machines.state.account machines.values
-        kept = subst (λ (one : CoreState). AreAllByLog split.script one.account machines.values) (sym state)
-            (subst (AreAllByLog split.script (account_of split)) (sym (ap (λ (m : MachinesView). m.values) is ∙ values)) joined-values)
+    pub joined : (machines.state ≡ state_of split) × (AreOf split.script machines × AreAllByLog split.script machines.state.account machines.values)
+    joined = (state-is, (are-of, values-kept))

@@ -1,10 +1,12 @@
 -- The pairs that are found by events and places are those of the account.
+-- Used by Unordered.
 use Rattle.std.proofs.Common.{◌≡◌, ℕ, List, [], ◌∷◌, Contains, Option, None, Some, refl, sym, ap, ◌∙◌}
 use Rattle.std.specs.Prelude.{slice_get}
 use Rattle.std.specs.List.{cons_option, filter_map, find}
 use Rattle.std.specs.Option.{option_and_then, option_map, option_or}
-use Rattle.proof_base.proofs.Images.{get-has}
-use Rattle.proof_base.proofs.Members.{has_head, has_tail}
+use Rattle.weave_data.proofs.Images.{get-has}
+use Rattle.weave_data.proofs.Members.{has_head, has_tail}
+use Rattle.weave_data.proofs.Options.{or_none}
 use Rattle.weave_data.specs.declared.name.Name.{Name}
 use Rattle.vector_stamp.specs.declared.clock.Stamp.{Stamp}
 use Rattle.vector_stamp.specs.Order.{same_stamp}
@@ -14,7 +16,6 @@ use Rattle.weave_entries.specs.StoreReplay.{Judgement, judgement_of, judgements_
 use Rattle.weave_account.specs.declared.account.Account.{Account}
 use Rattle.weave_account.specs.Account.{IsBegunStamp}
 use Rattle.weave_account.specs.PairsByPlace.{placed_by, placed_pair, request_stamped, vertex_asked, vertex_visited}
-use Rattle.shard_node.proofs.Places.{or_none}
 use Rattle.weaver_core.specs.Reporting.{asked_by, asked_in, pairs_before, pairs_found}
 
 none-left : {A B : Type 0} (f : A → Option B) → ((x : A) → f x ≡ None) → (xs : List A) → filter_map f xs ≡ []

@@ -1,11 +1,12 @@
 -- A program that has a stamp was begun at its gatekeeper, with that stamp.
+-- Used by OpenRuns.
 use Rattle.std.proofs.Common.{◌≡◌, ℕ, true, List, [], Contains, IsTrue, Option, None, Some, refl, sym, ap, subst, ◌∙◌}
 use Rattle.std.specs.Prelude.{◌==◌, ◌&&◌}
 use Rattle.std.specs.List.{find}
 use Rattle.std.proofs.lemmas.Bool.{and_parts, both_ways, eq-eqb, eqb-true}
 use Rattle.std.proofs.lemmas.Option.{get_or_from_slice_get}
-use Rattle.proof_base.proofs.Members.{any_from, cut_at, find_has, flat_has, has_flat, has_none, only}
-use Rattle.proof_base.proofs.Ordered.{find_by_key}
+use Rattle.weave_data.proofs.Members.{any_from, cut_at, find_has, flat_has, has_flat, has_none, only}
+use Rattle.weave_data.proofs.Ordered.{find_by_key}
 use Rattle.vector_stamp.specs.declared.clock.Stamp.{Stamp}
 use Rattle.program_defs.specs.Works.{is_change, is_look}
 use Rattle.program_defs.specs.declared.script.Request.{Request}

@@ -1,4 +1,5 @@
 -- The logs after a step of a request.
+-- Used by AfterSteps, StepStays and StepValues.
 use Rattle.std.proofs.Common.{◌≡◌, ◌≢◌, ◌⊎◌, ℕ, ◌<◌, Bool, true, false, List, [], ◌∷◌, ◌++◌, length, None, Some, inl, inr, refl, sym, ap, ◌∙◌}
 use Rattle.std.specs.Prelude.{◌||◌, ◌==◌, slice_index_or, slice_set, cond, if◌then◌else◌}
 use Rattle.std.specs.List.{find, list_any}

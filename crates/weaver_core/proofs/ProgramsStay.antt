@@ -1,4 +1,5 @@
 -- What is kept of the programs stays as the logs say, while other logs go on.
+-- Used by AfterSteps, OtherSteps, ProgramsSet, StepStays, StepValues, ValuesStay and crate workers_account.
 use Rattle.std.proofs.Common.{◌≡◌, ℕ, ◌+◌, ◌<◌, Bool, true, false, List, [], ◌∷◌, ◌++◌, length, filter, IsTrue, Option, None, Some, inl, inr, refl, sym, ap, subst, ◌∙◌, arith}
 use Rattle.std.specs.Prelude.{◌==◌, if◌then◌else◌, cond}
 use Rattle.std.specs.List.{find}

@@ -1,4 +1,5 @@
 -- A request that has its reply was sent or finished, and a transaction was judged.
+-- Used by ValuesStay and crates weaver_top and workers_account.
 use Rattle.std.proofs.Common.{◌≡◌, ℕ, true, false, List, [], ◌∷◌, ◌++◌, Contains, IsTrue, Option, None, Some, refl, sym, ap, subst, ◌∙◌}
 use Rattle.std.specs.Prelude.{◌==◌, ◌&&◌}
 use Rattle.std.specs.List.{flat_map}
@@ -6,9 +7,9 @@ use Rattle.std.proofs.lemmas.Bool.{and_parts, eqb-true}
 use Rattle.std.proofs.lemmas.List.Concat.{flat_map-append}
 use Rattle.std.proofs.lemmas.List.Elements.{Contains-append_left}
 use Rattle.std.proofs.lemmas.Option.{get_or_from_slice_get, same_Some}
-use Rattle.proof_base.proofs.Members.{any_has, cut_at, flat_has, has_none, only}
-use Rattle.proof_base.proofs.Numbers.{has-in}
-use Rattle.proof_base.proofs.Ordered.{find_by_key}
+use Rattle.weave_data.proofs.Members.{any_has, cut_at, flat_has, has_none, only}
+use Rattle.weave_data.proofs.Numbers.{has-in}
+use Rattle.weave_data.proofs.Ordered.{find_by_key}
 use Rattle.program_defs.specs.Works.{is_change, is_look}
 use Rattle.program_defs.specs.declared.script.Request.{Request}
 use Rattle.program_defs.specs.declared.script.Script.{Script}
@@ -33,7 +34,7 @@ use Rattle.weaver_core.specs.Staying.{StayLaws}
 use Rattle.weaver_core.proofs.Marked.{no-look}
 use Rattle.weaver_core.proofs.Turns.{place-of}
 
-module _ (stay : StayLaws) (script : Script) (account : Account) (is : IsAccount script account) where
+module _ (script : Script) (account : Account) (is : IsAccount script account) where
   reply-ended : (deed : SessionDeed) (r : ℕ) → Contains (reply_by deed) r → RepliesAs account deed → IsTrue (is_ended account r)
   reply-ended (session.Begun q stamp) r h right = absurd (has_none r h)
   reply-ended (session.Replied q) r h right = subst (λ k. IsTrue (is_ended account k)) (only q r h) right
@@ -47,6 +48,7 @@ module _ (stay : StayLaws) (script : Script) (account : Account) (is : IsAccount
       subst (λ k. IsTrue (is_ended account k)) (eqb-true found.0 r found.2)
       (reply-ended from.0.deed found.0 from.2 (is.sessions.replies number place.before from.0 place.after place.is))
 
+module _ (stay : StayLaws) (script : Script) (account : Account) (is : IsAccount script account) where
   -- a begun program is one of the script, at its gatekeeper
   pub record IsProgramBegun (home r : ℕ) : Type 0 where
     pub request : Request

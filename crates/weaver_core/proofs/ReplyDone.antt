@@ -1,4 +1,5 @@
 -- `reply` of a transaction, by what the sessions did.
+-- Used by `reply`.
 use Rattle.std.proofs.Common.{◌≡◌, ℕ, Bool, true, false, not, List, [], Contains, IsTrue, Option, Some, refl, sym, ap, subst, ◌∙◌, arith}
 use Rattle.std.specs.Prelude.{◌&&◌, ◌||◌, ◌==◌, if◌then◌else◌}
 use Rattle.std.proofs.lemmas.Option.{same_Some}

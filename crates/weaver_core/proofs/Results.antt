@@ -1,4 +1,5 @@
 -- What follows from a clause on a result, for each value that it can have.
+-- Used by `apply`, `apply_in`, `arrive`, `begin`, `begin_change`, `begin_in`, `collect`, `deliver` and 22 more.
 use Rattle.std.proofs.Common.{◌≡◌, ℕ, ◌<◌, ◌≤◌, not, nat_lt, Result, Ok, Err, IfOk, IfErr, OnOk, OnErr, refl, ap}
 use Rattle.std.proofs.lemmas.Bool.{le-ltb, lt-ltb}
 use Rattle.gatekeeper.specs.Answers.{IsRefusedWhere}

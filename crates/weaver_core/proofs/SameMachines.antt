@@ -1,4 +1,5 @@
 -- Machines of which only the values of the sessions differ.
+-- Used by `begin_change`, `begin_program`, `other_step`, `reply_to_change`, `reply_to_program`, `step` and 2 more.
 use Rattle.std.proofs.Common.{◌≡◌, ℕ, zero, suc, ◌<◌, List, [], ◌∷◌, length, Option, refl, sym, ap, subst, ◌∙◌}
 use Rattle.std.specs.Prelude.{slice_set, Result, OnErr}
 use Rattle.std.proofs.lemmas.List.{get_or-set_same, set-get_or}

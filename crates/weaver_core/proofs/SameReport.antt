@@ -1,4 +1,5 @@
 -- What is said of a report's replies and pairs is so of each report that has the same ones.
+-- Used by `report`.
 use Rattle.std.proofs.Common.{◌≡◌, List, length, map, subst}
 use Rattle.std.specs.List.{AllByRecursion, range_with_len}
 use Rattle.report_rules.specs.declared.report.Pair.{Pair}

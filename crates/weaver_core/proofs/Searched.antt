@@ -1,4 +1,5 @@
 -- A binary search among replies of rising requests.
+-- Used by `reply`.
 use Rattle.std.proofs.Common.{◌≡◌, ◌≢◌, ℕ, ◌<◌, ◌≤◌, List, AllPairs, Contains, Ok, Err, length, inl, inr, refl, sym, ap, subst, ◌∙◌, arith}
 use Rattle.std.specs.Prelude.{slice_index_or}
 use Rattle.std.specs.Ordering.{nat_cmp, ordering_index}
@@ -8,7 +9,7 @@ use Rattle.std.specs.List.Sorted.{IsBinarySearchResult, IsPartitionPoint, IsSear
 use Rattle.std.specs.Cmp.{ranked}
 use Rattle.std.proofs.lemmas.Bool.{cases_lt}
 use Rattle.std.proofs.lemmas.List.{get_or_default}
-use Rattle.proof_base.proofs.Ordered.{pairs_placed}
+use Rattle.weave_data.proofs.Ordered.{pairs_placed}
 use Rattle.report_rules.specs.declared.report.Reply.{Reply}
 
 -- what an answer says

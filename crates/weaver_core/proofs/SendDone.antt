@@ -1,4 +1,5 @@
 -- `send`, by what the gatekeepers did.
+-- Used by `send`.
 use Rattle.std.proofs.Common.{◌≡◌, ◌⊎◌, ℕ, List, Option, None, Some, inl, inr, refl, sym, ap, ◌∙◌}
 use Rattle.std.specs.Prelude.{is_some, if◌then◌else◌}
 use Rattle.vector_stamp.specs.declared.clock.Clock.{Clock}
@@ -15,7 +16,7 @@ use Rattle.weave_entries.specs.Sending.{messages_of}
 use Rattle.weave_entries.specs.StoreReplay.{Judgement}
 use Rattle.weave_account.specs.declared.account.Account.{Account}
 use Rattle.step_rules.specs.Answers.{answer_of_send}
-use Rattle.step_rules.specs.CoreState.{CoreState, with_gate_deed}
+use Rattle.step_rules.specs.CoreState.{with_gate_deed}
 use Rattle.step_rules.specs.Entries.{after_send, judgement_in_flight}
 use Rattle.weaver_core.specs.Clients.{ClientTable}
 use Rattle.weaver_core.specs.Cores.{AreOf, MachinesDo, MachinesView, machines_of}
@@ -31,9 +32,6 @@ module _ (script : Script) (old : GateTable) (store : List StoreEntry) (oracle :
   abbrev account : Account
   account = before.state.account
 
-  abbrev state-of : Account → CoreState
-  state-of all = record { account = all; notices = notices }
-
   sent-done : IsFlightSent old new store g → MachinesDo script (step.Send g) before (machines_of new store oracle shards was notices) answer.Ok
   sent-done did =
       let flight = did.flight in
@@ -45,7 +43,7 @@ module _ (script : Script) (old : GateTable) (store : List StoreEntry) (oracle :
       ap (after_send script account g (Some flight)) (sym did.is_judged) ∙ ap (λ (o : Option Begun). after_send script account g o (judgement_in_flight account o)) (sym did.flies) in
       done script (step.Send g) before _
       (ap (answer_of_send account) did.flies ∙ ap (λ (o : Option Judgement). if is_some o then answer.Ok else answer.Idle) did.is_judged)
-      (ap state-of (gate-gains old store oracle shards was notices new g flight.author deed did.adds ∙ by-script ∙ looked-up))
+      (ap (λ (all : Account). record { account = all; notices = notices }) (gate-gains old store oracle shards was notices new g flight.author deed did.adds ∙ by-script ∙ looked-up))
       (gate-frame old store oracle shards was notices new g flight.author deed did.adds) tt
 
   idle-is : (flight_of (log_at old g) ≡ None) ⊎ IsUnjudged old store g → answer_of_send account (flight_of (log_at old g)) ≡ answer.Idle

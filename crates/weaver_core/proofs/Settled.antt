@@ -1,4 +1,5 @@
 -- The oracle's log, by what a judge's log has more; and what a look-up of a judgement says.
+-- Used by `is_judged`, `judge_in`, `send_in` and `state_of_begun`.
 use Rattle.std.proofs.Common.{◌≡◌, ℕ, true, false, List, [], ◌∷◌, ◌++◌, map, Option, None, Some, is_some, refl, sym, ap, ◌∙◌}
 use Rattle.std.specs.Option.{option_map}
 use Rattle.std.proofs.lemmas.List.{map-append}
@@ -46,19 +47,20 @@ none-of None none = refl
 none-of (Some x) none = absurd (let e : true ≡ false = none in cc)
 
 module _ (script : Script) (gates : GateTable) (store then_store : List StoreEntry) (oracle then_oracle : List OracleEntry) (home : ℕ)
-    (flight : Begun) (ops : List Op) (verdict : Verdict) where
+    (flight : Begun) (ops : List Op) (verdict : Verdict) (flies : flight_of (log_at gates home) ≡ Some flight)
+    (unjudged : judgement_of flight.request store ≡ None) (ops-are : ops ≡ ops_in_flight script flight)
+    (verdict-is : verdict ≡ verdict_at (pairs_of_log oracle) store flight.stamp ops) where
+  on-flight : verdict ≡ verdict_on_flight script store oracle flight
+  on-flight = verdict-is ∙ ap (verdict_at (pairs_of_log oracle) store flight.stamp) ops-are
+
   -- a verdict on the flight, by the operations that were handed in
-  pub judged-now : flight_of (log_at gates home) ≡ Some flight → judgement_of flight.request store ≡ None → ops ≡ ops_in_flight script flight
-      → verdict ≡ verdict_at (pairs_of_log oracle) store flight.stamp ops
-      → then_store ≡ store ++ judged_entry flight.author flight.request flight.stamp ops store verdict ∷ []
+  pub judged-now : then_store ≡ store ++ judged_entry flight.author flight.request flight.stamp ops store verdict ∷ []
       → then_oracle ≡ oracle ++ settled_if verdict (entries_of_settling flight.author (pairs_of_log oracle) (asked_at store flight.stamp ops) flight.stamp)
       → IsJudgedNow script gates store then_store oracle then_oracle home
-  judged-now flies unjudged ops-are verdict-is store-is oracle-is =
-      let on-flight : verdict ≡ verdict_on_flight script store oracle flight = verdict-is ∙ ap (verdict_at (pairs_of_log oracle) store flight.stamp) ops-are in
-      record {
-        flight = flight;
-        flies = flies;
-        unjudged = unjudged;
-        store_is = store-is ∙ (λ i. store ++ judged_entry flight.author flight.request flight.stamp (ops-are i) store (on-flight i) ∷ []);
-        oracle_is = oracle-is ∙ (λ i. oracle ++ settled_if (on-flight i) (entries_of_settling flight.author (pairs_of_log oracle) (asked_at store flight.stamp (ops-are i)) flight.stamp));
-      }
+  judged-now store-is oracle-is = record {
+    flight = flight;
+    flies = flies;
+    unjudged = unjudged;
+    store_is = store-is ∙ (λ i. store ++ judged_entry flight.author flight.request flight.stamp (ops-are i) store (on-flight i) ∷ []);
+    oracle_is = oracle-is ∙ (λ i. oracle ++ settled_if (on-flight i) (entries_of_settling flight.author (pairs_of_log oracle) (asked_at store flight.stamp (ops-are i)) flight.stamp));
+  }

@@ -1,10 +1,12 @@
 -- The stamps of the sessions' logs are those of the account.
+-- Used by Unordered.
 use Rattle.std.proofs.Common.{◌≡◌, ◌≢◌, ℕ, zero, suc, ◌<◌, true, List, [], ◌∷◌, length, get_or, Contains, Option, None, Some, refl, sym, ap, subst, ◌∙◌, arith}
 use Rattle.std.specs.Prelude.{◌==◌}
 use Rattle.std.specs.List.{find, range_with_len}
 use Rattle.std.specs.Option.{option_map, option_or}
 use Rattle.std.proofs.lemmas.Bool.{eqb-true}
-use Rattle.proof_base.proofs.Members.{filter_has, find_has, has_map}
+use Rattle.weave_data.proofs.Members.{filter_has, find_has, has_map}
+use Rattle.weave_data.proofs.Options.{or_none}
 use Rattle.program_defs.specs.declared.script.Request.{Request}
 use Rattle.program_defs.specs.declared.script.Script.{Script}
 use Rattle.report_rules.specs.Lookups.{is_some_and, request_at}
@@ -15,11 +17,10 @@ use Rattle.weave_account.specs.declared.account.Account.{Account}
 use Rattle.weave_account.specs.Account.{session_log, stamp_of}
 use Rattle.weave_account.specs.IsAccount.{IsAccount}
 use Rattle.weave_account.specs.Sessions.{requests_of_session}
-use Rattle.shard_node.proofs.Places.{or_none}
 use Rattle.weaver_core.specs.Clients.{stamp_in}
-use Rattle.weaver_core.proofs.CanVisit.{in-take}
 use Rattle.weaver_core.proofs.Noting.{stamp-in-more}
 use Rattle.weaver_core.proofs.Turns.{SessionLaws}
+use Rattle.step_rules.proofs.VisitLogs.{in-take}
 
 -- no log has a begin of the request
 none-in : (logs : List (List SessionEntry)) (r : ℕ) → ((s : ℕ) → session_stamp_of r (get_or logs s []) ≡ None) → stamp_in logs r ≡ None

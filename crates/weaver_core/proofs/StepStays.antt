@@ -1,4 +1,5 @@
 -- What each step of a request leaves of others.
+-- Used by AfterSteps and VisitWith.
 use Rattle.std.proofs.Common.{◌≡◌, ◌≢◌, ℕ, ◌<◌, Bool, true, false, List, [], ◌∷◌, ◌++◌, length, filter, Option, None, Some, inl, inr, refl, sym, ap, subst, ◌∙◌, arith}
 use Rattle.std.specs.Prelude.{◌==◌, slice_index_or, slice_set, if◌then◌else◌}
 use Rattle.std.specs.List.{flat_map}

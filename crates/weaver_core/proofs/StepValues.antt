@@ -1,4 +1,5 @@
 -- The values of the sessions after each step of a request.
+-- Used by AfterSteps and VisitWith.
 use Rattle.std.proofs.Common.{◌≡◌, ◌≢◌, ℕ, ◌-◌, ◌<◌, ◌≤◌, Bool, true, false, List, [], ◌∷◌, ◌++◌, Contains, IsTrue, Option, None, Some, inl, inr, refl, sym, ap, subst, ◌∙◌, arith}
 use Rattle.std.specs.Prelude.{◌==◌, ◌&&◌, not, IsSomeAnd, slice_get, slice_set, if◌then◌else◌}
 use Rattle.std.specs.List.{list_any}
@@ -8,8 +9,8 @@ use Rattle.std.proofs.lemmas.List.{append-nil, map-append, set-get_or}
 use Rattle.std.proofs.lemmas.List.Concat.{flat_map-append}
 use Rattle.std.proofs.lemmas.List.Elements.{Contains-append_cases}
 use Rattle.std.proofs.lemmas.Option.{none-some, same_Some}
-use Rattle.proof_base.proofs.Entries.{each_last}
-use Rattle.proof_base.proofs.Members.{any_from, has_last, only}
+use Rattle.weave_data.proofs.Entries.{each_last}
+use Rattle.weave_data.proofs.Members.{any_from, has_last, only}
 use Rattle.vector_stamp.specs.declared.clock.Stamp.{Stamp}
 use Rattle.weave_data.specs.declared.name.Name.{Name}
 use Rattle.graph_ops.specs.Operations.{State}
@@ -47,9 +48,10 @@ use Rattle.weaver_core.specs.declared.walks.Running.{Running}
 use Rattle.weaver_core.proofs.OpenRuns.{begun-as}
 use Rattle.weaver_core.proofs.ProgramsStay.{StaysAt}
 use Rattle.weaver_core.proofs.ProgramsSet.{stamp-replied}
-use Rattle.weaver_core.proofs.Turns.{Rule, place-of, reply-is, requests-same}
+use Rattle.weaver_core.proofs.Turns.{Rule, place-of, reply-is}
 use Rattle.weaver_core.proofs.ValuesStay.{if-program, replies-stay, values-set}
 use Rattle.weaver_core.proofs.Waiting.{last-waits, none-waits, open-waits, session-laws, stamp-waits, waits-more}
+use Rattle.step_rules.proofs.SessionTurns.{requests-same}
 
 few-replied : (session : SessionState) → replied_count session ≤ session.begun
 few-replied s = by s.waits

@@ -1,10 +1,11 @@
 -- Lists of which one element is set, or to which one is added, and their images.
+-- Used by `apply`, `arrive`, `author`, `begin`, `begun`, `collect`, `fetch`, `finish` and 26 more.
 use Rattle.std.proofs.Common.{◌≡◌, ◌⊎◌, ℕ, zero, suc, ◌+◌, ◌<◌, List, [], ◌∷◌, ◌++◌, length, map, replicate, get_or, Some, inl, inr, refl, sym, ap, subst, ◌∙◌, arith}
 use Rattle.std.specs.Prelude.{slice_get, slice_set}
 use Rattle.std.proofs.lemmas.Bool.{cases_eq}
 use Rattle.std.proofs.lemmas.List.{get_or-map, length-map, map-append, map-set, replicate-append-replicate, set-get_or}
 use Rattle.std.proofs.lemmas.Option.{get_or_from_slice_get, slice_get_read, slice_get_within}
-use Rattle.shard_node.proofs.Places.{get_set_here, get_set_other}
+use Rattle.weave_data.proofs.Lists.{get_set_here, get_set_other}
 
 -- One element
 

@@ -1,23 +1,24 @@
 -- What a session's log says of each of its requests, by its state and by its last entry.
-use Rattle.std.proofs.Common.{◌≡◌, ℕ, zero, suc, ◌+◌, ◌-◌, ◌<◌, ◌≤◌, Bool, true, false, not, List, [], ◌∷◌, ◌++◌, length, take, map, AllPairs, Contains, IsTrue, Option, None, Some, inl, inr, refl, sym, ap, subst, ◌∙◌, arith}
+-- Used by `first_unanswered`, `is_open`, `standing`, `unordered`, BegunProgram, 14 more and crate weaver_workers.
+use Rattle.std.proofs.Common.{◌≡◌, ℕ, ◌+◌, ◌-◌, ◌<◌, ◌≤◌, Bool, true, false, not, List, [], ◌∷◌, ◌++◌, length, take, map, AllPairs, Contains, IsTrue, Option, None, Some, inl, inr, refl, sym, ap, subst, ◌∙◌, arith}
 use Rattle.std.specs.Prelude.{nat_le, nat_lt, slice_get, ◌&&◌, ◌↔◌, if◌then◌else◌}
 use Rattle.std.proofs.lemmas.Bool.{and_from, and_parts, cases_Bool, cases_lt, cases_order, eq-eqb, le-leb, le-ltb, lt-leb, lt-ltb, ltb-false, ltb-true, ne_eqb, not-true, not_from_false}
-use Rattle.std.proofs.lemmas.List.Sums.{fold-append}
-use Rattle.std.proofs.lemmas.Option.{get_or_from_slice_get, none-some, same_Some, slice_get-get_or, slice_get_within}
-use Rattle.proof_base.proofs.Ends.{by_last}
-use Rattle.proof_base.proofs.Entries.{each_last}
-use Rattle.proof_base.proofs.Lists.{get-here, length-step}
-use Rattle.proof_base.proofs.Members.{any_from, any_has, has_head, has_none, has_read, has_tail}
-use Rattle.proof_base.proofs.Ordered.{pairs_placed}
+use Rattle.std.proofs.lemmas.Option.{none-some, same_Some, slice_get-get_or}
+use Rattle.weave_data.proofs.Ends.{by_last}
+use Rattle.weave_data.proofs.Entries.{each_last}
+use Rattle.weave_data.proofs.Lists.{get-here, length-step}
+use Rattle.weave_data.proofs.Members.{any_from, any_has}
+use Rattle.weave_data.proofs.Ordered.{pairs_placed}
 use Rattle.vector_stamp.specs.declared.clock.Stamp.{Stamp}
 use Rattle.weave_entries.specs.declared.session_log.SessionEntry.{SessionEntry}
 use Rattle.weave_entries.specs.declared.session_log.SessionDeed.{SessionDeed}
 use Rattle.weave_entries.specs.declared.session_log.SessionDeed.TheVariants.{Begun, Replied}
-use Rattle.weave_entries.specs.SessionReplay.{FitsSession, IsSessionLog, RepliesToLast, SessionState, begins_in, has_begun_in, has_reply_in, replied_count, replied_in, session_after, session_of, session_start}
+use Rattle.weave_entries.specs.SessionReplay.{FitsSession, IsSessionLog, RepliesToLast, SessionState, begins_in, has_begun_in, has_reply_in, replied_count, replied_in, session_after, session_of}
 use Rattle.report_rules.specs.Lookups.{is_some_and}
 use Rattle.step_rules.specs.Requests.{waits_before}
 use Rattle.weaver_core.specs.Clients.{IsInTurn, begun_by_last, is_begin_of, is_open_in, last_entry, open_by_last, request_by, standing_of}
 use Rattle.weaver_core.specs.declared.client.Standing.TheVariants.{Twice, Early, Next}
+use Rattle.step_rules.proofs.SessionTurns.{get-before, at-place, get-take, one-more, requests-same, take-get, waits-begun}
 
 -- the laws of weave_entries on sessions' logs
 pub record SessionLaws : Type 0 where
@@ -29,30 +30,6 @@ pub record SessionLaws : Type 0 where
   pub replied_tested : (request : ℕ) (log : List SessionEntry) → IsTrue (has_reply_in request log) ↔ Contains (replied_in log) request
 
 -- Places in a list
-
-take-get : {A : Type 0} (n : ℕ) (xs : List A) (x : A) → Contains (take n xs) x → (i : ℕ) × (i < n) × (slice_get xs i ≡ Some x)
-take-get zero xs x h = absurd (has_none x h)
-take-get (suc n) [] x h = absurd (has_none x h)
-take-get (suc n) (y ∷ xs) x h = elim (has_read y (take n xs) x h) [
-  | inl same ↦ (zero, omega arith, ap Some same)
-  | inr more ↦ (let rest = take-get n xs x more in let less = rest.1 in (suc rest.0, omega (arith, less), rest.2))
-]
-
-get-take : {A : Type 0} (n : ℕ) (xs : List A) (i : ℕ) (x : A) → i < n → slice_get xs i ≡ Some x → Contains (take n xs) x
-get-take zero xs i x less e = absurd (omega (arith, less))
-get-take (suc n) [] i x less e = absurd (none-some x e)
-get-take (suc n) (y ∷ xs) zero x less e = let same : y ≡ x = cc in subst (λ z. Contains (y ∷ take n xs) z) same (has_head y (take n xs))
-get-take (suc n) (y ∷ xs) (suc i) x less e = has_tail y (take n xs) x (get-take n xs i x (omega (arith, less)) e)
-
-pub get-before : {A : Type 0} (xs : List A) (i j : ℕ) (x : A) → slice_get xs i ≡ Some x → j < i → (y : A) × (slice_get xs j ≡ Some y)
-get-before [] i j x e less = absurd (none-some x e)
-get-before (z ∷ xs) zero j x e less = absurd (omega (arith, less))
-get-before (z ∷ xs) (suc i) zero x e less = (z, refl)
-get-before (z ∷ xs) (suc i) (suc j) x e less = get-before xs i j x e (omega (arith, less))
-
--- what is at a place is a member; it unfolds to its place
-abbrev pub at-place : {A : Type 0} (xs : List A) (i : ℕ) (x : A) → slice_get xs i ≡ Some x → Contains xs x
-at-place xs i x e = (i, slice_get_within xs i x e, get_or_from_slice_get xs i x x e)
 
 -- a member has a place
 pub place-of : {A : Type 0} (xs : List A) (x : A) → Contains xs x → (i : ℕ) × (slice_get xs i ≡ Some x)
@@ -86,25 +63,6 @@ module _ (requests : List ℕ) (rise : AllPairs (λ (a b : ℕ). a < b) requests
 
 -- The state at the end
 
-module _ (requests : List ℕ) where
-  pub one-more : (log : List SessionEntry) (entry : SessionEntry) → session_of requests (log ++ entry ∷ []) ≡ session_after (session_of requests log) entry.deed
-  one-more log entry = fold-append (λ session (e : SessionEntry). session_after session e.deed) (session_start requests) log (entry ∷ [])
-
-  pub requests-same : (log : List SessionEntry) → (session_of requests log).requests ≡ requests
-  requests-same = by_last (λ log. (session_of requests log).requests ≡ requests) refl (λ log entry so. ap (λ (session : SessionState). session.requests) (one-more log entry) ∙ by-deed entry.deed (session_of requests log) ∙ so)
-    where
-      by-deed : (deed : SessionDeed) (session : SessionState) → (session_after session deed).requests ≡ session.requests
-      by-deed (Begun r stamp) session = refl
-      by-deed (Replied r) session = refl
-
-  waits-begun : (log : List SessionEntry) → (session_of requests log).waits ≡ true → 1 ≤ (session_of requests log).begun
-  waits-begun = by_last (λ log. (session_of requests log).waits ≡ true → 1 ≤ (session_of requests log).begun) (λ waits. cc)
-      (λ log entry so. subst (λ (session : SessionState). session.waits ≡ true → 1 ≤ session.begun) (sym (one-more log entry)) (by-deed entry.deed (session_of requests log)))
-    where
-      by-deed : (deed : SessionDeed) (session : SessionState) → (session_after session deed).waits ≡ true → 1 ≤ (session_after session deed).begun
-      by-deed (Begun r stamp) session waits = omega arith
-      by-deed (Replied r) session waits = cc
-
 -- whether a deed begins a request
 abbrev pub is_begin : SessionDeed → Bool
 is_begin (Begun r stamp) = true
@@ -128,7 +86,7 @@ ends-so requests log (Replied q) fits =
     let state = session_of requests log in
     record { some = waits-begun requests log fits.waits; at = ap (λ rs. slice_get rs (state.begun - 1)) (sym (requests-same requests log)) ∙ fits.last; waits = refl }
 
--- so it is with the last entry of a session's log
+-- this holds with the last entry of a session's log
 pub ends-with : (number : ℕ) (requests : List ℕ) (log : List SessionEntry) → IsSessionLog number requests log → (entry : SessionEntry) → last_entry log ≡ Some entry → EndsWith requests (session_of requests log) entry.deed
 ends-with number requests =
     by_last (λ log. IsSessionLog number requests log → (entry : SessionEntry) → last_entry log ≡ Some entry → EndsWith requests (session_of requests log) entry.deed)

@@ -1,4 +1,5 @@
 -- The first request without a reply, of one session and of all sessions of a table.
+-- Used by `first_unanswered`.
 use Rattle.std.proofs.Common.{◌≡◌, ℕ, zero, suc, ◌-◌, ◌<◌, ◌≤◌, Bool, true, false, List, [], ◌∷◌, map, get_or, Option, None, Some, inl, inr, refl, sym, ap, ◌∙◌, arith}
 use Rattle.std.specs.Prelude.{fold, min, slice_get, if◌then◌else◌}
 use Rattle.std.specs.Option.{option_map}
@@ -12,7 +13,8 @@ use Rattle.weaver_core.specs.Clients.{IsFirstUnanswered, IsUnanswered, last_entr
 use Rattle.weaver_core.specs.declared.client.Client.{Client}
 use Rattle.weaver_core.proofs.AtClients.{table_of}
 use Rattle.weaver_core.proofs.Tables.{image-at}
-use Rattle.weaver_core.proofs.Turns.{ends-with, none-last, requests-same}
+use Rattle.weaver_core.proofs.Turns.{ends-with, none-last}
+use Rattle.step_rules.proofs.SessionTurns.{requests-same}
 
 -- One session
 
@@ -22,7 +24,7 @@ count-free session is = ap (λ (w : Bool). if w then session.begun - 1 else sess
 count-waits : (session : SessionState) → session.waits ≡ true → replied_count session ≡ session.begun - 1
 count-waits session is = ap (λ (w : Bool). if w then session.begun - 1 else session.begun) is
 
--- where none waits it is the next one
+-- if none waits it is the next one
 pub unanswered-next : (requests : List ℕ) (log : List SessionEntry) → (session_of requests log).waits ≡ false → next_request (session_of requests log) ≡ unanswered_in requests log
 unanswered-next requests log free =
     let session = session_of requests log in

@@ -1,9 +1,10 @@
 -- What the report of machines owes, but for its order: over the stamps that were noted.
+-- Used by `unordered`.
 use Rattle.std.proofs.Common.{◌≡◌, ℕ, ◌<◌, AllPairs, List, [], ◌∷◌, length, map, replicate, take, drop, inl, inr, Contains, IsTrue, Option, None, Some, sym, ap, subst, ◌∙◌, arith}
 use Rattle.std.specs.Prelude.{◌↔◌, slice_index_or}
 use Rattle.std.proofs.lemmas.List.{length-replicate, get_or_past, take-append-drop}
 use Rattle.std.proofs.lemmas.Option.{get_or_from_slice_get, slice_get_within}
-use Rattle.proof_base.proofs.Members.{has_map}
+use Rattle.weave_data.proofs.Members.{has_map}
 use Rattle.weave_data.specs.declared.name.Name.{Name}
 use Rattle.vector_stamp.specs.declared.clock.Clock.{Clock}
 use Rattle.vector_stamp.specs.declared.clock.Stamp.{Stamp}
@@ -29,7 +30,7 @@ use Rattle.weave_account.specs.Sessions.{requests_of_session}
 use Rattle.weave_entries.specs.SessionReplay.{replied_count, session_of}
 use Rattle.report_rules.specs.declared.report.Reply.{Reply}
 use Rattle.std.proofs.lemmas.Bool.{cases_lt}
-use Rattle.proof_base.proofs.Ordered.{pairs_cons, pairs_front, pairs_head, pairs_none, pairs_tail}
+use Rattle.weave_data.proofs.Ordered.{pairs_cons, pairs_front, pairs_head, pairs_none, pairs_tail}
 use Rattle.weaver_core.specs.Clients.{ClientTable, HaveRisingReplies, SessionValues, no_values, values_at}
 use Rattle.weaver_core.specs.Cores.{AreOf, machines_of}
 use Rattle.weaver_core.specs.GateTable.{GateTable}

@@ -1,4 +1,5 @@
 -- The values of sessions stay as their logs say, while other logs go on.
+-- Used by AfterSteps, OpenRuns, OtherSteps, StepValues, VisitWith and crate workers_account.
 use Rattle.std.proofs.Common.{◌≡◌, ◌≢◌, ℕ, ◌<◌, Bool, true, false, List, length, Contains, IsTrue, Option, None, Some, inl, inr, refl, sym, ap, subst, ◌∙◌, arith}
 use Rattle.std.specs.Prelude.{◌==◌, IsSomeAnd, slice_set, if◌then◌else◌}
 use Rattle.std.specs.List.{find, range_with_len}
@@ -6,7 +7,7 @@ use Rattle.std.specs.Option.{option_and_then, option_map}
 use Rattle.std.proofs.lemmas.Bool.{cases_eq, eqb-true}
 use Rattle.std.proofs.lemmas.List.{get_or-set_other, get_or-set_same, length-set, map-append}
 use Rattle.std.proofs.lemmas.Option.{none-some, same_Some}
-use Rattle.proof_base.proofs.Members.{filter_has, has_map}
+use Rattle.weave_data.proofs.Members.{filter_has, has_map}
 use Rattle.vector_stamp.specs.declared.clock.Stamp.{Stamp}
 use Rattle.program_defs.specs.Limits.{IsWithinLimits}
 use Rattle.program_defs.specs.PlainAnswer.{IsPlainAnswer}
@@ -37,11 +38,11 @@ use Rattle.weaver_core.specs.Clients.{SessionValues, no_values, values_at}
 use Rattle.weaver_core.specs.Splitting.{AreAllByLog, AreRepliesByLog, AreValuesByLog, IsRunningByLog, program_waiting, waiting_in}
 use Rattle.weaver_core.specs.Staying.{StayLaws}
 use Rattle.weaver_core.specs.declared.walks.Running.{Running}
-use Rattle.weaver_core.proofs.CanVisit.{in-take}
 use Rattle.weaver_core.proofs.ProgramsStay.{StaysAt, ended-stays, find-more, read-stays}
 use Rattle.weaver_core.proofs.Replied.{ended-judged, replied-ended}
-use Rattle.weaver_core.proofs.Turns.{at-place}
 use Rattle.weaver_core.proofs.Waiting.{session-laws, waits-open}
+use Rattle.step_rules.proofs.SessionTurns.{at-place}
+use Rattle.step_rules.proofs.VisitLogs.{in-take}
 
 -- The request that waits, if it is a program
 
@@ -144,7 +145,7 @@ module _ (laws : StayLaws) (script : Script) (account next : Account) (limits : 
         let there : Contains (replied_in log) q = subst (λ (rs : List ℕ). Contains rs q) are.requests (has_map (λ (one : Reply). one.request) replies reply has) in
         let replied = (laws.replied_tested q log).1 there in
         let one = replied-here q there in
-        reply-stays reply one.0 one.1 (stays q one.0 one.1 one.2 replied) (replied-ended laws script account is q t replied) (are.each reply has)
+        reply-stays reply one.0 one.1 (stays q one.0 one.1 one.2 replied) (replied-ended script account is q t replied) (are.each reply has)
 
     -- the program that is running is one of the session's
     pub running-here : (one : Running) (running : Option Running) → running ≡ Some one → IsRunningByLog script account log running → (request : Request) × (request_at script one.request ≡ Some request) × (request.session ≡ t)

@@ -1,4 +1,5 @@
 -- A program that visited is running as the logs say.
+-- Used by `begin_program`, `visit` and AfterSteps.
 use Rattle.std.proofs.Common.{◌≡◌, ℕ, ◌<◌, List, ◌++◌, ◌∷◌, [], length, Some, refl, sym, ap, subst, ◌∙◌}
 use Rattle.std.specs.Prelude.{slice_set}
 use Rattle.std.proofs.lemmas.Option.{slice_get_within}
@@ -31,7 +32,7 @@ use Rattle.weaver_core.specs.Cores.{AreOf, MachinesDo, MachinesView, machines_of
 use Rattle.weaver_core.specs.GateTable.{GateTable}
 use Rattle.weaver_core.specs.ShardTable.{ShardTable, log_at}
 use Rattle.weaver_core.specs.Staying.{CoreLaws}
-use Rattle.weaver_core.specs.Visiting.{AreSameLogs, Asks, VisitsForProgram, VisitsNext, entries_asked, updates_seen}
+use Rattle.weaver_core.specs.Visiting.{AreSameLogs, AsksForNextVisit, VisitsForProgram, VisitsNext, entries_asked, updates_seen}
 use Rattle.weaver_core.specs.Walks.{IsRunningIn}
 use Rattle.weaver_core.specs.declared.walks.Running.{Running}
 use Rattle.weaver_core.proofs.VisitDone.{next-over}
@@ -47,18 +48,15 @@ account-after core script old new one are there a did = (
 
 module _ (free : (a b : List (Name × State)) (program : Program) → AreSameReads a b → next_visit a program ≡ next_visit b program)
     (script : Script) (gates : GateTable) (store : List StoreEntry) (oracle : List OracleEntry) (shards : ShardTable) (was : ClientTable) (notices : List Clock)
-    (are : AreOf script (machines_of gates store oracle shards was notices)) (r : ℕ) (running : Running) (runs : IsRunningIn script (machines_of gates store oracle shards was notices).state.account r running) (asks : Asks running.walk)
+    (are : AreOf script (machines_of gates store oracle shards was notices)) (r : ℕ) (running : Running) (runs : IsRunningIn script (machines_of gates store oracle shards was notices).state.account r running) (asks : AsksForNextVisit running.walk)
     (new : ShardTable) (then_oracle : List OracleEntry) (now : Running) where
-  abbrev account : Account
-  account = (machines_of gates store oracle shards was notices).state.account
-
   abbrev next : Account
   next = (machines_of gates store then_oracle new was notices).state.account
 
   abbrev Same : Type 0
   Same = AreSameLogs shards new oracle then_oracle running now
 
-  same-account : Same → next ≡ account
+  same-account : Same → next ≡ (machines_of gates store oracle shards was notices).state.account
   same-account same = λ i. (machines_of gates store (same.oracle_is i) (same.shards_are i) was notices).state.account
 
   pub runs-if-same : Same → IsRunningIn script next r now
@@ -92,11 +90,11 @@ module _ (free : (a b : List (Name × State)) (program : Program) → AreSameRea
     abbrev log : List ShardEntry
     log = log_at shards s
 
-    shards-are : next.shards ≡ slice_set account.shards s (log ++ record { author = 0; deed = VisitedDeed r running.stamp v (updates_seen oracle log running.stamp v) (made_entry (entries_asked oracle log running.stamp v)) } ∷ [])
-    shards-are = did.visited.adds.logs ∙ (λ i. slice_set account.shards s (log ++ record { author = 0; deed = VisitedDeed (runs.runs.request_is i) running.stamp v (updates_seen oracle log running.stamp v) (made_entry (entries_asked oracle log running.stamp v)) } ∷ []))
+    shards-are : next.shards ≡ slice_set shards.logs s (log ++ record { author = 0; deed = VisitedDeed r running.stamp v (updates_seen oracle log running.stamp v) (made_entry (entries_asked oracle log running.stamp v)) } ∷ [])
+    shards-are = did.visited.adds.logs ∙ (λ i. slice_set shards.logs s (log ++ record { author = 0; deed = VisitedDeed (runs.runs.request_is i) running.stamp v (updates_seen oracle log running.stamp v) (made_entry (entries_asked oracle log running.stamp v)) } ∷ []))
 
-    next-is : next_visit (reads_of account r) runs.program ≡ Some v
-    next-is = sym (next-over free running.walk runs.program (reads_of account r) asks runs.runs.walk) ∙ did.next_is
+    next-is : next_visit (reads_of (machines_of gates store oracle shards was notices).state.account r) runs.program ≡ Some v
+    next-is = sym (next-over free running.walk runs.program (reads_of (machines_of gates store oracle shards was notices).state.account r) asks runs.runs.walk) ∙ did.next_is
 
     module _ (within : s < length shards.logs) where
       runs-if-visited : IsRunningIn script next r now
@@ -109,7 +107,7 @@ module _ (free : (a b : List (Name × State)) (program : Program) → AreSameRea
           begun = runs.runs.begun ∙ (λ i. Some (record { author = runs.runs.author; request = r; stamp = sym did.read.stamp_is i }));
           stamped = runs.runs.stamped ∙ ap Some (sym did.read.stamp_is);
           runs = runs.runs.runs;
-          walk = read-more script account next are.core.account is-next r runs.look.request runs.program s (updates_seen oracle log running.stamp v) v (made_entry (entries_asked oracle log running.stamp v)) running.stamp within refl shards-are
+          walk = read-more script (machines_of gates store oracle shards was notices).state.account next are.core.account is-next r runs.look.request runs.program s (updates_seen oracle log running.stamp v) v (made_entry (entries_asked oracle log running.stamp v)) running.stamp within refl shards-are
               running now next-is did.read runs.runs.walk;
         };
       }

@@ -1,4 +1,5 @@
 -- `visit`, by what the shards, the oracle and the program did.
+-- Used by `visit`, FinishDone and VisitAfter.
 use Rattle.std.proofs.Common.{◌≡◌, ℕ, List, ◌++◌, Option, None, Some, refl, sym, ap, ◌∙◌}
 use Rattle.weave_data.specs.Names.{shard_of}
 use Rattle.weave_data.specs.declared.name.Name.{Name}
@@ -30,14 +31,14 @@ use Rattle.weaver_core.specs.Clients.{ClientTable}
 use Rattle.weaver_core.specs.Cores.{AreOf, MachinesDo, MachinesView, machines_of}
 use Rattle.weaver_core.specs.GateTable.{GateTable}
 use Rattle.weaver_core.specs.ShardTable.{ShardTable, log_at}
-use Rattle.weaver_core.specs.Visiting.{AreSameLogs, Asks, VisitsForProgram, VisitsNext, entries_asked, updates_seen}
+use Rattle.weaver_core.specs.Visiting.{AreSameLogs, AsksForNextVisit, VisitsForProgram, VisitsNext, entries_asked, updates_seen}
 use Rattle.weaver_core.specs.Walks.{HasReadAll, IsRunningIn}
 use Rattle.weaver_core.specs.declared.walks.Running.{Running}
 use Rattle.weaver_core.proofs.Resting.{done, rests, shard-frame}
 
 -- the vertex that a walk asks for is that of the program over what it has read, in whatever order
 pub next-over : ((a b : List (Name × State)) (program : Program) → AreSameReads a b → next_visit a program ≡ next_visit b program)
-    → (walk : AnyProgram) (program : Program) (all : List (Name × State)) → Asks walk → HasReadAll walk program all → next_read walk ≡ next_visit all program
+    → (walk : AnyProgram) (program : Program) (all : List (Name × State)) → AsksForNextVisit walk → HasReadAll walk program all → next_read walk ≡ next_visit all program
 next-over free walk program all asks has =
     asks has.reads has.has_read ∙ ap (next_visit has.reads) has.program_is ∙ free has.reads all program has.same
 
@@ -70,7 +71,7 @@ module _ (script : Script) (gates : GateTable) (store : List StoreEntry) (oracle
   visit-account : (request : Request) → request_at script r ≡ Some request → account_with script before.state (step.Visit r) ≡ after_visit script account r (program_begun r (gate_log account request.gate)) (next_vertex account r request.work)
   visit-account request is = ap (at_request (λ (one : Request). after_visit script account r (program_begun r (gate_log account one.gate)) (next_vertex account r one.work)) account) is
 
-  module _ (running : Running) (runs : IsRunningIn script account r running) (free : (a b : List (Name × State)) (program : Program) → AreSameReads a b → next_visit a program ≡ next_visit b program) (asks : Asks running.walk)
+  module _ (running : Running) (runs : IsRunningIn script account r running) (free : (a b : List (Name × State)) (program : Program) → AreSameReads a b → next_visit a program ≡ next_visit b program) (asks : AsksForNextVisit running.walk)
       (senders : shards.gates ≡ script.gates) where
     abbrev request : Request
     request = runs.look.request

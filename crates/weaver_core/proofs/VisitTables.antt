@@ -1,4 +1,5 @@
 -- A table of the visits that asked the oracle, as it grows.
+-- Used by `add_visits` and `visits_in`.
 use Rattle.std.proofs.Common.{◌≡◌, ℕ, List}
 use Rattle.std.specs.Prelude.{◌||◌}
 use Rattle.weave_data.specs.declared.name.Name.{Name}

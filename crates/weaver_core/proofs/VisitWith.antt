@@ -1,7 +1,7 @@
 -- A visit of the program that was taken out of its session.
+-- Used by `visit_with`.
 use Rattle.std.proofs.Common.{◌≡◌, ℕ, ◌<◌, true, false, [], Option, None, Some, refl, sym, ap, subst, ◌∙◌}
 use Rattle.std.specs.Option.{ForSome, option_map}
-use Rattle.std.proofs.lemmas.List.{append-nil}
 use Rattle.std.proofs.lemmas.Option.{none-some, same_Some}
 use Rattle.vector_stamp.specs.declared.clock.Stamp.{Stamp}
 use Rattle.program_defs.specs.Works.{is_look}
@@ -14,8 +14,7 @@ use Rattle.report_rules.specs.Lookups.{request_at}
 use Rattle.report_rules.specs.declared.report.StepAnswer.{StepAnswer}
 use Rattle.report_rules.specs.declared.report.StepAnswer.TheVariants.{Idle}
 use Rattle.weave_account.specs.declared.account.Account.{Account}
-use Rattle.weave_account.specs.Account.{gate_log, session_log, shard_log}
-use Rattle.weave_account.specs.GoesOn.{GoesOn}
+use Rattle.weave_account.specs.Account.{session_log}
 use Rattle.weave_account.specs.Sessions.{requests_of_session}
 use Rattle.step_rules.specs.Answers.{answer_of}
 use Rattle.step_rules.specs.CoreState.{CoreState}
@@ -35,16 +34,7 @@ use Rattle.weaver_core.proofs.StepValues.{program-visited}
 use Rattle.weaver_core.proofs.Turns.{place-of}
 use Rattle.weaver_core.proofs.ValuesStay.{all-same}
 use Rattle.weaver_core.proofs.Waiting.{open-waits, session-laws}
-
--- an account goes on to itself
-pub goes-same : (account : Account) → GoesOn account account
-goes-same account = record {
-  gates = λ home. ([], sym (append-nil (gate_log account home)));
-  store = ([], sym (append-nil account.store));
-  oracle = ([], sym (append-nil account.oracle));
-  shards = λ shard. ([], sym (append-nil (shard_log account shard)));
-  sessions = λ session. ([], sym (append-nil (session_log account session)));
-}
+use Rattle.step_rules.proofs.StepGoesOn.{goes-same}
 
 abbrev pub stamp-in : Option Running → Option Stamp
 stamp-in running = option_map (λ (one : Running). one.stamp) running

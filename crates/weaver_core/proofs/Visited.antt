@@ -1,10 +1,11 @@
 -- What a visit leaves of the program.
+-- Used by VisitAfter and crate weaver_hands.
 use Rattle.std.proofs.Common.{◌≡◌, ℕ, ◌<◌, Bool, true, false, not, List, [], ◌∷◌, ◌++◌, length, take, Some, refl, sym, ap, subst, ◌∙◌}
 use Rattle.std.specs.Prelude.{◌||◌, slice_set, if◌then◌else◌}
 use Rattle.std.specs.List.{flat_map}
 use Rattle.std.specs.Map.{keys_of}
 use Rattle.std.proofs.lemmas.Bool.{both_ways, not-true}
-use Rattle.proof_base.proofs.Members.{find_has}
+use Rattle.weave_data.proofs.Members.{find_has}
 use Rattle.weave_data.specs.Names.{one_name, same_name}
 use Rattle.weave_data.specs.declared.name.Name.{Name}
 use Rattle.vector_stamp.specs.declared.clock.Stamp.{Stamp}
@@ -26,18 +27,9 @@ use Rattle.step_rules.proofs.VisitLogs.{reads-more}
 use Rattle.weaver_core.specs.Visiting.{HasReadMore}
 use Rattle.weaver_core.specs.Walks.{HasReadAll}
 use Rattle.weaver_core.specs.declared.walks.Running.{Running}
+use Rattle.program_defs.proofs.GoingOn.{key-added}
 
 -- One more read, in whatever order
-
-swapped : (a b c : Bool) → (a || (b || c)) ≡ (b || (a || c))
-swapped true true c = refl
-swapped true false c = refl
-swapped false true c = refl
-swapped false false c = refl
-
-key-added : (front back : List (Name × State)) (v : Name) (state : State) (w : Name) → is_among (keys_of (front ++ (v, state) ∷ back)) w ≡ (same_name v w || is_among (keys_of (front ++ back)) w)
-key-added [] back v state w = refl
-key-added (read ∷ front) back v state w = ap (λ b. same_name read.0 w || b) (key-added front back v state w) ∙ swapped (same_name read.0 w) (same_name v w) _
 
 state-added : (front back : List (Name × State)) (v : Name) (state : State) (w : Name) → is_among (keys_of (front ++ back)) v ≡ false → graph_read (front ++ (v, state) ∷ back) w ≡ (if same_name v w then state else graph_read (front ++ back) w)
 state-added [] back v state w new = refl

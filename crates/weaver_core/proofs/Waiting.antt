@@ -1,4 +1,5 @@
 -- The request of a session that waits for its reply, by the log.
+-- Used by `begin_program`, OpenRuns, StepValues, ValuesStay, VisitWith and crate workers_account.
 use Rattle.std.proofs.Common.{◌≡◌, ℕ, ◌-◌, ◌<◌, true, false, List, [], ◌∷◌, ◌++◌, AllPairs, Option, None, Some, refl, sym, ap, subst, ◌∙◌, arith}
 use Rattle.std.specs.Prelude.{◌==◌, slice_get}
 use Rattle.std.specs.List.{find}
@@ -6,8 +7,8 @@ use Rattle.std.specs.Option.{option_and_then, option_map}
 use Rattle.std.proofs.lemmas.Bool.{eq-eqb, eqb-true, le-ltb}
 use Rattle.std.proofs.lemmas.List.Concat.{flat_map-append}
 use Rattle.std.proofs.lemmas.Option.{none-some, same_Some}
-use Rattle.proof_base.proofs.Ends.{by_last}
-use Rattle.proof_base.proofs.Entries.{by_entries}
+use Rattle.weave_data.proofs.Ends.{by_last}
+use Rattle.weave_data.proofs.Entries.{by_entries}
 use Rattle.vector_stamp.specs.declared.clock.Stamp.{Stamp}
 use Rattle.report_rules.specs.Lookups.{is_some_and}
 use Rattle.weave_entries.specs.declared.session_log.SessionEntry.{SessionEntry}
@@ -19,7 +20,8 @@ use Rattle.weaver_core.specs.Splitting.{begun_by, waiting_in}
 use Rattle.weaver_core.specs.Staying.{StayLaws}
 use Rattle.weaver_core.proofs.BegunProgram.{find-last}
 use Rattle.weaver_core.proofs.NoStamp.{any-none}
-use Rattle.weaver_core.proofs.Turns.{Rule, SessionLaws, begun-is, ends-with, is_begin, last-of, one-more, open-by-last, requests-same}
+use Rattle.weaver_core.proofs.Turns.{Rule, SessionLaws, begun-is, ends-with, is_begin, last-of, open-by-last}
+use Rattle.step_rules.proofs.SessionTurns.{one-more, requests-same}
 
 -- the laws on sessions, of all laws
 abbrev pub session-laws : StayLaws → SessionLaws
@@ -84,7 +86,7 @@ stamp-waits laws number requests log right rise r stamp =
         (flat_map-append (λ (e : SessionEntry). begin_by e.deed) front (entry ∷ []) ∙ ap (λ (d : SessionDeed). begins_in front ++ (begin_by d ++ [])) deed)
         ∙ ap (option_map (λ (begun : ℕ × Stamp). begun.1)) (find-last (λ (begun : ℕ × Stamp). begun.0 == r) (begins_in front) (r, stamp) (any-none (λ (begun : ℕ × Stamp). begun.0 == r) (begins_in front) unbegun) (eq-eqb r r refl))
 
--- where none waits, none does by the log
+-- if none waits, none does by the log
 pub none-waits : (number : ℕ) (requests : List ℕ) (log : List SessionEntry) → IsSessionLog number requests log → (session_of requests log).waits ≡ false → waiting_in log ≡ None
 none-waits number requests log right free = by (last_entry log) refl
   where

@@ -27,7 +27,7 @@ requests_in client = client.session.requests
 abbrev pub log_of : Client → List SessionEntry
 log_of client = client.log.items
 
--- what a session has beside its log: the program that is running, if there is one, and its replies
+-- what a session has besides its log: the program that is running, if there is one, and its replies
 pub record SessionValues : Type 0 where
   pub running : Option Running
   pub replies : List Reply
@@ -136,7 +136,7 @@ log_at clients session = slice_index_or clients.logs session []
 abbrev pub values_at : List SessionValues → ℕ → SessionValues
 values_at values session = slice_index_or values session no_values
 
--- the same but for the program that is running in a session
+-- the same except for the program that is running in a session
 abbrev pub with_running : List SessionValues → ℕ → Option Running → List SessionValues
 with_running values session running =
     slice_set values session (record { running = running; replies = (values_at values session).replies })
@@ -183,7 +183,7 @@ pub record AreSameClients (old new : ClientTable) : Type 0 where
   pub logs : new.logs ≡ old.logs
   pub values : new.values ≡ old.values
 
--- a session's log has one more entry, and all else is as before but for the room
+-- a session's log has one more entry, and all else is as before except for the room
 pub record AddsToSession (old new : ClientTable) (session : ℕ) (deed : SessionDeed) : Type 0 where
   pub logs : new.logs ≡ slice_set old.logs session (log_at old session ++ record { author = session; deed = deed } ∷ [])
   pub requests : new.requests ≡ old.requests

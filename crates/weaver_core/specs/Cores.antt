@@ -29,7 +29,7 @@ pub record CoreView : Type 0 where
   pub state : CoreState
 
 -- the core did this step: its answer, its logs and its notices are those of the definition
-pub record Does (step : Step) (old new : CoreView) (answer : StepAnswer) : Type 0 where
+pub record DoesStep (step : Step) (old new : CoreView) (answer : StepAnswer) : Type 0 where
   pub answer_is : answer ≡ answer_of old.script old.state step
   pub state_is : new.state ≡ state_after old.script old.state step
   pub script_is : new.script ≡ old.script

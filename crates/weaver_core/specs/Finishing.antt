@@ -18,7 +18,7 @@ use Rattle.weave_entries.specs.GateReplay.{is_begun, running_of}
 use Rattle.path_program.specs.AnyPrograms.{HasRead, any_of, next_read}
 use Rattle.weaver_core.specs.Clients as clients
 use Rattle.weaver_core.specs.GateTable as gates
-use Rattle.weaver_core.specs.Visiting.{Asks}
+use Rattle.weaver_core.specs.Visiting.{AsksForNextVisit}
 use Rattle.weaver_core.specs.declared.walks.Running.{Running}
 
 -- The author of a begin
@@ -43,7 +43,7 @@ IsOutcome running answer =
 
 -- the program has read all, and this is the reply with its answer
 pub record IsReplyOfProgram (running : Running) (reply : Reply) : Type 0 where
-  pub asks : Asks running.walk
+  pub asks : AsksForNextVisit running.walk
   pub over : next_read running.walk ≡ None
   pub request_is : reply.request ≡ running.request
   pub stamp_is : reply.stamp ≡ Some running.stamp
@@ -53,7 +53,7 @@ pub record IsReplyOfProgram (running : Running) (reply : Reply) : Type 0 where
 
 -- the program has a next vertex
 pub record IsGoing (running : Running) : Type 0 where
-  pub asks : Asks running.walk
+  pub asks : AsksForNextVisit running.walk
   pub next : IsSome (next_read running.walk)
 
 -- the reply of a program that is running; none if it has a next vertex

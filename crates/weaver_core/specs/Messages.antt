@@ -4,7 +4,7 @@ use Rattle.weave_data.specs.declared.name.Name.{Name}
 use Rattle.shard_queue.specs.Sent.{sent_as}
 use Rattle.shard_queue.specs.declared.inbox.Arrival.{Arrival}
 use Rattle.shard_queue.specs.declared.inbox.Arrival.TheVariants.{Kept, Repeat}
-use Rattle.shard_node.specs.Shards.{IsNext}
+use Rattle.shard_node.specs.Shards.{CanApplyHead}
 use Rattle.shard_node.specs.declared.fault.ApplyFault.{ApplyFault}
 use Rattle.shard_node.specs.declared.fault.ApplyFault.TheVariants as fault
 use Rattle.report_rules.specs.declared.report.StepAnswer.{StepAnswer}
@@ -29,12 +29,12 @@ nop_deed home shard log =
     (low_mark (next_stamp home (clock_of home log)) (running_of log))
 
 -- what `nop` answers, and what it leaves
-abbrev pub SendsEmptyMessage : gates.GateTable → gates.GateTable → ℕ → ℕ → StepAnswer → Type 0
-SendsEmptyMessage old new home shard answer.Ok =
+abbrev pub DoesNop : gates.GateTable → gates.GateTable → ℕ → ℕ → StepAnswer → Type 0
+DoesNop old new home shard answer.Ok =
     gates.AddsToGate old new home 0 (nop_deed home shard (gates.log_at old home))
     × (is_some (flight_of (gates.log_at old home)) ≡ false)
-SendsEmptyMessage old new home shard answer.Busy = (new ≡ old) × (is_some (flight_of (gates.log_at old home)) ≡ true)
-SendsEmptyMessage old new home shard _ = ⊥
+DoesNop old new home shard answer.Busy = (new ≡ old) × (is_some (flight_of (gates.log_at old home)) ≡ true)
+DoesNop old new home shard _ = ⊥
 
 -- Arrivals
 
@@ -65,7 +65,7 @@ DeliversToShard table old new home shard number _ = ⊥
 
 -- the head of a channel is applied, and each of its counts was the number of updates applied there
 pub record AppliesHead (old new : shards.ShardTable) (shard home : ℕ) : Type 0 where
-  pub next : IsNext home (shards.log_at old shard)
+  pub next : CanApplyHead home (shards.log_at old shard)
   pub adds : shards.AddsToShard old new shard (Applied home (processed_count home (shards.log_at old shard) + 1))
 
 -- a head waits for a vertex

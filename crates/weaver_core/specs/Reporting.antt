@@ -26,7 +26,7 @@ use Rattle.weaver_core.specs.Clients.{SessionValues, values_at}
 
 -- The replies
 
--- the stamps by request, as many as there are, are those of the account
+-- stamp r of the list is that of request r in the account
 abbrev pub AreStampsOf : Account → List (Option Stamp) → Type 0
 AreStampsOf account stamps = (r : ℕ) → r < length stamps → slice_index_or stamps r None ≡ stamp_of account r
 

@@ -107,7 +107,7 @@ pub record IsShardFor (script : Script) (number : ℕ) (shard : ShardView) : Typ
   pub number_is : shard.number ≡ number
   pub gates_are : shard.gates ≡ script.gates
 
--- gatekeepers, shards and clients are as many as those with which a core of the script starts, in that order, with
+-- there are as many gatekeepers, shards and clients as a core of the script starts with, in the same order, with
 -- those homes, numbers and requests
 pub record ArePartsFor (script : Script) (split : Split) : Type 0 where
   pub gate_count : length split.gates.items ≡ script.gates

@@ -64,8 +64,9 @@ pub record Reads (old new : ShardTable) (oracle then_oracle : List OracleEntry) 
 -- The walk
 
 -- a walk asks for the vertex that its reads ask for
-abbrev pub Asks : AnyProgram → Type 0
-Asks walk = (reads : List (Name × State)) → HasRead walk reads → next_read walk ≡ next_visit reads (any_of walk)
+abbrev pub AsksForNextVisit : AnyProgram → Type 0
+AsksForNextVisit walk = (reads : List (Name × State)) → HasRead walk reads
+    → next_read walk ≡ next_visit reads (any_of walk)
 
 -- a walk of which nothing but the room may differ
 pub record IsSameWalk (old new : AnyProgram) : Type 0 where

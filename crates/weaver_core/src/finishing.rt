@@ -8,7 +8,7 @@ ghost use Rattle.report_rules.specs.declared.report.StepAnswer.TheVariants as an
 ghost use Rattle.weaver_core.specs.Clients.{session_at};
 ghost use Rattle.weaver_core.specs.Finishing.{AreSameParts, CanBeFinished, FinishesInSession, IsFinishedWith, IsOutcomeOf, IsReplyIfOver, last_author};
 ghost use Rattle.weaver_core.specs.GateTable.{log_at};
-ghost use Rattle.weaver_core.specs.Visiting.{Asks};
+ghost use Rattle.weaver_core.specs.Visiting.{AsksForNextVisit};
 
 use crate::clients::Clients;
 use crate::gates::Gates;
@@ -99,7 +99,7 @@ fn outcome_if_over(alloc: Global, running: &Running) -> Result<Option<Reply>, Al
 // Whether the program has a next vertex.
 fn is_going(running: &Running) -> bool
     ensures going { result ≡ is_some (next_read running.now.walk) }
-    ensures asks { Asks running.now.walk }
+    ensures asks { AsksForNextVisit running.now.walk }
 {
     running.walk.next_vertex().is_some()
 }

@@ -525,7 +525,7 @@ impl Machines {
         self.clients.last(session)
     }
 
-    /// The report of the account but for its order, and without answers of steps. The one error is out of memory.
+    /// The report of the account except for its order, and without answers of steps. The one error is out of memory.
     pub(crate) fn unordered(&self, alloc: Global, script: &Script) -> Result<Report, AllocError>
         requires are { AreOf script.now self.now }
         requires programs { AreAllByLog script.now self.now.state.account self.now.values }

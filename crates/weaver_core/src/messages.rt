@@ -7,7 +7,7 @@ ghost use Rattle.weave_entries.specs.ShardReplay.{head_of, waits_at};
 ghost use Rattle.weave_entries.specs.ShardRules.{IsTakable, PassesAt};
 ghost use Rattle.weaver_core.specs.GateTable as gate_table;
 ghost use Rattle.weaver_core.specs.ShardTable as shard_table;
-ghost use Rattle.weaver_core.specs.Messages.{AppliesAtShard, DeliversToShard, IsAnswerTo, SendsEmptyMessage};
+ghost use Rattle.weaver_core.specs.Messages.{AppliesAtShard, DeliversToShard, IsAnswerTo, DoesNop};
 
 use crate::gates::Gates;
 use crate::shards::Shards;
@@ -27,7 +27,7 @@ pub(crate) fn nop_in(
 ) -> Result<StepAnswer, AllocError>
     requires there { gate < length gates.old.logs }
     requires shard { shard < gates.old.shards }
-    ensures sends { IfOk result (SendsEmptyMessage gates.old gates.new gate shard) }
+    ensures sends { IfOk result (DoesNop gates.old gates.new gate shard) }
     ensures refused { OnErr result (gates.new ≡ gates.old) }
 {
     match gates.nop(alloc, gate, shard) {

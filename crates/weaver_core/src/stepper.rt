@@ -1,6 +1,6 @@
 //! A core: a script with its machines.
 ghost use Rattle.std.specs.Prelude.{◌≡◌, ℕ, ◌+◌, ◌<◌, ◌≤◌, [], None, Some, false, is_some, length, OnErr, IfOk, IsTrue};
-ghost use Rattle.proof_base.specs.Facts.{AllHold};
+ghost use Rattle.weave_data.specs.Facts.{AllHold};
 ghost use Rattle.program_defs.specs.Limits.{IsWithinLimits};
 ghost use Rattle.program_defs.specs.declared.script.Request.{Request};
 ghost use Rattle.report_rules.specs.Lookups.{request_at};
@@ -13,7 +13,7 @@ ghost use Rattle.weave_account.specs.Report.{IsReportOfAccount};
 ghost use Rattle.step_rules.specs.CoreState.{start_state};
 ghost use Rattle.step_rules.specs.IsCore.{IsCore, IsStepOf};
 ghost use Rattle.step_rules.specs.Requests.{has_reply};
-ghost use Rattle.weaver_core.specs.Cores.{Does};
+ghost use Rattle.weaver_core.specs.Cores.{DoesStep};
 ghost use Rattle.weaver_core.specs.Splitting.{CanBeJoined, NoneInFlight, state_of};
 
 use crate::clients::Clients;
@@ -70,7 +70,7 @@ impl Core {
     /// as before.
     pub fn step(&mut self, alloc: Global, step: &Step) -> Result<StepAnswer, AllocError>
         requires there { IsStepOf self.old.script step.now }
-        ensures done { IfOk result (λ answer. Does step.now self.old self.new answer) }
+        ensures done { IfOk result (λ answer. DoesStep step.now self.old self.new answer) }
         ensures refused { OnErr result (self.new ≡ self.old) }
     {
         steps_keep_the_core();

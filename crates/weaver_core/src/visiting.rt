@@ -4,7 +4,7 @@ ghost use Rattle.weave_data.specs.declared.name.Name.{Name};
 ghost use Rattle.weave_data.specs.Names.{shard_of};
 ghost use Rattle.path_program.specs.AnyPrograms.{next_read};
 ghost use Rattle.weaver_core.specs.ShardTable.{log_at};
-ghost use Rattle.weaver_core.specs.Visiting.{AreSameLogs, Asks, CanBeVisited, VisitsForProgram};
+ghost use Rattle.weaver_core.specs.Visiting.{AreSameLogs, AsksForNextVisit, CanBeVisited, VisitsForProgram};
 
 use crate::shards::Shards;
 use crate::walks::Running;
@@ -32,7 +32,7 @@ pub(crate) fn visit_next(
     ensures visits { IfOk result
         (VisitsForProgram count shards.old shards.new oracle.old oracle.new running.old running.new) }
     ensures refused { OnErr result (AreSameLogs shards.old shards.new oracle.old oracle.new running.old running.new) }
-    ensures asks { Asks running.old.walk }
+    ensures asks { AsksForNextVisit running.old.walk }
 {
     let Some(vertex) = running.walk.next_vertex() else {
         return Ok(StepAnswer::Idle);

@@ -1,4 +1,5 @@
 -- What a hold leaves alone: each request for which it made no visit, and which it did not finish.
+-- Used by `bring`, `finish`, `programs_left_alone_go_on`, `say_and_hear`, `transact`, `visit`, Calls and 2 more.
 use Rattle.std.proofs.Common.{◌≡◌, ◌≢◌, inl, inr, ℕ, ◌==◌, List, [], ◌++◌, Contains, ap, ◌∙◌, subst}
 use Rattle.std.specs.Prelude.{filter}
 use Rattle.std.proofs.lemmas.List.{append-nil}

@@ -1,4 +1,5 @@
 -- A message that was pulled has arrived: now, or earlier as the same message.
+-- Used by `bring` and `pull`.
 use Rattle.std.proofs.Common.{◌≡◌, inl, inr, ℕ, ◌+◌, ◌<◌, ◌≤◌, ◌==◌, Bool, true, false, List, [], ◌∷◌, ◌++◌, length, map, Contains, Option, None, Some, Ok, Err, refl, sym, ap, subst, ◌∙◌, arith}
 use Rattle.std.specs.Prelude.{is_some, ◌&&◌, if◌then◌else◌}
 use Rattle.std.specs.List.{find, range_with_len}
@@ -7,7 +8,7 @@ use Rattle.std.proofs.lemmas.Bool.{and_parts, eqb-true}
 use Rattle.std.proofs.lemmas.List.{append-nil}
 use Rattle.std.proofs.lemmas.List.Elements.{Contains-append_left}
 use Rattle.std.proofs.lemmas.Option.{none-some, same_Some}
-use Rattle.proof_base.proofs.Members.{cut_at, find_has, flat_has, has_none, has_read, only}
+use Rattle.weave_data.proofs.Members.{cut_at, find_has, flat_has, has_none, has_read, only}
 use Rattle.shard_queue.specs.declared.inbox.Arrival.{Arrival as Answer}
 use Rattle.shard_queue.specs.declared.inbox.Arrival.TheVariants.{Kept, Repeat}
 use Rattle.weave_entries.specs.declared.gate_log.GateEntry.{GateEntry}
@@ -32,40 +33,32 @@ use Rattle.weaver_hands.specs.declared.fault.HandFault.TheVariants.{Busy, NotYet
 use Rattle.weaver_hands.specs.declared.messages.Pulled.{Pulled}
 use Rattle.weaver_hands.specs.declared.messages.Pulled.TheVariants.{Unsent, Known, New}
 use Rattle.weaver_hands.specs.Messages.{arrivals_after, is_sent, pulled_by, BringsAs, Pulls, PullsAs}
+use mathlib.Core.List.{head-eq_of_cons-eq, tail-eq_of_cons-eq}
 
 -- Numbers in a row
 
 abbrev number_in : Addressed → ℕ
 number_in one = one.number
 
-abbrev message_in : Addressed → Message
-message_in one = one.message
-
-head_is : (a b : ℕ) (xs ys : List ℕ) → a ∷ xs ≡ b ∷ ys → a ≡ b
-head_is a b xs ys e = cc
-
-tail_is : (a b : ℕ) (xs ys : List ℕ) → a ∷ xs ≡ b ∷ ys → xs ≡ ys
-tail_is a b xs ys e = cc
-
 abbrev AreNumbered : List Addressed → ℕ → Type 0
-AreNumbered sent start = map number_in sent ≡ range_with_len start (length (map message_in sent))
+AreNumbered sent start = map number_in sent ≡ range_with_len start (length (map (λ (one : Addressed). one.message) sent))
 
 -- no number is below the first
 not_below : (sent : List Addressed) (start : ℕ) (one : Addressed) → AreNumbered sent start → Contains sent one → start ≤ one.number
 not_below [] start one numbers h = absurd (has_none one h)
 not_below (x ∷ sent) start one numbers h =
-    let first : x.number ≡ start = head_is x.number start (map number_in sent) _ numbers in
+    let first : x.number ≡ start = head-eq_of_cons-eq numbers in
     elim (has_read x sent one h) [
       | inl here ↦ (let same : x.number ≡ one.number = ap number_in here in omega (arith, first, same))
-      | inr more ↦ (let low = not_below sent (start + 1) one (tail_is x.number start (map number_in sent) _ numbers) more in omega (arith, low))
+      | inr more ↦ (let low = not_below sent (start + 1) one (tail-eq_of_cons-eq numbers) more in omega (arith, low))
     ]
 
--- two of one number are one
+-- two of the same number are the same
 one_number : (sent : List Addressed) (start : ℕ) (a b : Addressed) → AreNumbered sent start → Contains sent a → Contains sent b → a.number ≡ b.number → a ≡ b
 one_number [] start a b numbers ha hb same = absurd (has_none a ha)
 one_number (x ∷ sent) start a b numbers ha hb same =
-    let first : x.number ≡ start = head_is x.number start (map number_in sent) _ numbers in
-    let rest : AreNumbered sent (start + 1) = tail_is x.number start (map number_in sent) _ numbers in
+    let first : x.number ≡ start = head-eq_of_cons-eq numbers in
+    let rest : AreNumbered sent (start + 1) = tail-eq_of_cons-eq numbers in
     elim (has_read x sent a ha) [
       | inl a_here ↦ elim (has_read x sent b hb) [
         | inl b_here ↦ sym a_here ∙ b_here
@@ -181,7 +174,7 @@ module _ (laws : ArrivalLaws) (shared : Shared) (fetched new : Hand) (is_new : I
       let here : Contains sent_now (sent_as_now message) = has-on (addressed_to shard (gate_log (seen_by fetched) gate)) sent_now
       (flat-on (λ (entry : GateEntry). to_shard shard (messages_by entry.deed)) (gate_log (seen_by fetched) gate) log_now (was.more.gates gate))
       (sent_as_now message) seen.sent in
-      ap message_in (one_number sent_now 1 (sent_as_now m) (sent_as_now message) channel.numbers refers.sent here refl)
+      ap (λ (one : Addressed). one.message) (one_number sent_now 1 (sent_as_now m) (sent_as_now message) channel.numbers refers.sent here refl)
 
   at : (o : Option Message) → arrived_at gate number before ≡ o
       → arrived_at gate number (before ++ (if is_some o then [] else entry_now ∷ [])) ≡ Some message

@@ -1,10 +1,11 @@
 -- A program that was begun is running.
+-- Used by `begun_programs_run`.
 use Rattle.std.proofs.Common.{◌≡◌, ◌≢◌, inl, inr, ℕ, ◌<◌, ◌≤◌, eqb, cond, List, [], ◌∷◌, ◌++◌, map, length, Contains, Option, Ok, refl, sym, ap, subst, ◌∙◌, arith, eq-eqb, append_assoc, length-append}
 use Rattle.std.specs.Prelude.{filter}
 use Rattle.std.proofs.lemmas.List.{drop-append-le, get_or-set_same, length-map}
 use Rattle.std.proofs.lemmas.List.Elements.{Contains-append_cases, Contains-append_left, Contains-append_right, filter-append}
-use Rattle.proof_base.proofs.Ends.{split_last}
-use Rattle.proof_base.proofs.Members.{cut_at, flat_has, has_filter, has_flat, has_head, has_last, has_none, only}
+use Rattle.weave_data.proofs.Ends.{split_last}
+use Rattle.weave_data.proofs.Members.{cut_at, flat_has, has_filter, has_flat, has_head, has_last, has_none, only}
 use Rattle.program_defs.specs.Agreement.{AreSameReads}
 use Rattle.path_program.specs.declared.any.AnyProgram.{AnyProgram}
 use Rattle.path_program.specs.AnyPrograms.{HasRead}
@@ -17,7 +18,7 @@ use Rattle.weave_entries.specs.GateRules.{EndsAs}
 use Rattle.weave_account.specs.declared.account.Account.{Account}
 use Rattle.weave_account.specs.Account.{gate_log}
 use Rattle.seen_logs.specs.Entries.{gate_entries}
-use Rattle.seen_logs.specs.LowerLaws.{LowerLaws}
+use Rattle.seen_logs.specs.LowerLaws.{LawsForSeenLogs}
 use Rattle.seen_logs.specs.Seen.{since}
 use Rattle.seen_logs.proofs.Listed.{longer}
 use Rattle.weaver_locks.specs.declared.hand.Hand.{Hand}
@@ -57,7 +58,7 @@ program-author author (Finished r) begun h = absurd (has_none begun h)
 no-reads : AreSameReads [] []
 no-reads = record { vertices = λ v. refl; states = λ v. refl }
 
-module _ (hands : HandLaws) (laws : LowerLaws) (shared : Shared) (old new : Hand) (gate request : ℕ) (last : Option Stamp) (stamp : Stamp)
+module _ (hands : HandLaws) (laws : LawsForSeenLogs) (shared : Shared) (old new : Hand) (gate request : ℕ) (last : Option Stamp) (stamp : Stamp)
     (is_old : IsHand shared old) (is_new : IsHand shared new) (low : gate < length shared.gates.items) (fresh : HasNotBegun old request)
     (did : Starts (length shared.shards.items) old new gate request last stamp) where
   abbrev entry : GateEntry

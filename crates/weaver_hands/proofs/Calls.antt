@@ -1,8 +1,9 @@
 -- What each call leaves alone.
+-- Used by `calls_leave_others_alone`, BegunProgram and OwnVisits.
 use Rattle.std.proofs.Common.{◌≡◌, ◌≢◌, inl, inr, ℕ, Bool, true, false, cond, List, [], ◌∷◌, Ok, Err, Result, Option, refl, sym, ap, ◌∙◌}
 use Rattle.std.specs.Prelude.{if◌then◌else◌}
 use Rattle.std.proofs.lemmas.Bool.{ne_eqb}
-use Rattle.proof_base.proofs.Members.{only}
+use Rattle.weave_data.proofs.Members.{only}
 use Rattle.weave_data.specs.declared.name.Name.{Name}
 use Rattle.graph_ops.specs.declared.op.Op.{Op}
 use Rattle.program_defs.specs.declared.program.Answer.{Answer}

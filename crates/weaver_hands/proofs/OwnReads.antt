@@ -1,8 +1,9 @@
 -- What an author's visits for a request read stays while the shards' logs go on, and each visit adds one read.
+-- Used by `finish`, Running and SeenReads.
 use Rattle.std.proofs.Common.{◌≡◌, ℕ, ◌==◌, Bool, List, [], ◌∷◌, ◌++◌, map, take, Contains, refl, ap, subst, ◌∙◌}
 use Rattle.std.specs.List.{flat_map}
 use Rattle.std.proofs.lemmas.List.{map-append}
-use Rattle.proof_base.proofs.Members.{filter_has, flat_has, has_filter, has_flat, has_head, has_map, has_tail, map_has}
+use Rattle.weave_data.proofs.Members.{filter_has, flat_has, has_filter, has_flat, has_map, map_has}
 use Rattle.weave_data.specs.declared.name.Name.{Name}
 use Rattle.graph_ops.specs.Operations.{State}
 use Rattle.weave_entries.specs.declared.shard_log.ShardEntry.{ShardEntry}
@@ -11,17 +12,11 @@ use Rattle.weave_entries.specs.ShardRules.{IsShardLog}
 use Rattle.weave_account.specs.declared.account.Account.{Account}
 use Rattle.weave_account.specs.Account.{reads_of, shard_log}
 use Rattle.weave_account.specs.GoesOn.{visits_by, IsBeginningOf}
-use Rattle.seen_logs.specs.LowerLaws.{LowerLaws}
+use Rattle.weave_account.proofs.VisitsStay.{flat-alike, read-in, map-alike}
+use Rattle.seen_logs.specs.LowerLaws.{LawsForSeenLogs}
 use Rattle.seen_logs.specs.Seen.{ShardsGoOn, visit_entry}
-use Rattle.seen_logs.proofs.Listed.{flat-alike}
-use Rattle.seen_logs.proofs.Updates.{read-in, read-stays, shard-before, within}
+use Rattle.seen_logs.proofs.Updates.{read-stays, shard-before, within}
 use Rattle.weaver_hands.specs.Programs.{entries_of_author, own_reads_in}
-
--- two images of a list, alike at each member
-map-alike : {A B : Type 0} (f g : A → B) (xs : List A) → ((x : A) → Contains xs x → f x ≡ g x) → map f xs ≡ map g xs
-map-alike f g [] same = refl
-map-alike f g (x ∷ xs) same =
-    ap (λ y. y ∷ map f xs) (same x (has_head x xs)) ∙ ap (λ ys. g x ∷ ys) (map-alike f g xs (λ y h. same y (has_tail x xs y h)))
 
 -- the visits of an entry
 abbrev pub given : ShardEntry → List Visit
@@ -54,7 +49,7 @@ module _ (number r : ℕ) where
       let from = flat_has (own_reads_in number r) seen.shards read h in
       has_flat (reads_in r) seen.shards from.0 read from.1 (own-read from.0 read from.2)
 
-  module _ (laws : LowerLaws) (gates : ℕ) where
+  module _ (laws : LawsForSeenLogs) (gates : ℕ) where
     -- at the end of a log that has gone on, the visits that there were read the same
     read-alike : (log next : List ShardEntry) → IsBeginningOf log next → IsShardLog gates next
         → map (read-in next) (visits_by r (entries_of_author number log)) ≡ own_reads_in number r log

@@ -1,4 +1,5 @@
 -- A hand's visits are of programs that it began itself, and stay so.
+-- Used by `hands_visit_their_own_programs`.
 use Rattle.std.proofs.Common.{◌≡◌, ◌≢◌, inl, inr, ℕ, ◌<◌, ◌≤◌, ◌==◌, List, [], ◌∷◌, ◌++◌, drop, length, Contains, Ok, Err, Result, refl, sym, ap, subst, ◌∙◌, eq-eqb}
 use Rattle.std.specs.Prelude.{filter}
 use Rattle.std.proofs.lemmas.Bool.{cases_eq}
@@ -6,7 +7,7 @@ use Rattle.std.proofs.lemmas.List.{append-nil, drop-append-le}
 use Rattle.std.proofs.lemmas.List.Concat.{flat_map-append}
 use Rattle.std.proofs.lemmas.List.Elements.{filter-append}
 use Rattle.std.proofs.Math.Seq.{drop-append_seam}
-use Rattle.proof_base.proofs.Members.{has_cut, has_filter, has_flat, has_head, has_none, only}
+use Rattle.weave_data.proofs.Members.{has_cut, has_filter, has_flat, has_head, has_none, only}
 use Rattle.weave_data.specs.declared.name.Name.{Name}
 use Rattle.weave_data.specs.Names.{shard_of}
 use Rattle.graph_ops.specs.Operations.{State}
@@ -17,7 +18,7 @@ use Rattle.weave_entries.specs.GateReplay.{programs_of}
 use Rattle.weave_entries.specs.ShardReplay.{Visit, visit_by, visits_of}
 use Rattle.weave_account.specs.Account.{gate_log, shard_log}
 use Rattle.weave_account.specs.GoesOn.{visits_by}
-use Rattle.seen_logs.specs.LowerLaws.{LowerLaws}
+use Rattle.seen_logs.specs.LowerLaws.{LawsForSeenLogs}
 use Rattle.seen_logs.specs.Seen.{IsWithin, VisitsItsOwn, VisitsOwnPrograms, since, visit_entry}
 use Rattle.weaver_core.specs.declared.walks.Running.{Running}
 use Rattle.weaver_locks.specs.declared.hand.Hand.{Hand}
@@ -65,7 +66,7 @@ among-own number more visit there own =
     (has_filter (λ (e : ShardEntry). e.author == number) more (visit_entry visit) there (eq-eqb visit.author number own)) (has_head visit []))
     (eq-eqb visit.request visit.request refl)
 
-module _ (hands : HandLaws) (laws : LowerLaws) (shared : Shared) (old new : Hand) (is_old : IsHand shared old) (is_new : IsHand shared new)
+module _ (hands : HandLaws) (laws : LawsForSeenLogs) (shared : Shared) (old new : Hand) (is_old : IsHand shared old) (is_new : IsHand shared new)
     (number : hand_number new ≡ hand_number old) (more : IsWithin (seen_by old) (seen_by new)) where
   abbrev n : ℕ
   n = hand_number old
@@ -154,7 +155,7 @@ module _ (hands : HandLaws) (laws : LowerLaws) (shared : Shared) (old new : Hand
     on-if-visited stay = on-if-own stay its-own
 
 -- after a visit of a program that is running
-pub on-after-visit : HandLaws → LowerLaws → VisitsStay → (shared : Shared) (old new : Hand) (was is : Running) (result : Result (Unit {0}) HandFault)
+pub on-after-visit : HandLaws → LawsForSeenLogs → VisitsStay → (shared : Shared) (old new : Hand) (was is : Running) (result : Result (Unit {0}) HandFault)
     → IsHand shared old → IsHand shared new → IsRunning shared old was
     → VisitsAs (length shared.gates.items) (length shared.shards.items) old new was is result
     → VisitsOwnPrograms (hand_number old) (start_of shared) (seen_by old)

@@ -1,4 +1,5 @@
 -- A program of a hand that is running goes on, whatever else the hand does, and reads what the hand's visits read.
+-- Used by `programs_left_alone_go_on`, `visit`, BegunProgram, OwnVisits and Refusals.
 use Rattle.std.proofs.Common.{◌≡◌, ◌≢◌, ℕ, ◌<◌, ◌≤◌, ◌==◌, false, cond, List, [], ◌∷◌, ◌++◌, map, take, length, Contains, Some, Ok, refl, sym, ap, subst, ◌∙◌, arith, eq-eqb}
 use Rattle.std.specs.Prelude.{filter}
 use Rattle.std.specs.List.{flat_map}
@@ -7,7 +8,7 @@ use Rattle.std.proofs.Math.Nat.{mod-lt}
 use Rattle.std.proofs.lemmas.List.{get_or-set_same, length-map}
 use Rattle.std.proofs.lemmas.List.Concat.{flat_map-append}
 use Rattle.std.proofs.lemmas.List.Elements.{filter-append}
-use Rattle.proof_base.proofs.Members.{flat_has, has_flat}
+use Rattle.weave_data.proofs.Members.{flat_has, has_flat, drop_has}
 use Rattle.weave_data.specs.Names.{shard_of}
 use Rattle.weave_data.specs.declared.name.Name.{Name}
 use Rattle.graph_ops.specs.Mentions.{is_among}
@@ -30,9 +31,9 @@ use Rattle.weave_account.specs.declared.account.Account.{Account}
 use Rattle.weave_account.specs.Account.{gate_log, shard_log}
 use Rattle.weave_account.specs.GoesOn.{visits_by}
 use Rattle.seen_logs.specs.Entries.{shard_entries}
-use Rattle.seen_logs.specs.LowerLaws.{LowerLaws}
+use Rattle.seen_logs.specs.LowerLaws.{LawsForSeenLogs}
 use Rattle.seen_logs.specs.Seen.{since, GatesGoOn}
-use Rattle.seen_logs.proofs.Listed.{drop-has, flat-on, has-on, longer}
+use Rattle.seen_logs.proofs.Listed.{flat-on, has-on, longer}
 use Rattle.seen_logs.proofs.Onward.{since-on}
 use Rattle.chronicle.specs.Passes.{seen}
 use Rattle.weaver_core.specs.declared.walks.Running.{Running}
@@ -58,7 +59,7 @@ shard-there v shards some = mod-lt _ (omega (arith, some))
 many-shards : (shared : Shared) (hand : Hand) → IsHand shared hand → length (seen_by hand).shards ≡ length shared.shards.items
 many-shards shared hand is = length-map (map seen hand.shards.items) shard_entries ∙ length-map hand.shards.items seen ∙ is.shards
 
-module _ (hands : HandLaws) (laws : LowerLaws) (shared : Shared) (old new : Hand) (is_old : IsHand shared old) (is_new : IsHand shared new)
+module _ (hands : HandLaws) (laws : LawsForSeenLogs) (shared : Shared) (old new : Hand) (is_old : IsHand shared old) (is_new : IsHand shared new)
     (number : hand_number new ≡ hand_number old) where
   abbrev n : ℕ
   n = hand_number old
@@ -94,7 +95,7 @@ module _ (hands : HandLaws) (laws : LowerLaws) (shared : Shared) (old new : Hand
       let there = seen-gate hands shared old is_old home entry made in
       before entry there.0 there.1 deed
 
-module _ (hands : HandLaws) (laws : LowerLaws) (shared : Shared) (old new : Hand) (is_old : IsHand shared old) (is_new : IsHand shared new) where
+module _ (hands : HandLaws) (laws : LawsForSeenLogs) (shared : Shared) (old new : Hand) (is_old : IsHand shared old) (is_new : IsHand shared new) where
   -- what the hand's visits for a request read stays, if no visit was made for it
   pub own-same : (r : ℕ) → MakesNoVisit old new r → own_reads new r ≡ own_reads old r
   own-same r none =
@@ -231,7 +232,7 @@ runs-here law shared hand running was =
     let from = flat_has (λ (e : GateEntry). program_by e.author e.deed) (since start log) _ was.begun in (
       home,
       law log (hand_number hand) running.request running.stamp
-          (has_flat (λ (e : GateEntry). program_by e.author e.deed) log from.0 _ (drop-has (length start) log from.0 from.1) from.2) was.unfinished,
+          (has_flat (λ (e : GateEntry). program_by e.author e.deed) log from.0 _ (drop_has (length start) log from.0 from.1) from.2) was.unfinished,
     )
 
 -- with more room it is running, too

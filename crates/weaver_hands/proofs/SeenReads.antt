@@ -1,10 +1,11 @@
 -- What a hand's visits read for a request, and all that it has seen read for it.
+-- Used by `own_reads_were_seen`.
 use Rattle.std.proofs.Common.{◌≡◌, ℕ, suc, ◌==◌, Bool, true, false, cond, List, [], ◌∷◌, ◌++◌, map, Contains, refl, sym, ap, subst, ◌∙◌, eq-eqb}
 use Rattle.std.specs.Prelude.{filter, slice_index_or}
 use Rattle.std.specs.List.{flat_map}
 use Rattle.std.proofs.lemmas.Bool.{both_ways}
 use Rattle.std.proofs.lemmas.List.Elements.{Contains-append_left, Contains-append_right, filter-append}
-use Rattle.proof_base.proofs.Members.{filter_has, has_head, has_none, only}
+use Rattle.weave_data.proofs.Members.{filter_has, has_head, has_none, only}
 use Rattle.weave_data.specs.declared.name.Name.{Name}
 use Rattle.graph_ops.specs.Operations.{State}
 use Rattle.weave_entries.specs.declared.shard_log.ShardDeed.{ShardDeed}
@@ -13,7 +14,7 @@ use Rattle.weave_entries.specs.declared.shard_log.ShardEntry.{ShardEntry}
 use Rattle.weave_entries.specs.ShardReplay.{Visit, reads_in, visit_by, visits_of}
 use Rattle.weave_account.specs.Account.{reads_of, shard_log}
 use Rattle.weave_account.specs.GoesOn.{visits_by}
-use Rattle.seen_logs.proofs.Updates.{read-in}
+use Rattle.weave_account.proofs.VisitsStay.{read-in}
 use Rattle.weaver_locks.specs.declared.hand.Hand.{Hand}
 use Rattle.weaver_locks.specs.Hands.{hand_number, seen_by}
 use Rattle.weaver_hands.specs.Programs.{entries_of_author, own_reads, own_reads_in}

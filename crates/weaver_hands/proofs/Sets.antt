@@ -1,9 +1,10 @@
 -- Lists of lists of which one goes on.
+-- Used by Alone and Running.
 use Rattle.std.proofs.Common.{◌≡◌, ◌≢◌, ◌⊎◌, inl, ℕ, zero, suc, ◌<◌, List, [], ◌∷◌, ◌++◌, length, get_or, set, Contains, refl, sym, ap, ◌∙◌, arith}
 use Rattle.std.specs.List.{flat_map}
 use Rattle.std.proofs.lemmas.List.{append-nil, append_assoc}
 use Rattle.std.proofs.lemmas.List.Elements.{Contains-append_cases}
-use Rattle.seen_logs.proofs.Listed.{flat-alike}
+use Rattle.weave_account.proofs.VisitsStay.{flat-alike}
 
 module _ {A : Type 0} where
   -- a list of lists with nothing added to one is the same

@@ -45,7 +45,7 @@ pub record FoundUnsent (shards : ℕ) (old new : Hand) (gate shard number : ℕ)
   pub was : WasAtGate shards old new gate sent []
   pub unsent : sent_as number (channel_of shard sent) ≡ None
 
--- what came of a message that the shard took in so
+-- the outcome for a message that the shard took in like this
 abbrev pub pulled_by : Arrival → Pulled
 pulled_by arrival.Kept = New
 pulled_by arrival.Repeat = Known
@@ -56,7 +56,7 @@ is_sent Unsent = false
 is_sent Known = true
 is_sent New = true
 
--- The message was brought so, and it had arrived before, or had not.
+-- The message was brought like this, and it had arrived before, or had not.
 pub record Brings (shards : ℕ) (old new : Hand) (gate shard number : ℕ) (known : Bool) : Type 0 where
   pub pulls : Pulls shards old new gate shard number
   pub known_is : is_some (arrived_at gate number pulls.before) ≡ known

@@ -74,7 +74,7 @@ pub record GainsRead (old new : List (Name × State)) (read : Name × State) : T
   pub was : old ≡ front ++ back
   pub is : new ≡ front ++ read ∷ back
 
--- the program is as it was, but for its room
+-- the program is as it was, except for its room
 pub record ReadsNoMore (old new : Running) : Type 0 where
   pub request_is : new.request ≡ old.request
   pub stamp_is : new.stamp ≡ old.stamp
@@ -115,7 +115,7 @@ VisitsAs gates shards old new was is (Err (Waits vertex)) = ⊥
 
 -- The program was finished in one hold of its gatekeeper. The hand's visits had read all that it visits, and this is
 -- the plain answer over what they had read.
-pub record Finishes (shards : ℕ) (old new : Hand) (running : Running) (answer : Answer) : Type 0 where
+pub record HandFinishes (shards : ℕ) (old new : Hand) (running : Running) (answer : Answer) : Type 0 where
   pub before : List GateEntry
   pub was : WasAtGate shards old new running.stamp.home before (gate_entry_by old (Finished running.request) ∷ [])
   pub whole : next_visit (own_reads old running.request) (any_of running.walk) ≡ None
@@ -123,7 +123,7 @@ pub record Finishes (shards : ℕ) (old new : Hand) (running : Running) (answer 
 
 -- what `finish` answers
 abbrev pub FinishesAs : ℕ → Hand → Hand → Running → Result Answer HandFault → Type 0
-FinishesAs shards old new running (Ok answer) = Finishes shards old new running answer
+FinishesAs shards old new running (Ok answer) = HandFinishes shards old new running answer
 FinishesAs shards old new running (Err Memory) = MadeNone old new
 FinishesAs shards old new running (Err Busy) = ⊥
 FinishesAs shards old new running (Err (NotYet shard at)) = ⊥

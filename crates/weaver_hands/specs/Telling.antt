@@ -12,7 +12,7 @@ use Rattle.weaver_hands.specs.Leaving.{MadeNone}
 use Rattle.weaver_hands.specs.Transactions.{FoundBusy}
 
 -- The gatekeeper `from` said its clock in one hold, and `to` heard it in a second.
-pub record Tells (shards : ℕ) (old new : Hand) (from to : ℕ) : Type 0 where
+pub record TellsClock (shards : ℕ) (old new : Hand) (from to : ℕ) : Type 0 where
   pub told : Hand
   pub said : List GateEntry
   pub clock : Clock
@@ -23,7 +23,7 @@ pub record Tells (shards : ℕ) (old new : Hand) (from to : ℕ) : Type 0 where
 
 -- what `say_and_hear` answers
 abbrev pub TellsAs : ℕ → Hand → Hand → ℕ → ℕ → Result (Unit {0}) HandFault → Type 0
-TellsAs shards old new from to (Ok done) = Tells shards old new from to
+TellsAs shards old new from to (Ok done) = TellsClock shards old new from to
 TellsAs shards old new from to (Err Memory) = MadeNone old new
 TellsAs shards old new from to (Err Busy) = ⊥
 TellsAs shards old new from to (Err (NotYet shard at)) = ⊥

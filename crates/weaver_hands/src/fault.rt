@@ -7,7 +7,7 @@ use shard_node::{ApplyFault, VisitFault};
 use std::alloc::AllocError;
 use weave_data::Name;
 
-/// Why a call was refused. It made no entry, but for those of its earlier holds if it is out of memory.
+/// Why a call was refused. It made no entry, except those of its earlier holds if it is out of memory.
 #[derive(Clone, Copy, PartialEq, Eq)]
 pub enum HandFault {
     /// A transaction is in flight at the gatekeeper.

@@ -82,8 +82,8 @@ pub fn begun_programs_run()
     the_crates_below_keep_their_laws();
 }
 
-/// A hand's visits are of programs that it began itself, if it makes them by these calls: that is so for each of its
-/// visits since the start, and stays so.
+/// A hand's visits are of programs that it began itself, if it makes them by these calls. This holds for each of its
+/// visits since the start, and stays true.
 pub fn hands_visit_their_own_programs()
     ensures others { (shared : Shared) (old new : Hand) → IsHand shared old → IsHand shared new
         → ((r : ℕ) → MakesNoVisit old new r) → VisitsOwnPrograms (hand_number old) (start_of shared) (seen_by old)

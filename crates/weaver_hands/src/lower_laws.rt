@@ -1,5 +1,5 @@
 //! The laws of the crates below, in one.
-ghost use Rattle.seen_logs.specs.LowerLaws.{LowerLaws};
+ghost use Rattle.seen_logs.specs.LowerLaws.{LawsForSeenLogs};
 ghost use Rattle.weaver_locks.specs.HandLaws.{HandLaws};
 ghost use Rattle.weaver_hands.specs.ArrivalLaws.{ArrivalLaws};
 
@@ -42,7 +42,7 @@ pub(crate) fn hands_keep_their_laws()
 
 /// The laws of the crates below on logs that go on.
 pub(crate) fn the_crates_below_keep_their_laws()
-    ensures { LowerLaws }
+    ensures { LawsForSeenLogs }
 {
     accounts_were_seen();
     begun_stamps_are_coherent();

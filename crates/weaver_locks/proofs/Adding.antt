@@ -1,5 +1,6 @@
 -- What a hand has seen goes on after a hold, log by log: it made nothing there, or all that the log's entries refer to
 -- is within what it has seen next.
+-- Used by Following, Leaving, Passing and Sending.
 use Rattle.std.proofs.Common.{◌≡◌, ◌⊎◌, inl, inr, ℕ, ◌≤◌, List, length, ap, arith, length-append}
 use Rattle.weave_entries.specs.declared.gate_log.GateEntry.{GateEntry}
 use Rattle.weave_entries.specs.declared.oracle_log.OracleEntry.{OracleEntry}

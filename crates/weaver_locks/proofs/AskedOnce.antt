@@ -1,10 +1,11 @@
 -- A visit asks for no pair that another visit for which the hand answers asked for.
+-- Used by ShardVisited.
 use Rattle.std.proofs.Common.{◌≡◌, ◌≢◌, ℕ, zero, suc, ◌<◌, ◌≤◌, Bool, true, false, not, List, [], ◌∷◌, ◌++◌, length, Contains, inl, inr, refl, sym, ap, ◌∙◌, subst, arith}
 use Rattle.std.specs.Prelude.{IsTrue}
 use Rattle.std.proofs.lemmas.Bool.{cases_lt}
 use mathlib.Core.Logic.{dite}
 use native.Mathlib.Decide.{ℕ_discrete}
-use Rattle.proof_base.proofs.Members.{any_has, has_none, only}
+use Rattle.weave_data.proofs.Members.{any_has, has_none, only}
 use Rattle.vector_stamp.specs.declared.clock.Stamp.{Stamp}
 use Rattle.vector_stamp.specs.Precedence.{Given, precedes}
 use Rattle.vector_stamp.specs.Seeing.{last_seen, seen_of}
@@ -28,6 +29,7 @@ use Rattle.weaver_locks.specs.HoldLaws.{HoldLaws}
 use Rattle.weaver_locks.specs.Locks.{start_of}
 use Rattle.weaver_locks.proofs.Logged.{begin_length, inside}
 use Rattle.weaver_locks.proofs.StoreNew.{still_there}
+use Rattle.weaver_locks.specs.InShard.{AddedAskForNewPairs, AsksForNewPair}
 
 -- the last element of a list, where it is cut
 pub last_cut : {A : Type 0} (xs cut after : List A) (x y : A) → xs ++ x ∷ [] ≡ cut ++ y ∷ after → length xs ≤ length cut → (cut ≡ xs) × (x ≡ y)
@@ -105,9 +107,7 @@ module _ (hold : HoldLaws) (laws : AskLaws) (shared : Shared) (old : Hand) (hand
   start_low k = let on = hand.seen.starts.shards k in begin_length (shard_log (start_of shared) k) (shard_log was k) (on.0, sym on.1)
 
   once : IsTrue v.settled → (next : Account) → shard_log next shard ≡ before ++ visit_entry v ∷ []
-      → ((k : ℕ) → k ≢ shard → shard_log next k ≡ shard_log was k) → (other : ℕ) (rest : List ShardEntry) (b : Visit)
-      → HasAsked n (start_of shared) next other rest b → v.stamp ≡ b.stamp → seen_last before v ≡ seen_last rest b
-      → (shard ≡ other) × (length before ≡ length rest)
+      → ((k : ℕ) → k ≢ shard → shard_log next k ≡ shard_log was k) → AsksForNewPair shared old shard next before v
   once marked next here there other rest b of_b same alike = dite (ℕ_discrete other shard)
       (λ is.
       let at : before ++ visit_entry v ∷ [] ≡ rest ++ visit_entry b ∷ of_b.after =
@@ -140,12 +140,8 @@ module _ (hold : HoldLaws) (laws : AskLaws) (shared : Shared) (old : Hand) (hand
       } in
       absurd (not_in_seen marked other rest b asked same alike))
 
-  pub asks_new : (next : Account) → shard_log next shard ≡ before ++ visit_entry v ∷ []
-      → ((k : ℕ) → k ≢ shard → shard_log next k ≡ shard_log was k)
-      → (cut after : List ShardEntry) (a : Visit) → before ++ visit_entry v ∷ [] ≡ cut ++ visit_entry a ∷ after
-      → length before ≤ length cut → IsTrue a.settled → (other : ℕ) (rest : List ShardEntry) (b : Visit)
-      → HasAsked n (start_of shared) next other rest b → a.stamp ≡ b.stamp
-      → seen_last cut a ≡ seen_last rest b → (shard ≡ other) × (length cut ≡ length rest)
+  -- nor did the visit itself
+  pub asks_new : AddedAskForNewPairs shared old shard before (visit_entry v ∷ [])
   asks_new next here there cut after a at over marked other rest b of_b same alike =
       let last = last_cut before cut after (visit_entry v) (visit_entry a) at over in
       let visit_is : a ≡ v = ap (λ (e : ShardEntry). visit_in e v) (sym last.1) in

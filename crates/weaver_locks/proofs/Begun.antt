@@ -1,11 +1,12 @@
 -- Locks of a row that were opened, as their machines are seen.
+-- Used by `open_all`.
 use Rattle.std.proofs.Common.{◌≡◌, ℕ, ◌<◌, List, length, map, get_or, sym, ap, ◌∙◌, arith}
 use Rattle.std.specs.List.{All}
 use Rattle.std.proofs.lemmas.List.{get_or-map}
 use Rattle.chronicle.specs.declared.chronicle.Chronicle.{Chronicle}
 use Rattle.chronicle.specs.Frames.{Frame}
 use Rattle.chronicle.specs.Logs.{Log}
-use Rattle.chronicle.specs.Locks.{lock_of, BeginsAs}
+use Rattle.chronicle.specs.Locks.{lock_of, LockStartsWith}
 use Rattle.lock_row.specs.Openings.{AllBegin}
 use Rattle.lock_row.proofs.Lists.{one_of}
 
@@ -15,7 +16,7 @@ module _ {M E B V : Type 0} (frame_of : B → Frame) (log_of : B → Log E) (vie
       → All (λ (c : Chronicle M E). (lock_of c).passes ≡ old) before → old ≡ new
       → All (λ b. frame_of b ≡ frame_for (view b)) machines → ((b : B) → log_of b ≡ log_for (view b))
       → (k : ℕ) (d : Chronicle M E) (v : V) → k < length after
-      → BeginsAs (lock_of (get_or after k d)) new (frame_for (get_or (map view machines) k v)) (log_for (get_or (map view machines) k v))
+      → LockStartsWith (lock_of (get_or after k d)) new (frame_for (get_or (map view machines) k v)) (log_for (get_or (map view machines) k v))
   all_begun begin machine_count count passes more frames logs k d v low =
       let first : k < length before = omega (arith, low, count) in
       let there : k < length machines = omega (arith, first, machine_count) in

@@ -1,4 +1,5 @@
 -- Logs beside the one that a hand was in: it added nothing to those of gatekeepers, and to the oracle's what it asked for.
+-- Used by `visit`, Running, ShardArrived, ShardAsked, ShardLeft, ShardVisited, StoreLeft and StoreNew.
 use Rattle.std.proofs.Common.{◌≡◌, ℕ, ◌≤◌, List, [], ◌∷◌, ◌++◌, length, map, get_or, Contains, refl, sym, ap, ◌∙◌, subst}
 use Rattle.weave_entries.specs.declared.gate_log.GateDeed.{GateDeed}
 use Rattle.weave_entries.specs.declared.gate_log.GateEntry.{GateEntry}

@@ -1,8 +1,9 @@
 -- What the hand with a number has seen: for the law on hands and their numbers.
+-- Used by `hands_are_found_by_number`.
 use Rattle.std.proofs.Common.{◌≡◌, ℕ, ◌<◌, eqb, eq-eqb, cond, Bool, List, [], ◌∷◌, map, All, Contains, inl, inr, sym, ap, ◌∙◌, subst}
 use Rattle.std.proofs.lemmas.Bool.{both_ways, cases_Bool, eqb-true}
 use Rattle.std.proofs.lemmas.List.Elements.{All-contains}
-use Rattle.proof_base.proofs.Members.{has_head, has_none, has_read, has_tail}
+use Rattle.weave_data.proofs.Members.{has_head, has_none, has_read, has_tail}
 use Rattle.weave_account.specs.declared.account.Account.{Account}
 use Rattle.seen_logs.specs.Seen.{VisitsOwnPrograms}
 use Rattle.weaver_locks.specs.declared.hand.Hand.{Hand}

@@ -1,4 +1,5 @@
 -- A call of a gatekeeper within a hold.
+-- Used by `begin_program`, `begin_tx`, `fetch`, `finish`, `hear`, `nop`, `say` and `send`.
 use Rattle.std.proofs.Common.{◌≡◌, ℕ, ◌<◌, List, [], ◌∷◌, ◌++◌, length, map, refl, sym, ap, ◌∙◌, subst, arith, Contains}
 use Rattle.std.specs.Prelude.{Result, Ok, Err, IfOk, IsTrue, OnOk, OnErr, Option}
 use Rattle.std.specs.List.{All}
@@ -29,7 +30,7 @@ use Rattle.chronicle.specs.Seats.{number_in}
 use Rattle.gate_lock.specs.declared.noted.NotedGate.{NotedGate}
 use Rattle.gate_lock.specs.declared.notes.GateNotes.{GateNotes}
 use Rattle.gate_lock.specs.Frames.{gate_frame}
-use Rattle.gate_lock.specs.Notes.{IsKept, account_of, seen_of}
+use Rattle.gate_lock.specs.Notes.{GateIsKept, account_of, seen_of}
 use Rattle.weaver_locks.specs.declared.hand.Hand.{Hand}
 use Rattle.weaver_locks.specs.declared.shared.Shared.{Shared}
 use Rattle.weaver_locks.specs.GateHolds.{gate_entries_of, gate_entry_by}
@@ -129,7 +130,7 @@ pub known_with : (account : Account) (clock : Clock) → IsKnown (without_oracle
 known_with account clock known = record { eight = known.eight; counts = known.counts; raised = known.raised }
 
 -- what the hand knows the gatekeeper does
-pub known_there : GateLaws → (shared : Shared) (old : Hand) (m : NotedGate) → IsKept m.gate m.notes
+pub known_there : GateLaws → (shared : Shared) (old : Hand) (m : NotedGate) → GateIsKept m.gate m.notes
     → IsWithin (without_oracle (seen_by old)) (seen_of m.gate m.notes) → (clock : Clock) → IsKnown (seen_by old) clock
     → IsKnown (seen_of m.gate m.notes) clock
 known_there rules shared old m kept within clock known =
@@ -137,7 +138,7 @@ known_there rules shared old m kept within clock known =
     kept.legal.shard_logs [] 0 (Heard clock) (known_without (seen_by old) clock known)
 
 -- the log of a gatekeeper in what it has seen
-own_log : (m : NotedGate) → IsKept m.gate m.notes → gate_log (seen_of m.gate m.notes) m.gate.home ≡ m.gate.log
+own_log : (m : NotedGate) → GateIsKept m.gate m.notes → gate_log (seen_of m.gate m.notes) m.gate.home ≡ m.gate.log
 own_log m kept =
     let logs = map gate_entries (map noted m.notes.gates.items) in
     get_or-set_same logs m.gate.home m.gate.log [] (omega (
@@ -148,22 +149,22 @@ own_log m kept =
       length-map m.notes.gates.items noted,
     ))
 
--- a stamp that the hand knows counts no more of the gatekeeper's events than it made
-pub hears_no_more : GateLaws → (shared : Shared) (old now : Hand) (gate : ℕ) (held : Held NotedGate GateDeed)
-    → gate < length shared.gates.items → IsInGate shared old now gate (machine_of held).gate.log [] held
-    → IsKept (machine_of held).gate (machine_of held).notes
-    → IsWithin (without_oracle (seen_by old)) (seen_of (machine_of held).gate (machine_of held).notes) → (last : Option Stamp)
-    → ForSome last (λ heard. IsKnown (seen_by old) heard.clock)
-    → ForSome last (λ heard. IsTrue (counts_no_more gate (clock_of gate (machine_of held).gate.log) heard.clock))
-hears_no_more rules shared old now gate held low inside kept within last known heard is =
-    let m = machine_of held in
-    let home = m.gate.home in
-    let few = shared.framed.few_gates in
-    let at = own_log m kept in
-    let small : home < 8 = omega (arith, low, few, inside.machine.home) in
-    let there = known_there rules shared old m kept within heard.clock (known heard is) in
-    let hears = rules.may_be_heard m.gate.shards home (seen_of m.gate m.notes) small (kept.legal.gate_logs home) heard.clock there in
-    subst (λ (z : ℕ × List GateEntry). IsTrue (counts_no_more z.0 (clock_of z.0 z.1) heard.clock)) (λ i. (inside.machine.home i, at i)) hears
+module _ (rules : GateLaws) (shared : Shared) (old now : Hand) (gate : ℕ) (held : Held NotedGate GateDeed) where
+  -- a stamp that the hand knows counts no more of the gatekeeper's events than it made
+  pub hears_no_more : gate < length shared.gates.items → IsInGate shared old now gate (machine_of held).gate.log [] held
+      → GateIsKept (machine_of held).gate (machine_of held).notes
+      → IsWithin (without_oracle (seen_by old)) (seen_of (machine_of held).gate (machine_of held).notes) → (last : Option Stamp)
+      → ForSome last (λ heard. IsKnown (seen_by old) heard.clock)
+      → ForSome last (λ heard. IsTrue (counts_no_more gate (clock_of gate (machine_of held).gate.log) heard.clock))
+  hears_no_more low inside kept within last known heard is =
+      let m = machine_of held in
+      let home = m.gate.home in
+      let few = shared.framed.few_gates in
+      let at = own_log m kept in
+      let small : home < 8 = omega (arith, low, few, inside.machine.home) in
+      let there = known_there rules shared old m kept within heard.clock (known heard is) in
+      let hears = rules.may_be_heard m.gate.shards home (seen_of m.gate m.notes) small (kept.legal.gate_logs home) heard.clock there in
+      subst (λ (z : ℕ × List GateEntry). IsTrue (counts_no_more z.0 (clock_of z.0 z.1) heard.clock)) (λ i. (inside.machine.home i, at i)) hears
 
 -- what the gatekeeper knows the hand does when it has left
 pub known_after : {A F : Type 0} (new : Hand) (m : NotedGate) (result : Result A F) (clock : A → Clock)
@@ -215,7 +216,7 @@ as_found P state gate shards before found holds =
     subst (λ (z : ℕ × List GateEntry). P z.0 z.1) (λ i. (found.home i, found.log i)) holds
 
 -- a program's visits were seen by the gatekeeper if the hand has seen them
-pub ends_there : GateLaws → (old : Hand) (m : NotedGate) → IsKept m.gate m.notes
+pub ends_there : GateLaws → (old : Hand) (m : NotedGate) → GateIsKept m.gate m.notes
     → IsWithin (without_oracle (seen_by old)) (seen_of m.gate m.notes) → (request : ℕ) → EndsAsSeen (seen_by old) request
     → EndsAsSeen (seen_of m.gate m.notes) request
 ends_there rules old m kept within request ends =
@@ -223,17 +224,21 @@ ends_there rules old m kept within request ends =
     kept.legal.shard_logs [] 0 (Finished request)
     (record { program = ends.program; reads = ends.reads; read = ends.read; whole = ends.whole })
 
--- a message that was fetched may arrive
-pub may_arrive : {F : Type 0} (new : Hand) (state : NotedGate) (gate shards shard number : ℕ) (before : List GateEntry)
-    (result : Result (Option Message) F) → IsFoundAs state gate shards before → gate_log (seen_by new) gate ≡ before ++ []
-    → seen_of state.gate state.notes ≡ without_oracle (seen_by new)
-    → IfOk result (λ found. ForSome found (λ one. Contains (addressed_to shard state.gate.log)
-    (record { shard = shard; number = number; message = one })))
-    → IfOk result (λ found. ForSome found (λ one. IsMade state.gate.shards (seen_of state.gate state.notes).store shard one))
-    → IfOk result (λ found. ForSome found (λ message. ArrivesAsSeen (seen_by new) shards shard gate number message))
-may_arrive new state gate shards shard number before (Ok found) was left same sent made = λ one is. record {
-  sent = subst (λ (l : List GateEntry). Contains (addressed_to shard l) (record { shard = shard; number = number; message = one }))
-      (was.log ∙ (sym (append-nil before) ∙ sym left)) (sent one is);
-  made = subst (λ (z : ℕ × Account). IsMade z.0 z.1.store shard one) (λ i. (was.shards_are i, same i)) (made one is);
-}
-may_arrive new state gate shards shard number before (Err fault) was left same sent made = tt
+-- this is so of the message that was fetched, if one was
+abbrev OfFetched : {F : Type 0} → Result (Option Message) F → (Message → Type 0) → Type 0
+OfFetched result P = IfOk result (λ found. ForSome found P)
+
+module _ (new : Hand) (state : NotedGate) (gate shards shard number : ℕ) (before : List GateEntry)
+    (was : IsFoundAs state gate shards before) where
+  -- a message that was fetched may arrive
+  pub may_arrive : {F : Type 0} (result : Result (Option Message) F)
+      → gate_log (seen_by new) gate ≡ before ++ [] → seen_of state.gate state.notes ≡ without_oracle (seen_by new)
+      → OfFetched result (λ one. Contains (addressed_to shard state.gate.log) (record { shard = shard; number = number; message = one }))
+      → OfFetched result (λ one. IsMade state.gate.shards (seen_of state.gate state.notes).store shard one)
+      → OfFetched result (λ one. ArrivesAsSeen (seen_by new) shards shard gate number one)
+  may_arrive (Ok found) left same sent made = λ one is. record {
+    sent = subst (λ (l : List GateEntry). Contains (addressed_to shard l) (record { shard = shard; number = number; message = one }))
+        (was.log ∙ (sym (append-nil before) ∙ sym left)) (sent one is);
+    made = subst (λ (z : ℕ × Account). IsMade z.0 z.1.store shard one) (λ i. (was.shards_are i, same i)) (made one is);
+  }
+  may_arrive (Err fault) left same sent made = tt

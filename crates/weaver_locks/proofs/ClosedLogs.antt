@@ -1,4 +1,5 @@
 -- A closed log, and what the hands have seen of it.
+-- Used by ClosedRun and Closings.
 use Rattle.std.proofs.Common.{◌≡◌, ⊎_elim, inl, inr, ℕ, ◌<◌, ◌≤◌, List, [], ◌∷◌, ◌++◌, length, map, get_or, refl, sym, ap, ◌∙◌, subst, arith, Vec}
 use Rattle.std.specs.Global.{Global}
 use Rattle.std.specs.List.{All, Any, Contains}

@@ -1,11 +1,12 @@
 -- All closed logs of a run.
+-- Used by Closings and OwnLogs.
 use Rattle.std.proofs.Common.{◌≡◌, ◌≢◌, ⊎_elim, ℕ, ◌<◌, ◌≤◌, eq-eqb, ne_eqb, Bool, cond, List, [], ◌∷◌, map, get_or, refl, sym, ap, ◌∙◌, subst, arith}
 use Rattle.std.specs.List.{All, Contains}
 use Rattle.std.proofs.lemmas.List.Elements.{All-contains}
 use mathlib.Core.Logic.{dite}
 use mathlib.Core.List.{IsPrefix}
 use native.Mathlib.Decide.{ℕ_discrete}
-use Rattle.proof_base.proofs.Members.{has_read, has_tail}
+use Rattle.weave_data.proofs.Members.{has_read, has_tail}
 use Rattle.weave_entries.specs.declared.gate_log.GateDeed.{GateDeed}
 use Rattle.weave_entries.specs.declared.gate_log.GateEntry.{GateEntry}
 use Rattle.weave_entries.specs.declared.oracle_log.OracleDeed.{OracleDeed}
@@ -31,7 +32,7 @@ use Rattle.weaver_locks.proofs.Lists.{list_at}
 use Rattle.weaver_locks.specs.ClosingLaws.{ClosingLaws}
 use Rattle.weaver_locks.proofs.ClosedLogs.{IsClosedLog, IsNumbered, entries_of_hands}
 
--- the hand with this number is the one of which `seen_by_number` tells
+-- there is a hand with this number, and `seen_by_number` gives what it has seen
 pub record IsFound (hands : List Hand) (number : ℕ) : Type 0 where
   pub is : IsNumbered hands number
   pub seen_is : seen_by_number hands number ≡ seen_by is.hand

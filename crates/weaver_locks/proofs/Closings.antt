@@ -1,4 +1,5 @@
 -- What follows for the machines when all locks are closed.
+-- Used by `close`.
 use Rattle.std.proofs.Common.{◌≡◌, ℕ, zero, suc, ◌<◌, ◌≤◌, List, [], ◌∷◌, length, map, get_or, refl, sym, ap, ◌∙◌, subst, arith, Vec}
 use Rattle.std.specs.Global.{Global}
 use Rattle.std.specs.List.{All, Contains}
@@ -48,7 +49,7 @@ fewer n m room le is = record { none = is.none; space = omega (arith, is.space, 
 pub fewer_each : {A : Type 0} (n m : ℕ) (rooms : List (Vec A Global)) → m ≤ n → AreRooms n rooms → AreRooms m rooms
 fewer_each n m rooms le are k room low = fewer n m (get_or rooms k room) le (are k room low)
 
--- the images are the same where the elements' are
+-- the images are the same if the elements' are
 same_images : {A B : Type 0} (f g : A → B) (xs : List A) → All (λ x. f x ≡ g x) xs → map f xs ≡ map g xs
 same_images f g [] same = refl
 same_images f g (x ∷ xs) same =
@@ -265,7 +266,5 @@ module _ (shared : Shared) (hands : List Hand) (each : All (IsHand shared) hands
           run h (Contains-get_or hands k d low) record {
             gates_long = length-map gates gate_log_of ∙ (out.gate_count ∙ sym is.gates);
             shards_long = length-map shards shard_log_of ∙ (out.shard_count ∙ sym is.shards);
-            gate_numbers = is.gate_numbers;
-            oracle_number = is.oracle_number;
-            shard_numbers = is.shard_numbers;
+            numbers = record { gates = is.gate_numbers; oracle = is.oracle_number; shards = is.shard_numbers };
           }

@@ -1,4 +1,5 @@
 -- A hand may be sent to another thread, and the locks of a run may be shared by threads.
+-- Used by crates hands_rows, locks_rows and weave_phase.
 use mathlib.Core.Path.{◌≡◌, sym, subst}
 use mathlib.Core.List.{[]}
 use base.Fml.{ftrue}
@@ -26,13 +27,13 @@ use Rattle.weave_entries.specs.contracts.store_log.StoreDeed as store_deed
 use Rattle.gate_lock.proofs.Crossing as gate_lock
 use Rattle.gate_lock.specs.contracts.noted.NotedGate as noted_gate
 use Rattle.gate_lock.specs.contracts.noted.NotedGateMachine.TheImpl as gate_machine
-use Rattle.oracle_lock.proofs.Crossing as oracle_lock
+use Rattle.oracle_lock.proofs.noted_oracle.NotedOracle.TheSendSync as oracle_sends
 use Rattle.oracle_lock.specs.contracts.noted_oracle.NotedOracle as noted_oracle
 use Rattle.oracle_lock.specs.contracts.noted_oracle.NotedOracleMachine.TheImpl as oracle_machine
 use Rattle.shard_lock.proofs.Crossing as shard_lock
 use Rattle.shard_lock.specs.contracts.noted.NotedShard as noted_shard
 use Rattle.shard_lock.specs.contracts.noted.NotedShardMachine.TheImpl as shard_machine
-use Rattle.store_lock.proofs.Crossing as store_lock
+use Rattle.store_lock.proofs.noted_store.NotedStore.TheSendSync as store_sends
 use Rattle.store_lock.specs.contracts.noted_store.NotedStore as noted_store
 use Rattle.store_lock.specs.contracts.noted_store.NotedStoreMachine.TheImpl as store_machine
 use Rattle.weaver_locks.specs.Kept.{HasEnds}
@@ -115,10 +116,10 @@ shards_sync : IsSync (list_of (chronicle.the_row noted_shard.the_row shard_deed.
 shards_sync = Vec-sync (chronicle.the_row noted_shard.the_row shard_deed.the_row shard_machine.ghosts) shard_lock.lock_sync
 
 store_sync : IsSync (chronicle.the_field noted_store.the_row store_deed.the_row store_machine.ghosts).row
-store_sync = chronicle_sync_within noted_store.the_row store_deed.the_row store_machine.ghosts store_lock.noted_send
+store_sync = chronicle_sync_within noted_store.the_row store_deed.the_row store_machine.ghosts store_sends.the_send
 
 oracle_sync : IsSync (chronicle.the_field noted_oracle.the_row oracle_deed.the_row oracle_machine.ghosts).row
-oracle_sync = chronicle_sync_within noted_oracle.the_row oracle_deed.the_row oracle_machine.ghosts oracle_lock.noted_send
+oracle_sync = chronicle_sync_within noted_oracle.the_row oracle_deed.the_row oracle_machine.ghosts oracle_sends.the_send
 
 pub shared_sync : IsSync shared.the_row
 shared_sync = record {

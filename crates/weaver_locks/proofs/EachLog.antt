@@ -1,8 +1,9 @@
 -- What a hand made in each log, and which entries with its number others have seen: for the laws on own entries.
+-- Used by `own_entries_of_each_log`, 2 more and crates locks_rows, sessions_account, weaver_hands and workers_account.
 use Rattle.std.proofs.Common.{◌≡◌, ℕ, eqb, eq-eqb, List, [], map, get_or, sym, ap, ◌∙◌, refl, subst}
 use Rattle.std.specs.List.{Contains, filter}
 use Rattle.std.proofs.lemmas.List.Elements.{Contains-append_left}
-use Rattle.proof_base.proofs.Members.{has_filter}
+use Rattle.weave_data.proofs.Members.{has_filter}
 use Rattle.weave_entries.specs.declared.gate_log.GateEntry.{GateEntry}
 use Rattle.weave_entries.specs.declared.oracle_log.OracleEntry.{OracleEntry}
 use Rattle.weave_entries.specs.declared.shard_log.ShardEntry.{ShardEntry}

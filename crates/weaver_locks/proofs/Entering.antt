@@ -1,4 +1,5 @@
 -- A hand enters the lock of a gatekeeper, whose notes meet its other passes.
+-- Used by `enter_gate`, Leaving and Sending.
 use Rattle.std.proofs.Common.{◌≡◌, ℕ, ◌<◌, List, [], ◌∷◌, ◌++◌, length, map, get_or, set, refl, sym, ap, ◌∙◌, subst, arith}
 use Rattle.std.proofs.lemmas.List.{append-nil, get_or-map, get_or_default, get_or-set_same, get_or-set_other, length-map, length-set, map-append, map-set, set-get_or, set-set}
 use Rattle.std.proofs.lemmas.List.Elements.{All-nil}
@@ -28,7 +29,7 @@ use Rattle.lock_row.specs.Rows.{names_of}
 use Rattle.lock_row.proofs.Lists.{one_of}
 use Rattle.gate_lock.specs.declared.noted.NotedGate.{NotedGate}
 use Rattle.gate_lock.specs.Frames.{AreReadyBut, gate_frame}
-use Rattle.gate_lock.specs.Notes.{IsKept, account_of, frame_of, seen_by_passes, seen_of}
+use Rattle.gate_lock.specs.Notes.{GateIsKept, account_of, frame_of, seen_by_passes, seen_of}
 use Rattle.shard_lock.specs.declared.noted.NotedShard.{NotedShard}
 use Rattle.weaver_locks.specs.declared.hand.Hand.{Hand}
 use Rattle.weaver_locks.specs.declared.shared.Shared.{Shared}
@@ -37,6 +38,7 @@ use Rattle.weaver_locks.specs.Hands.{IsHand, hand_number, seen_by}
 use Rattle.weaver_locks.specs.InGate.{HasFound, IsInGate, SeesElsewhere, without_oracle}
 use Rattle.weaver_locks.specs.Onward.{OnlySees}
 use Rattle.weaver_locks.proofs.FrameParts.{first_of}
+use Rattle.weaver_locks.proofs.HandParts.{has_gate}
 
 -- what a log that was seen begins
 pub log_found : HandLaws → (old : Hand) (gate : ℕ) (before : List GateEntry) → gate < length old.gates.items → HasFound old gate before
@@ -85,52 +87,55 @@ pub record HasMet (shared : Shared) (old now : Hand) (gate : ℕ) (q : Pass Gate
   pub before : (own : List GateEntry) → IsBeginningOf own met.gate.log
       → IsWithin (seen_by_passes gate own (set gates gate q) old.store shards) (seen_of met.gate met.notes)
 
--- the lists are those of the locks and the hand
-pub met_there : (shared : Shared) (old now : Hand) (gate : ℕ) (q : Pass GateDeed) (found met : NotedGate)
+module _ (shared : Shared) (old now : Hand) (gate : ℕ) (q : Pass GateDeed) (found met : NotedGate)
     (locks : List (Chronicle NotedGate GateDeed)) (gates : List (Pass GateDeed)) (shard_locks : List (Chronicle NotedShard ShardDeed))
-    (shards : List (Pass ShardDeed)) (gates_now : List (Pass GateDeed)) (shards_now : List (Pass ShardDeed)) → locks ≡ shared.gates.items
-    → gates ≡ old.gates.items → shard_locks ≡ shared.shards.items → shards ≡ old.shards.items → now.gates.items ≡ gates_now
-    → now.shards.items ≡ shards_now → HasMet shared old now gate q found met locks gates shard_locks shards gates_now shards_now
-    → HasMet shared old now gate q found met shared.gates.items old.gates.items shared.shards.items old.shards.items now.gates.items
-    now.shards.items
-met_there shared old now gate q found met locks gates shard_locks shards gates_now shards_now a b c d e f h =
-    let P : List (Chronicle NotedGate GateDeed) × List (Pass GateDeed) × List (Chronicle NotedShard ShardDeed) × List (Pass ShardDeed) ×
-    List (Pass GateDeed) × List (Pass ShardDeed) → Type 0 =
-    λ z. HasMet shared old now gate q found met z.0 z.1 z.2 z.3 z.4 z.5 in
-    subst P (λ i. (a i, b i, c i, d i, sym e i, sym f i)) h
+    (shards : List (Pass ShardDeed)) (gates_now : List (Pass GateDeed)) (shards_now : List (Pass ShardDeed)) where
+  -- the lists are those of the locks and the hand
+  pub met_there : locks ≡ shared.gates.items → gates ≡ old.gates.items → shard_locks ≡ shared.shards.items → shards ≡ old.shards.items
+      → now.gates.items ≡ gates_now → now.shards.items ≡ shards_now
+      → HasMet shared old now gate q found met locks gates shard_locks shards gates_now shards_now
+      → HasMet shared old now gate q found met shared.gates.items old.gates.items shared.shards.items old.shards.items now.gates.items
+      now.shards.items
+  met_there a b c d e f h =
+      let P : List (Chronicle NotedGate GateDeed) × List (Pass GateDeed) × List (Chronicle NotedShard ShardDeed) × List (Pass ShardDeed) ×
+      List (Pass GateDeed) × List (Pass ShardDeed) → Type 0 =
+      λ z. HasMet shared old now gate q found met z.0 z.1 z.2 z.3 z.4 z.5 in
+      subst P (λ i. (a i, b i, c i, d i, sym e i, sym f i)) h
 
--- what it is to have entered by this lock and this pass
-pub entered_by : (shared : Shared) (old : Hand) (gate : ℕ) (q d : Pass GateDeed) (held : Held NotedGate GateDeed) (found machine : NotedGate)
+-- the lock and the pass of a call are those of the gatekeeper
+module _ (shared : Shared) (old : Hand) (gate : ℕ) (q d : Pass GateDeed) (held : Held NotedGate GateDeed) (found machine : NotedGate)
     (a : Chronicle NotedGate GateDeed) (locks : List (Chronicle NotedGate GateDeed)) (gates : List (Pass GateDeed))
-    → gate < length shared.gates.items → gate < length old.gates.items → locks ≡ shared.gates.items → gates ≡ old.gates.items
-    → a ≡ get_or locks gate a → found ≡ machine → frame_of machine.gate machine.notes ≡ (lock_of a).frame
-    → IsPrefix (seen (get_or gates gate d)) (gate_pairs machine.gate.log) → entries_of (number_of (get_or gates gate d)) (gate_pairs machine.gate.log)
-    ≡ own (get_or gates gate d)
-    → log_at_entry held ≡ gate_pairs machine.gate.log → lock_in held ≡ lock_of a → WentInWith q held → number_of q ≡ number_of (get_or gates gate d)
-    → HasEntered shared old gate q held found
-entered_by shared old gate q d held found machine a locks gates low low_old at_locks at_gates a_is same framed more mine entry lock went number =
-    let lock_at : (c : Chronicle NotedGate GateDeed) → a ≡ get_or shared.gates.items gate c = λ c.
-    a_is ∙ (ap (λ (l : List (Chronicle NotedGate GateDeed)). get_or l gate a) at_locks ∙ get_or_default shared.gates.items gate a c low) in
-    let pass_at : (p : Pass GateDeed) → get_or gates gate d ≡ get_or old.gates.items gate p = λ p.
-    ap (λ (l : List (Pass GateDeed)). get_or l gate d) at_gates ∙ get_or_default old.gates.items gate d p low_old in
-    let log : machine.gate.log ≡ found.gate.log = ap (λ (n : NotedGate). n.gate.log) (sym same) in
-    record {
-      frame = λ c. ap (λ (n : NotedGate). frame_of n.gate n.notes) same
-          ∙ (framed ∙ ap (λ (l : Chronicle NotedGate GateDeed). (lock_of l).frame) (lock_at c));
-      more = λ p. subst (λ (z : Pass GateDeed × List GateEntry). IsPrefix (seen z.0) (gate_pairs z.1)) (λ i. (pass_at p i, log i)) more;
-      own_is = λ p. subst (λ (z : Pass GateDeed × List GateEntry). entries_of (number_of z.0) (gate_pairs z.1) ≡ own z.0)
-          (λ i. (pass_at p i, log i)) mine;
-      entry = entry ∙ ap (λ (l : List GateEntry). gate_pairs l) log;
-      lock = λ c. lock ∙ ap (λ (l : Chronicle NotedGate GateDeed). lock_of l) (lock_at c);
-      went = went;
-      number = λ p. number ∙ ap (λ (y : Pass GateDeed). number_of y) (pass_at p);
-    }
+    (low : gate < length shared.gates.items) (low_old : gate < length old.gates.items) (at_locks : locks ≡ shared.gates.items)
+    (at_gates : gates ≡ old.gates.items) (a_is : a ≡ get_or locks gate a) (same : found ≡ machine) where
+  lock_there : (c : Chronicle NotedGate GateDeed) → a ≡ get_or shared.gates.items gate c
+  lock_there c =
+      a_is ∙ (ap (λ (l : List (Chronicle NotedGate GateDeed)). get_or l gate a) at_locks ∙ get_or_default shared.gates.items gate a c low)
+
+  pass_there : (p : Pass GateDeed) → get_or gates gate d ≡ get_or old.gates.items gate p
+  pass_there p = ap (λ (l : List (Pass GateDeed)). get_or l gate d) at_gates ∙ get_or_default old.gates.items gate d p low_old
+
+  log_there : machine.gate.log ≡ found.gate.log
+  log_there = ap (λ (n : NotedGate). n.gate.log) (sym same)
+
+  -- what it is to have entered by them
+  pub entered_by : frame_of machine.gate machine.notes ≡ (lock_of a).frame → IsPrefix (seen (get_or gates gate d)) (gate_pairs machine.gate.log)
+      → entries_of (number_of (get_or gates gate d)) (gate_pairs machine.gate.log) ≡ own (get_or gates gate d)
+      → log_at_entry held ≡ gate_pairs machine.gate.log → lock_in held ≡ lock_of a → WentInWith q held
+      → number_of q ≡ number_of (get_or gates gate d) → HasEntered shared old gate q held found
+  entered_by framed more mine entry lock went number = record {
+    frame = λ c. ap (λ (n : NotedGate). frame_of n.gate n.notes) same
+        ∙ (framed ∙ ap (λ (l : Chronicle NotedGate GateDeed). (lock_of l).frame) (lock_there c));
+    more = λ p. subst (λ (z : Pass GateDeed × List GateEntry). IsPrefix (seen z.0) (gate_pairs z.1)) (λ i. (pass_there p i, log_there i)) more;
+    own_is = λ p. subst (λ (z : Pass GateDeed × List GateEntry). entries_of (number_of z.0) (gate_pairs z.1) ≡ own z.0)
+        (λ i. (pass_there p i, log_there i)) mine;
+    entry = entry ∙ ap (λ (l : List GateEntry). gate_pairs l) log_there;
+    lock = λ c. lock ∙ ap (λ (l : Chronicle NotedGate GateDeed). lock_of l) (lock_there c);
+    went = went;
+    number = λ p. number ∙ ap (λ (y : Pass GateDeed). number_of y) (pass_there p);
+  }
 
 module _ (laws : HandLaws) (shared : Shared) (old : Hand) (gate : ℕ) (low : gate < length shared.gates.items) (hand : IsHand shared old)
     (q : Pass GateDeed) where
-  low_old : gate < length old.gates.items
-  low_old = omega (arith, low, hand.gates)
-
   -- What the meeting asks
 
   pub ready_but : AreReadyBut gate shared.gates.items (set old.gates.items gate q)
@@ -172,7 +177,7 @@ module _ (laws : HandLaws) (shared : Shared) (old : Hand) (gate : ℕ) (low : ga
         (subst (λ (l : List GateEntry). IsBeginningOf l (get_or logs gate []))
         (sym (get_or-set_same logs gate [] [] (omega (
           arith,
-          low_old,
+          has_gate shared old hand gate low,
           length-map (map seen old.gates.items) gate_entries,
           length-map old.gates.items seen,
         )))) (get_or logs gate [], refl)))
@@ -194,7 +199,7 @@ module _ (laws : HandLaws) (shared : Shared) (old : Hand) (gate : ℕ) (low : ga
   module _ (now : Hand) (held : Held NotedGate GateDeed) (found : NotedGate) (entered : HasEntered shared old gate q held found)
       (met : HasMet shared old now gate q found (machine_of held) shared.gates.items old.gates.items shared.shards.items
       old.shards.items now.gates.items now.shards.items)
-      (kept : IsKept (machine_of held).gate (machine_of held).notes) where
+      (kept : GateIsKept (machine_of held).gate (machine_of held).notes) where
     abbrev m : NotedGate
     m = machine_of held
 
@@ -222,7 +227,7 @@ module _ (laws : HandLaws) (shared : Shared) (old : Hand) (gate : ℕ) (low : ga
     shard_note k few = one_of m.notes.shards.items k (omega (arith, few, kept.shards, shards_are))
 
     pass_is : (d : Pass GateDeed) → get_or now.gates.items gate d ≡ q
-    pass_is d = met.pass d ∙ get_or-set_same old.gates.items gate q d low_old
+    pass_is d = met.pass d ∙ get_or-set_same old.gates.items gate q d (has_gate shared old hand gate low)
 
     elsewhere : SeesElsewhere shared old now gate
     elsewhere = record {
@@ -232,7 +237,7 @@ module _ (laws : HandLaws) (shared : Shared) (old : Hand) (gate : ℕ) (low : ga
           let within : k < length shared.gates.items = omega (arith, few, hand.gates) in
           subst (λ (x : Pass GateDeed). OnlySees x (get_or now.gates.items k p)) (get_or-set_other old.gates.items gate k q p ne)
           (only_sees _ _ _ _ _ (met.gates_met k (one_of shared.gates.items k within) p (gate_note k within) within ne));
-      gate_number = λ p. ap (λ (x : Pass GateDeed). number_of x) (pass_is p) ∙ (entered.number p ∙ hand.gate_numbers gate p low_old);
+      gate_number = λ p. ap (λ (x : Pass GateDeed). number_of x) (pass_is p) ∙ (entered.number p ∙ hand.gate_numbers gate p (has_gate shared old hand gate low));
       store_ready = met.store_met.ready;
       store_sees = only_sees _ _ _ _ _ met.store_met;
       oracle_is = met.oracle;
@@ -251,7 +256,7 @@ module _ (laws : HandLaws) (shared : Shared) (old : Hand) (gate : ℕ) (low : ga
       more = λ p. subst (λ (l : List GateEntry). IsPrefix (seen (get_or old.gates.items gate p)) (gate_pairs l)) (sym log_is) (entered.more p);
       own_is = λ p.
           ap (λ (l : List GateEntry). entries_of (hand_number old) (gate_pairs l)) log_is
-          ∙ (ap (λ (n : ℕ). entries_of n (gate_pairs found.gate.log)) (sym (hand.gate_numbers gate p low_old)) ∙ entered.own_is p);
+          ∙ (ap (λ (n : ℕ). entries_of n (gate_pairs found.gate.log)) (sym (hand.gate_numbers gate p (has_gate shared old hand gate low))) ∙ entered.own_is p);
     }
 
     -- the account with another log in the gatekeeper's place
@@ -315,4 +320,4 @@ module _ (laws : HandLaws) (shared : Shared) (old : Hand) (gate : ℕ) (low : ga
         let same : seen_by_passes gate mine (set old.gates.items gate q) old.store old.shards.items ≡ without_oracle (seen_by old) =
         passes_with mine ∙ ap (λ (l : List (List GateEntry)). let a : Account = record (without_oracle (seen_by old)) { gates = l } in a)
         (set-get_or logs gate []) in
-        subst (λ (a : Account). IsWithin a (seen_of m.gate m.notes)) same (met.before mine (log_found laws old gate m.gate.log low_old has_found))
+        subst (λ (a : Account). IsWithin a (seen_of m.gate m.notes)) same (met.before mine (log_found laws old gate m.gate.log (has_gate shared old hand gate low) has_found))

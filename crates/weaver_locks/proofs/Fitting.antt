@@ -1,4 +1,5 @@
 -- Machines with their notes fit the locks that were opened for them.
+-- Used by `new`.
 use Rattle.std.proofs.Common.{◌≡◌, ◌<◌, List, [], ◌∷◌, length, map, get_or, sym, ap, ◌∙◌, arith}
 use Rattle.std.specs.List.{All}
 use Rattle.std.proofs.lemmas.List.{get_or-map, length-map}
@@ -31,44 +32,50 @@ module _ (locks : Locks) (gates : List GateView) (store : List StoreEntry) (orac
       → shard.frame_of n.shard n.shards n.notes ≡ frame_for_shard locks (length shards) n.shard
   noted_shard_frame n many is i = shard_frame n.shard.number n.shard.gates (many i) (is.store.lock_is i) (is.oracle.lock_is i) (is.gates.names i)
 
-  pub fit : (machines : Machines) → map (λ (n : NotedGate). n.gate) machines.gates.items ≡ gates
-      → All (λ (n : NotedGate). GateNotesStart locks n.notes) machines.gates.items
-      → machines.store.store ≡ store
-      → (machines.store.shards ∷ []) ∷ lock_noted machines.store.oracle ∷ map lock_noted machines.store.gates ≡ frame_for_store locks (length shards)
-      → machines.oracle.oracle ≡ oracle
-      → (machines.oracle.shards ∷ []) ∷ map lock_noted machines.oracle.gates ≡ frame_for_oracle locks (length shards)
-      → map (λ (n : NotedShard). n.shard) machines.shards.items ≡ shards
-      → All (λ (n : NotedShard). n.shards ≡ length shards) machines.shards.items
-      → All (λ (n : NotedShard). ShardNotesStart locks n.notes) machines.shards.items → FitLocks locks machines
-  fit machines gates_are gate_notes store_is store_frame oracle_is oracle_frame shards_are shard_counts shard_notes =
+  -- machines whose views are these, and whose notes start as the locks are
+  pub record AreNoted (machines : Machines) : Type 0 where
+    pub gates_are : map (λ (n : NotedGate). n.gate) machines.gates.items ≡ gates
+    pub gate_notes : All (λ (n : NotedGate). GateNotesStart locks n.notes) machines.gates.items
+    pub store_is : machines.store.store ≡ store
+    pub store_frame : (machines.store.shards ∷ []) ∷ lock_noted machines.store.oracle ∷ map lock_noted machines.store.gates
+        ≡ frame_for_store locks (length shards)
+    pub oracle_is : machines.oracle.oracle ≡ oracle
+    pub oracle_frame : (machines.oracle.shards ∷ []) ∷ map lock_noted machines.oracle.gates ≡ frame_for_oracle locks (length shards)
+    pub shards_are : map (λ (n : NotedShard). n.shard) machines.shards.items ≡ shards
+    pub shard_counts : All (λ (n : NotedShard). n.shards ≡ length shards) machines.shards.items
+    pub shard_notes : All (λ (n : NotedShard). ShardNotesStart locks n.notes) machines.shards.items
+
+  -- they fit the locks
+  pub fit : (machines : Machines) → AreNoted machines → FitLocks locks machines
+  fit machines noted =
       let ms : List NotedGate = machines.gates.items in
       let ns : List NotedShard = machines.shards.items in
-      let gates_long : length ms ≡ length gates = sym (length-map ms (λ (n : NotedGate). n.gate)) ∙ ap (λ (l : List GateView). length l) gates_are in
-      let shards_long : length ns ≡ length shards = sym (length-map ns (λ (n : NotedShard). n.shard)) ∙ ap (λ (l : List ShardView). length l) shards_are in record {
+      let gates_long : length ms ≡ length gates = sym (length-map ms (λ (n : NotedGate). n.gate)) ∙ ap (λ (l : List GateView). length l) noted.gates_are in
+      let shards_long : length ns ≡ length shards = sym (length-map ns (λ (n : NotedShard). n.shard)) ∙ ap (λ (l : List ShardView). length l) noted.shards_are in record {
         gate_count = omega (arith, gates_long, gate_count, machines.gates.ok.0);
         gates = λ k c m low.
             let there : k < length gates = omega (arith, low, gate_count) in
             let here : k < length ms = omega (arith, there, gates_long) in
             let g : GateView = one_of gates k there in
             let at : (get_or ms k m).gate ≡ get_or gates k g =
-            sym (get_or-map (λ (n : NotedGate). n.gate) ms k m g here) ∙ ap (λ (l : List GateView). get_or l k g) gates_are in
+            sym (get_or-map (λ (n : NotedGate). n.gate) ms k m g here) ∙ ap (λ (l : List GateView). get_or l k g) noted.gates_are in
             let is = opened.gate_locks k c g low in record {
-              frame_is = noted_frame (get_or ms k m) (gate_notes k m here) ∙ (ap (frame_for_gate locks) at ∙ sym is.frame_is);
+              frame_is = noted_frame (get_or ms k m) (noted.gate_notes k m here) ∙ (ap (frame_for_gate locks) at ∙ sym is.frame_is);
               log_is = ap (λ (v : GateView). map gate_pair v.log) at ∙ sym is.start_is;
             };
-        store_frame = store_frame ∙ sym opened.store_lock.frame_is;
-        store_log = ap (map store_pair) store_is ∙ sym opened.store_lock.start_is;
-        oracle_frame = oracle_frame ∙ sym opened.oracle_lock.frame_is;
-        oracle_log = ap (map oracle_pair) oracle_is ∙ sym opened.oracle_lock.start_is;
+        store_frame = noted.store_frame ∙ sym opened.store_lock.frame_is;
+        store_log = ap (map store_pair) noted.store_is ∙ sym opened.store_lock.start_is;
+        oracle_frame = noted.oracle_frame ∙ sym opened.oracle_lock.frame_is;
+        oracle_log = ap (map oracle_pair) noted.oracle_is ∙ sym opened.oracle_lock.start_is;
         shard_count = omega (arith, shards_long, shard_count, machines.shards.ok.0);
         shards = λ k c m low.
             let there : k < length shards = omega (arith, low, shard_count) in
             let here : k < length ns = omega (arith, there, shards_long) in
             let s : ShardView = one_of shards k there in
             let at : (get_or ns k m).shard ≡ get_or shards k s =
-            sym (get_or-map (λ (n : NotedShard). n.shard) ns k m s here) ∙ ap (λ (l : List ShardView). get_or l k s) shards_are in
+            sym (get_or-map (λ (n : NotedShard). n.shard) ns k m s here) ∙ ap (λ (l : List ShardView). get_or l k s) noted.shards_are in
             let is = opened.shard_locks k c s low in record {
-              frame_is = noted_shard_frame (get_or ns k m) (shard_counts k m here) (shard_notes k m here)
+              frame_is = noted_shard_frame (get_or ns k m) (noted.shard_counts k m here) (noted.shard_notes k m here)
                   ∙ (ap (frame_for_shard locks (length shards)) at ∙ sym is.frame_is);
               log_is = ap (λ (v : ShardView). map shard_pair v.log) at ∙ sym is.start_is;
             };

@@ -1,10 +1,11 @@
 -- What a hand began may be judged, and what was judged may be sent.
+-- Used by `begun_stamps_may_be_heard`, `calls_follow_each_other`, 3 more and crate weaver_hands.
 use Rattle.std.proofs.Common.{◌≡◌, ◌≢◌, ◌⊎◌, ℕ, ◌<◌, ◌≤◌, ◌==◌, zero, suc, List, [], ◌∷◌, ◌++◌, length, map, get_or, set, All, AllPairs, Contains, Some, Ok, inl, inr, refl, sym, ap, ◌∙◌, subst, arith, append_assoc, length-append, eq-eqb}
 use Rattle.std.proofs.lemmas.Bool.{cases_lt, eqb-true}
 use Rattle.std.proofs.lemmas.List.{get_or_past, get_or-map, length-map, map-append}
 use Rattle.std.proofs.lemmas.List.Elements.{Contains-append_left, Contains-append_cases, Contains-get_or}
-use Rattle.proof_base.proofs.Members.{cut_at, filter_has, flat_has, has_filter, has_flat, has_head, has_last, has_map, has_none, map_has, only}
-use Rattle.proof_base.proofs.Ordered.{pairs_cases}
+use Rattle.weave_data.proofs.Members.{cut_at, filter_has, flat_has, has_filter, has_flat, has_head, has_last, has_map, has_none, map_has, only}
+use Rattle.weave_data.proofs.Ordered.{pairs_cases}
 use Rattle.graph_ops.specs.declared.op.Op.{Op}
 use Rattle.vector_stamp.specs.declared.clock.Stamp.{Stamp}
 use Rattle.vector_stamp.specs.Order.{id_of}

@@ -1,7 +1,8 @@
 -- What a hand began it may let a gatekeeper hear.
+-- Used by `what_was_begun_may_be_heard`.
 use Rattle.std.proofs.Common.{◌≡◌, ℕ, zero, suc, List, [], ◌∷◌, ◌++◌, length, get_or, set, Contains, inl, inr, refl, sym, subst}
 use Rattle.std.proofs.lemmas.List.Elements.{Contains-append_left}
-use Rattle.proof_base.proofs.Members.{flat_has, has_flat, has_last}
+use Rattle.weave_data.proofs.Members.{flat_has, has_flat, has_last}
 use Rattle.vector_stamp.specs.declared.clock.Stamp.{Stamp}
 use Rattle.weave_entries.specs.declared.gate_log.GateDeed.{GateDeed}
 use Rattle.weave_entries.specs.declared.gate_log.GateEntry.{GateEntry}
@@ -40,7 +41,7 @@ set-keeps (xs ∷ xss) zero (suc k) ys x on h = h
 set-keeps (xs ∷ xss) (suc place) zero ys x on h = h
 set-keeps (xs ∷ xss) (suc place) (suc k) ys x on h = set-keeps xss place k ys x on h
 
--- so it stays when the hand has added entries to a gatekeeper's log
+-- this still holds when the hand has added entries to a gatekeeper's log
 pub hears-on : (shared : Shared) (old new : Hand) (gate : ℕ) (added : List GateEntry) → made_by new ≡ with_gate_entries gate added (made_by old)
     → (stamp : Stamp) → MayHear shared old stamp → MayHear shared new stamp
 hears-on shared old new gate added made stamp may = record {

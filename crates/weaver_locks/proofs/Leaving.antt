@@ -1,4 +1,5 @@
 -- A hand leaves the lock of a gatekeeper.
+-- Used by `leave_gate`.
 use Rattle.std.proofs.Common.{◌≡◌, ◌≢◌, inl, inr, ℕ, ◌<◌, eqb, eq-eqb, Bool, cond, List, [], ◌∷◌, ◌++◌, length, map, get_or, set, refl, sym, ap, ◌∙◌, subst, arith, append_assoc}
 use Rattle.std.specs.List.{All}
 use Rattle.std.proofs.lemmas.Bool.{cases_lt}
@@ -27,7 +28,7 @@ use Rattle.chronicle.specs.Passes.{IsReady, noted, number_of, own, seen}
 use Rattle.lock_row.specs.Rows.{AreReady}
 use Rattle.lock_row.proofs.Lists.{mapped_alike, one_of}
 use Rattle.gate_lock.specs.declared.noted.NotedGate.{NotedGate}
-use Rattle.gate_lock.specs.Notes.{IsKept, account_of, seen_by_passes, seen_of}
+use Rattle.gate_lock.specs.Notes.{GateIsKept, account_of, seen_by_passes, seen_of}
 use Rattle.gate_lock.proofs.Lists.{alike}
 use Rattle.weaver_locks.specs.declared.hand.Hand.{Hand}
 use Rattle.weaver_locks.specs.declared.shared.Shared.{Shared}
@@ -41,6 +42,7 @@ use Rattle.weaver_locks.specs.Onward.{GoesOnWithout}
 use Rattle.weaver_locks.proofs.Adding.{AddsNone, HasAdded, asked_none, asks_none, hand_goes_on, oracle_author, shard_author}
 use Rattle.weaver_locks.proofs.Entering.{log_found}
 use Rattle.weaver_locks.proofs.Passing.{at_place, beginning, gate_none, oracle_none, shard_none, stays, store_none, without}
+use Rattle.weaver_locks.proofs.HandParts.{has_gate}
 
 -- entries of one author are all its own
 all_own : (n : ℕ) (entries : List GateEntry) → All (λ (e : GateEntry). e.author ≡ n) entries
@@ -72,32 +74,33 @@ follows n entered before added log entry is by = (
   All-map (λ (e : ℕ × GateDeed). e.0 ≡ n) gate_pair added by,
 )
 
--- how it left
-pub left_by : (shared : Shared) (old now new : Hand) (gate : ℕ) (before : List GateEntry) (held : Held NotedGate GateDeed) (p d : Pass GateDeed)
-    (m : NotedGate) (gates : List (Pass GateDeed)) → SeesElsewhere shared old now gate → IsHeldBy shared now gate before held
-    → gates ≡ now.gates.items → new.gates.items ≡ set gates gate p → new.store ≡ now.store → new.oracle ≡ now.oracle
-    → new.shards.items ≡ now.shards.items → IsReady (lock_in held) p → number_of p ≡ number_of (get_or gates gate d) → seen p ≡ gate_pairs m.gate.log
-    → m ≡ machine_of held → HasLeft shared old now new gate (machine_of held).gate.log p
-left_by shared old now new gate before held p d m gates other hold at set_is store oracle shards ready number seen_is same = record {
-  gates = set_is ∙ ap (λ (l : List (Pass GateDeed)). set l gate p) at;
-  store = store;
-  oracle = oracle;
-  shards = shards;
-  ready = λ c. subst (λ (l : Lock GateDeed). IsReady l p) (hold.lock c) ready;
-  number = number ∙ (ap (λ (l : List (Pass GateDeed)). number_of (get_or l gate d)) at ∙ other.gate_number d);
-  seen_is = seen_is ∙ ap (λ (n : NotedGate). gate_pairs n.gate.log) same;
-}
+module _ (shared : Shared) (old now new : Hand) (gate : ℕ) (before : List GateEntry) (held : Held NotedGate GateDeed) (p d : Pass GateDeed)
+    (m : NotedGate) (gates : List (Pass GateDeed)) where
+  -- how it left
+  pub left_by : SeesElsewhere shared old now gate → IsHeldBy shared now gate before held → gates ≡ now.gates.items
+      → new.gates.items ≡ set gates gate p → new.store ≡ now.store → new.oracle ≡ now.oracle → new.shards.items ≡ now.shards.items
+      → IsReady (lock_in held) p → number_of p ≡ number_of (get_or gates gate d) → seen p ≡ gate_pairs m.gate.log → m ≡ machine_of held
+      → HasLeft shared old now new gate (machine_of held).gate.log p
+  left_by other hold at set_is store oracle shards ready number seen_is same = record {
+    gates = set_is ∙ ap (λ (l : List (Pass GateDeed)). set l gate p) at;
+    store = store;
+    oracle = oracle;
+    shards = shards;
+    ready = λ c. subst (λ (l : Lock GateDeed). IsReady l p) (hold.lock c) ready;
+    number = number ∙ (ap (λ (l : List (Pass GateDeed)). number_of (get_or l gate d)) at ∙ other.gate_number d);
+    seen_is = seen_is ∙ ap (λ (n : NotedGate). gate_pairs n.gate.log) same;
+  }
 
 module _ (laws : HandLaws) (rules : GateLaws) (shared : Shared) (old now new : Hand) (gate : ℕ) (before added : List GateEntry)
     (m : NotedGate) (p : Pass GateDeed) (low : gate < length shared.gates.items) (hand : IsHand shared old)
     (other : SeesElsewhere shared old now gate) (found : HasFound old gate before)
-    (machine : HasMachine shared now (hand_number old) gate before added m) (kept : IsKept m.gate m.notes)
+    (machine : HasMachine shared now (hand_number old) gate before added m) (kept : GateIsKept m.gate m.notes)
     (left : HasLeft shared old now new gate m.gate.log p) where
   abbrev number : ℕ
   number = hand_number old
 
   low_old : gate < length old.gates.items
-  low_old = omega (arith, low, hand.gates)
+  low_old = has_gate shared old hand gate low
 
   low_now : gate < length now.gates.items
   low_now = omega (arith, low_old, other.gates)

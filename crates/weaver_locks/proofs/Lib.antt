@@ -48,3 +48,4 @@ pub mod FrameParts
 pub mod NewMachines
 pub mod Options
 pub mod RowAsked
+pub mod HandParts

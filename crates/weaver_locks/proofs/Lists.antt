@@ -1,10 +1,11 @@
 -- Lists, place by place.
+-- Used by `bare_gates`, `bare_shards`, `close_row`, `gather`, 10 more and crates hands_rows and locks_rows.
 use Rattle.std.proofs.Common.{◌≡◌, ℕ, zero, suc, ◌+◌, ◌<◌, drop, List, [], ◌∷◌, ◌++◌, length, map, get_or, set, cond, Bool, true, false, inl, inr, refl, sym, ap, ◌∙◌, subst, arith, append_assoc, length-append}
 use Rattle.std.specs.List.{All, Any, Contains, filter}
 use Rattle.std.proofs.lemmas.Bool.{cases_lt}
 use Rattle.std.proofs.lemmas.List.{append-nil, get_or_append_left, get_or_push, nil_from_length, get_or-map, get_or_default, length-map, map_push}
 use Rattle.std.proofs.lemmas.List.Elements.{All-contains, All-map, Contains-append_right, Contains-get_or}
-use Rattle.proof_base.proofs.Members.{has_map}
+use Rattle.weave_data.proofs.Members.{has_map}
 use Rattle.lock_row.proofs.Lists.{one_of}
 
 module _ {A : Type 0} where

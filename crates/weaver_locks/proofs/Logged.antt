@@ -1,9 +1,10 @@
 -- Where the own entries of a hand are in a log.
+-- Used by AskedOnce, Beside, OwnVisits, ShardArrived, ShardDone, ShardLeft, ShardVisited, StoreLeft and StoreNew.
 use Rattle.std.proofs.Common.{◌≡◌, ℕ, ◌<◌, ◌≤◌, Bool, cond, eqb, eq-eqb, List, [], ◌∷◌, ◌++◌, length, map, Contains, inl, inr, refl, sym, ap, ◌∙◌, subst, arith}
 use Rattle.std.proofs.lemmas.Bool.{cases_lt}
 use Rattle.std.proofs.lemmas.List.{length-map, map-append}
 use Rattle.std.proofs.lemmas.List.Elements.{filter-append}
-use Rattle.proof_base.proofs.Members.{has_cut, has_head, has_tail}
+use Rattle.weave_data.proofs.Members.{has_cut, has_head, has_tail}
 use mathlib.Core.List.{IsPrefix}
 use Rattle.weave_account.specs.GoesOn.{IsBeginningOf}
 use Rattle.chronicle.specs.Logs.{Log, entries_of}
@@ -32,7 +33,7 @@ module _ {A : Type 0} where
       let tails : xs ++ ys ≡ before ++ e ∷ after = cc in
       beyond xs ys before after e tails (omega (arith, low))
 
-  -- a beginning is no longer
+  -- a prefix is at most as long as its list
   pub begin_length : (xs ys : List A) → IsPrefix xs ys → length xs ≤ length ys
   begin_length [] ys on = omega arith
   begin_length (x ∷ xs) [] on = let e : length (x ∷ (xs ++ on.0)) ≡ length {A = A} [] = ap (λ (l : List A). length l) on.1 in absurd (omega (arith, e))
@@ -52,7 +53,7 @@ module _ {E R : Type 0} (entry : ℕ × E → R) (pair : R → ℕ × E) (back :
       → log ≡ map pair before ++ pair e ∷ map pair after
   cut_pairs log before after e is = sym (pairs_back log) ∙ (ap (λ (l : List R). map pair l) is ∙ map-append pair before (e ∷ after))
 
-  -- no entry of the author is past what its pass has seen, if the pass has all of them
+  -- if the prefix that a pass has seen holds all entries of its author, none of them is at or past its end
   pub none_past : KeepsPlaces E → (author : ℕ) (had log : Log E) → IsPrefix had log
       → entries_of author log ≡ entries_of author had → (before after : List R) (e : R) → map entry log ≡ before ++ e ∷ after
       → (pair e).0 ≡ author → length (map entry had) ≤ length before → ⊥
@@ -60,7 +61,7 @@ module _ {E R : Type 0} (entry : ℕ × E → R) (pair : R → ℕ × E) (back :
       let low = places author had log (map pair before) (map pair after) (pair e) on own (cut_pairs log before after e is) mine in
       absurd (omega (arith, low, length-map before pair, length-map had entry, past))
 
-  -- so it is past what was there before, if it is past what was seen
+  -- so an own entry past the seen prefix is among those that were added
   pub past_before : KeepsPlaces E → (author : ℕ) (had : Log E) (settled added : List R) → IsPrefix had (map pair settled)
       → entries_of author (map pair settled) ≡ entries_of author had → (before after : List R) (e : R)
       → settled ++ added ≡ before ++ e ∷ after → (pair e).0 ≡ author → length (map entry had) ≤ length before

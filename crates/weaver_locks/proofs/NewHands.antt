@@ -1,12 +1,11 @@
 -- New hands, and the locks once their machines are in.
+-- Used by `new`.
 use Rattle.std.proofs.Common.{◌≡◌, ℕ, ◌<◌, ◌≤◌, List, [], ◌∷◌, length, map, get_or, set, sym, ap, ◌∙◌, subst, arith}
 use Rattle.std.specs.List.{All}
 use Rattle.std.proofs.lemmas.List.{get_or_default, get_or-set_same, get_or-set_other}
 use mathlib.Core.Logic.{dite}
 use native.Mathlib.Decide.{ℕ_discrete}
-use Rattle.weave_entries.specs.declared.gate_log.GateDeed.{GateDeed}
 use Rattle.weave_entries.specs.declared.oracle_log.OracleEntry.{OracleEntry}
-use Rattle.weave_entries.specs.declared.shard_log.ShardDeed.{ShardDeed}
 use Rattle.weave_entries.specs.declared.store_log.StoreEntry.{StoreEntry}
 use Rattle.gatekeeper.specs.Gates.{GateView}
 use Rattle.shard_node.specs.Shards.{ShardView}
@@ -31,6 +30,7 @@ use Rattle.weaver_locks.specs.Framed.{AreFramed}
 use Rattle.weaver_locks.specs.Hands.{hand_number, seen_by}
 use Rattle.weaver_locks.specs.Noted.{AreFilled}
 use Rattle.weaver_locks.specs.Opened.{passes_of, AreOpened, IsNewHand}
+use Rattle.weaver_locks.proofs.HandParts.{HaveItsNumber}
 
 module _ {M E : Type 0} (before after : List (Chronicle M E)) (same : AreOneRow before after) (count : length after ≡ length before) where
   row_ready : (number : ℕ) (passes : List (Pass E)) → AreDealt number before passes → AreReady after passes
@@ -63,9 +63,6 @@ module _ (locks : Locks) (gates : List GateView) (store : List StoreEntry) (orac
     (start_is : account_of_logs (map (λ c. (lock_of c).start) locks.gates.items) (lock_of locks.store).start (lock_of locks.oracle).start
     (map (λ c. (lock_of c).start) locks.shards.items) ≡ logs_of gates store oracle shards)
     (after : Locks) (filled : AreFilled locks after) where
-  abbrev account : Account
-  account = logs_of gates store oracle shards
-
   -- the locks' frames are as they have to be
   pub framed : 1 ≤ passes_of locks → AreFramed after.gates.items after.store after.oracle after.shards.items
   framed some =
@@ -110,7 +107,7 @@ module _ (locks : Locks) (gates : List GateView) (store : List StoreEntry) (orac
   started = account_of_logs (map (λ c. (lock_of c).start) after.gates.items) (lock_of after.store).start (lock_of after.oracle).start
       (map (λ c. (lock_of c).start) after.shards.items)
 
-  pub begins : started ≡ account
+  pub begins : started ≡ logs_of gates store oracle shards
   begins =
       let a = row_starts locks.gates.items after.gates.items filled.gates filled.gate_count in
       let b = ap (λ (l : Lock _). l.start) filled.store in
@@ -126,14 +123,12 @@ module _ (locks : Locks) (gates : List GateView) (store : List StoreEntry) (orac
     pub store_ready : IsReady (lock_of after.store) hand.store
     pub oracle_ready : IsReady (lock_of after.oracle) hand.oracle
     pub shards_ready : AreReady after.shards.items hand.shards.items
-    pub gate_numbers : All (λ (p : Pass GateDeed). number_of p ≡ hand_number hand) hand.gates.items
-    pub oracle_number : number_of hand.oracle ≡ hand_number hand
-    pub shard_numbers : All (λ (p : Pass ShardDeed). number_of p ≡ hand_number hand) hand.shards.items
+    pub numbers : HaveItsNumber hand
     pub legal : AreLegal (length after.gates.items) (length after.shards.items) (seen_by hand)
     pub seen_all : IsSeenByHand (length after.shards.items) (hand_number hand) started (seen_by hand)
 
   module _ (number : ℕ) (hand : Hand) (is : IsNewHand locks number hand) where
-    pub sees : seen_by hand ≡ account
+    pub sees : seen_by hand ≡ logs_of gates store oracle shards
     sees =
         let a = row_seen locks.gates.items number hand.gates.items is.gates is.gate_count in
         let e = row_seen locks.shards.items number hand.shards.items is.shards is.shard_count in
@@ -150,9 +145,11 @@ module _ (locks : Locks) (gates : List GateView) (store : List StoreEntry) (orac
           store_ready = subst (λ (l : Lock _). IsReady l hand.store) (sym filled.store) is.store.ready;
           oracle_ready = subst (λ (l : Lock _). IsReady l hand.oracle) (sym filled.oracle) is.oracle.ready;
           shards_ready = row_ready locks.shards.items after.shards.items filled.shards filled.shard_count number hand.shards.items is.shards;
-          gate_numbers = row_numbers locks.gates.items number hand.gates.items is.gates is.gate_count (hand_number hand) (sym same);
-          oracle_number = is.oracle.number_is ∙ sym same;
-          shard_numbers = row_numbers locks.shards.items number hand.shards.items is.shards is.shard_count (hand_number hand) (sym same);
+          numbers = record {
+            gates = row_numbers locks.gates.items number hand.gates.items is.gates is.gate_count (hand_number hand) (sym same);
+            oracle = is.oracle.number_is ∙ sym same;
+            shards = row_numbers locks.shards.items number hand.shards.items is.shards is.shard_count (hand_number hand) (sym same);
+          };
           legal = subst (λ (z : ℕ × ℕ × Account). AreLegal z.0 z.1 z.2)
               (λ i. (sym (gates_many ∙ gate_count) i, sym (shards_many ∙ shard_count) i, sym sees i)) start.legal;
           seen_all = subst (λ (z : ℕ × Account × Account). IsSeenByHand z.0 (hand_number hand) z.1 z.2)

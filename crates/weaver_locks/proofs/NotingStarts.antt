@@ -1,11 +1,12 @@
 -- Notes of what new passes have seen.
+-- Used by `note_gate`, `note_shard`, `note_starts` and `note_store`.
 use Rattle.std.proofs.Common.{◌≡◌, List, length, map, ◌∙◌, arith}
 use Rattle.chronicle.specs.declared.chronicle.Chronicle.{Chronicle}
 use Rattle.chronicle.specs.declared.pass.Pass.{Pass}
 use Rattle.chronicle.specs.declared.note.Note.{Note}
 use Rattle.chronicle.specs.Locks.{Lock, lock_of}
 use Rattle.chronicle.specs.Passes.{IsReady, number_of, seen, noted, lock_noted}
-use Rattle.lock_row.specs.Hands.{AreDealt, IsNew}
+use Rattle.lock_row.specs.Hands.{AreDealt, IsNewPass}
 use Rattle.lock_row.specs.Notings.{AllStay, HaveNoted}
 use Rattle.lock_row.specs.Rows.{AreReady, names_of}
 use Rattle.lock_row.proofs.Lists.{mapped_alike, one_of}
@@ -30,6 +31,6 @@ module _ {M E : Type 0} (locks : List (Chronicle M E)) (before : List (Pass E)) 
   }
 
 -- a pass that made a note
-pub new_stays : {E : Type 0} (lock : Lock E) (p q : Pass E) → IsNew 0 lock p → IsReady lock q → number_of q ≡ number_of p → seen q ≡ seen p
-    → IsNew 0 lock q
+pub new_stays : {E : Type 0} (lock : Lock E) (p q : Pass E) → IsNewPass 0 lock p → IsReady lock q → number_of q ≡ number_of p → seen q ≡ seen p
+    → IsNewPass 0 lock q
 new_stays lock p q was ready number same = record { ready = ready; number_is = number ∙ was.number_is; seen_is = same ∙ was.seen_is }

@@ -1,4 +1,5 @@
 -- Facts on what an option has.
+-- Used by crates hands_rows and locks_rows.
 use Rattle.std.proofs.Common.{◌≡◌, subst}
 use Rattle.std.specs.Prelude.{Option, None, Some}
 use Rattle.std.specs.Option.{ForSome}

@@ -1,4 +1,5 @@
 -- The entries of a hand in the closed logs are its own.
+-- Used by `own_entries_are_those_seen`, Closings and EachLog.
 use Rattle.std.proofs.Common.{◌≡◌, ℕ, eqb, List, [], length, map, get_or, refl, sym, ap, ◌∙◌, arith}
 use Rattle.std.specs.List.{All, Contains, filter}
 use Rattle.std.proofs.lemmas.List.{get_or-map, get_or_default, length-map}
@@ -22,6 +23,7 @@ use Rattle.weaver_locks.specs.Hands.{hand_number, made_by, seen_by, IsHand}
 use Rattle.weaver_locks.specs.Closing.{entries_by}
 use Rattle.weaver_locks.proofs.Lists.{filtered, map_twice}
 use Rattle.weaver_locks.proofs.ClosedRun.{IsClosedRun}
+use Rattle.weaver_locks.proofs.HandParts.{HaveItsNumber}
 
 module _ {E R : Type 0} (entry : ℕ × E → R) (author : R → ℕ) (same : (x : ℕ × E) → author (entry x) ≡ x.0) (number : ℕ) where
   test_of : (x : ℕ × E) → eqb (author (entry x)) number ≡ eqb x.0 number
@@ -66,22 +68,20 @@ module _ (hands : List Hand) (passes : ℕ) (gates_start : List (Log GateDeed)) 
   pub record IsWhole (hand : Hand) : Type 0 where
     pub gates_long : length gates ≡ length hand.gates.items
     pub shards_long : length shards ≡ length hand.shards.items
-    pub gate_numbers : All (λ (p : Pass GateDeed). number_of p ≡ hand_number hand) hand.gates.items
-    pub oracle_number : number_of hand.oracle ≡ hand_number hand
-    pub shard_numbers : All (λ (p : Pass ShardDeed). number_of p ≡ hand_number hand) hand.shards.items
+    pub numbers : HaveItsNumber hand
 
   pub closed_own : (hand : Hand) → Contains hands hand → IsWhole hand
       → entries_by (hand_number hand) (account_of_logs gates store oracle shards) ≡ made_by hand
   closed_own hand there whole =
       let n : ℕ = hand_number hand in
-      let gates_own = own_in_row gate_entry (λ (e : GateEntry). e.author) (λ x. refl) n gates hand.gates.items whole.gates_long whole.gate_numbers
+      let gates_own = own_in_row gate_entry (λ (e : GateEntry). e.author) (λ x. refl) n gates hand.gates.items whole.gates_long whole.numbers.gates
       (λ k. All-contains (λ h. entries_of (hand_number h) (get_or gates k []) ≡ entries_of (hand_number h) (get_or (map seen h.gates.items) k []))
       hands hand (run.gate_logs k).own there) in
       let store_own = own_in store_entry (λ (e : StoreEntry). e.author) (λ x. refl) n store hand.store refl
       (All-contains (λ h. entries_of (hand_number h) store ≡ entries_of (hand_number h) (seen h.store)) hands hand run.store_log.own there) in
-      let oracle_own = own_in oracle_entry (λ (e : OracleEntry). e.author) (λ x. refl) n oracle hand.oracle whole.oracle_number
+      let oracle_own = own_in oracle_entry (λ (e : OracleEntry). e.author) (λ x. refl) n oracle hand.oracle whole.numbers.oracle
       (All-contains (λ h. entries_of (hand_number h) oracle ≡ entries_of (hand_number h) (seen h.oracle)) hands hand run.oracle_log.own there) in
-      let shards_own = own_in_row shard_entry (λ (e : ShardEntry). e.author) (λ x. refl) n shards hand.shards.items whole.shards_long whole.shard_numbers
+      let shards_own = own_in_row shard_entry (λ (e : ShardEntry). e.author) (λ x. refl) n shards hand.shards.items whole.shards_long whole.numbers.shards
       (λ k. All-contains (λ h. entries_of (hand_number h) (get_or shards k []) ≡ entries_of (hand_number h) (get_or (map seen h.shards.items) k []))
       hands hand (run.shard_logs k).own there) in
       λ i. record { gates = gates_own i; store = store_own i; oracle = oracle_own i; shards = shards_own i; sessions = [] }

@@ -1,9 +1,10 @@
 -- A hand's programs stay begun, and its visits stay of its own programs: for the laws on both.
+-- Used by `own_programs_stay_begun`, `visits_stay_of_own_programs` and crate weaver_hands.
 use Rattle.std.proofs.Common.{◌≡◌, ℕ, zero, suc, ◌≤◌, Bool, eqb, eq-eqb, drop, List, [], ◌∷◌, ◌++◌, length, get_or, set, Contains, refl, sym, ap, ◌∙◌, subst, arith}
 use Rattle.std.specs.List.{filter}
 use Rattle.std.proofs.lemmas.List.{append-nil, append_cancel_left, drop-append-le}
 use Rattle.std.proofs.lemmas.List.Elements.{filter-append}
-use Rattle.proof_base.proofs.Members.{flat_has, has_filter, has_flat, has_head, has_last, has_none}
+use Rattle.weave_data.proofs.Members.{flat_has, has_filter, has_flat, has_head, has_last, has_none, drop_has}
 use Rattle.vector_stamp.specs.declared.clock.Stamp.{Stamp}
 use Rattle.weave_entries.specs.declared.gate_log.GateDeed.TheVariants.{BeganProgram}
 use Rattle.weave_entries.specs.declared.gate_log.GateEntry.{GateEntry}
@@ -14,7 +15,7 @@ use Rattle.weave_entries.specs.GateReplay.{program_by, programs_of}
 use Rattle.weave_account.specs.declared.account.Account.{Account}
 use Rattle.weave_account.specs.Account.{gate_log, shard_log}
 use Rattle.seen_logs.specs.Seen.{IsOwn, IsWithin, VisitsItsOwn, VisitsOwnPrograms, since}
-use Rattle.seen_logs.proofs.Listed.{drop-has, flat-on, has-on, longer}
+use Rattle.seen_logs.proofs.Listed.{flat-on, has-on, longer}
 use Rattle.seen_logs.proofs.Onward.{since-on}
 use Rattle.weaver_locks.specs.declared.hand.Hand.{Hand}
 use Rattle.weaver_locks.specs.declared.shared.Shared.{Shared}
@@ -64,7 +65,7 @@ program-seen shared hand home request stamp h =
     let log = gate_log (seen_by hand) home in
     let n = length (gate_log (start_of shared) home) in
     let by = flat_has (λ (e : GateEntry). program_by e.author e.deed) (drop n log) _ h in
-    has_flat (λ (e : GateEntry). program_by e.author e.deed) log by.0 _ (drop-has n log by.0 by.1) by.2
+    has_flat (λ (e : GateEntry). program_by e.author e.deed) log by.0 _ (drop_has n log by.0 by.1) by.2
 
 -- Visits
 

@@ -1,4 +1,5 @@
 -- One room more.
+-- Used by `room_row`.
 use Rattle.std.proofs.Common.{ℕ, ◌<◌, List, [], ◌∷◌, ◌++◌, length, sym, subst, arith, Vec}
 use Rattle.std.specs.Global.{Global}
 use Rattle.std.proofs.lemmas.List.{length_push, get_or_append_left}

@@ -1,4 +1,5 @@
 -- What a call of the oracle within another hold asks of the row of gatekeepers.
+-- Used by `commit` and `visit`.
 use Rattle.std.proofs.Common.{◌≡◌, ◌≤◌, List, length, sym, ap, ◌∙◌, subst}
 use Rattle.weave_entries.specs.declared.gate_log.GateDeed.{GateDeed}
 use Rattle.chronicle.specs.declared.chronicle.Chronicle.{Chronicle}

@@ -1,4 +1,5 @@
 -- Passes of a row that go on, place by place.
+-- Used by `leave_shard`, Beside, RowAsked, Seeing, ShardAsked, ShardDone, ShardEntered, ShardLeft and 5 more.
 use Rattle.std.proofs.Common.{◌≡◌, ◌≢◌, ℕ, zero, suc, ◌<◌, ◌≤◌, List, [], ◌∷◌, ◌++◌, length, map, get_or, set, inl, inr, refl, sym, ap, ◌∙◌, subst, arith}
 use Rattle.std.specs.Prelude.{All}
 use Rattle.std.proofs.lemmas.Bool.{cases_lt}

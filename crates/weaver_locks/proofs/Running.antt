@@ -1,11 +1,12 @@
 -- A program of the hand that was running when the hand last looked is running in a later hold.
+-- Used by Following and ShardAsked.
 use Rattle.std.proofs.Common.{◌≡◌, ℕ, ◌≤◌, ◌==◌, not, List, [], ◌∷◌, ◌++◌, length, fold, Contains, sym, ap, ◌∙◌, subst, arith, append_assoc}
 use Rattle.std.proofs.lemmas.Bool.{and_parts, eqb-true}
 use Rattle.std.proofs.lemmas.List.{length-append}
 use Rattle.std.proofs.lemmas.List.Sums.{fold-append}
 use Rattle.std.proofs.lemmas.List.Elements.{Contains-append_left}
-use Rattle.proof_base.proofs.Members.{cut_at, has_filter, has_head, has_tail}
-use Rattle.proof_base.proofs.Places.{not-true}
+use Rattle.weave_data.proofs.Members.{cut_at, has_filter, has_head, has_tail}
+use Rattle.weave_data.proofs.ListPlaces.{not-true}
 use Rattle.weave_entries.specs.declared.gate_log.GateDeed.{GateDeed}
 use Rattle.weave_entries.specs.declared.gate_log.GateDeed.TheVariants.{BeganTx, BeganProgram, Sent, Nop, Heard, Raised, Finished}
 use Rattle.weave_entries.specs.declared.gate_log.GateEntry.{GateEntry}

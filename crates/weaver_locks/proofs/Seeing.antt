@@ -1,4 +1,5 @@
 -- What the passes of a hand have seen, as an account.
+-- Used by `visit`, Beside, ShardDone, ShardEntered, ShardLeft, ShardVisited, StoreEntered, StoreLeft and StoreNew.
 use Rattle.std.proofs.Common.{◌≡◌, ◌≢◌, ℕ, zero, suc, List, [], ◌∷◌, ◌++◌, map, get_or, refl, ap, ◌∙◌, subst}
 use Rattle.std.proofs.lemmas.List.{append_assoc, map-append}
 use Rattle.weave_entries.specs.declared.gate_log.GateEntry.{GateEntry}

@@ -1,11 +1,12 @@
 -- The transaction in flight goes on until its author sends it, and its judgement counts what it names.
+-- Used by `send` and Following.
 use Rattle.std.proofs.Common.{◌≡◌, ℕ, ◌<◌, false, List, [], ◌∷◌, ◌++◌, length, map, get_or, refl, sym, ap, ◌∙◌, subst, arith, append_assoc, length-append, Contains}
 use Rattle.std.specs.Prelude.{Result, Ok, Err, IfOk, OnOk, Option, Some, is_none}
 use Rattle.std.specs.Option.{ForSome}
 use Rattle.std.proofs.lemmas.Option.{none-some, same_Some}
 use Rattle.std.proofs.lemmas.List.{append-nil, get_or-map, get_or-set_same, length-map, map-append}
 use Rattle.std.proofs.lemmas.List.Elements.{Contains-append_left}
-use Rattle.proof_base.proofs.Members.{cut_at, map_has}
+use Rattle.weave_data.proofs.Members.{cut_at, map_has}
 use Rattle.graph_ops.specs.declared.op.Op.{Op}
 use Rattle.weave_entries.specs.declared.gate_log.GateDeed.{GateDeed}
 use Rattle.weave_entries.specs.declared.gate_log.GateDeed.TheVariants.{BeganTx, BeganProgram, Sent, Nop, Heard, Raised, Finished}
@@ -30,7 +31,7 @@ use Rattle.chronicle.specs.Logs.{Log, entries_of}
 use Rattle.chronicle.specs.Passes.{noted, seen}
 use Rattle.lock_row.proofs.Lists.{one_of}
 use Rattle.gate_lock.specs.declared.noted.NotedGate.{NotedGate}
-use Rattle.gate_lock.specs.Notes.{HasJudged, IsKept, seen_of}
+use Rattle.gate_lock.specs.Notes.{HasJudged, GateIsKept, seen_of}
 use Rattle.weaver_locks.specs.declared.hand.Hand.{Hand}
 use Rattle.weaver_locks.specs.declared.shared.Shared.{Shared}
 use Rattle.weaver_locks.specs.GateHolds.{MaySend}
@@ -41,6 +42,7 @@ use Rattle.weaver_locks.specs.InGate.{HasFound, without_oracle}
 use Rattle.weaver_locks.proofs.Adding.{AddsNone, gate_author}
 use Rattle.weaver_locks.proofs.Entering.{log_found}
 use Rattle.weaver_locks.proofs.Passing.{none_of}
+use Rattle.weaver_locks.proofs.HandParts.{has_gate}
 
 -- The flight
 
@@ -90,12 +92,9 @@ counts_named rules log legal judged there =
 -- What the hand may send it may send in the hold
 
 module _ (laws : HandLaws) (rules : GateLaws) (shared : Shared) (old : Hand) (gate : ℕ) (low : gate < length shared.gates.items)
-    (hand : IsHand shared old) (m : NotedGate) (home : m.gate.home ≡ gate) (found : HasFound old gate m.gate.log) (kept : IsKept m.gate m.notes)
+    (hand : IsHand shared old) (m : NotedGate) (home : m.gate.home ≡ gate) (found : HasFound old gate m.gate.log) (kept : GateIsKept m.gate m.notes)
     (within : IsWithin (without_oracle (seen_by old)) (seen_of m.gate m.notes))
     (ops : List Op) (verdict : Verdict) (may : MaySend (seen_by old) (hand_number old) gate ops verdict) where
-  low_old : gate < length old.gates.items
-  low_old = omega (arith, low, hand.gates)
-
   abbrev flight : Begun
   flight = may.flight
 
@@ -108,13 +107,13 @@ module _ (laws : HandLaws) (rules : GateLaws) (shared : Shared) (old : Hand) (ga
 
   none_own : AddsNone gate_author (hand_number old) (gate_log (seen_by old) gate) m.gate.log
   none_own =
-      let d = one_of old.gates.items gate low_old in
+      let d = one_of old.gates.items gate (has_gate shared old hand gate low) in
       let pass = get_or old.gates.items gate d in
       let was : gate_log (seen_by old) gate ≡ gate_entries (seen pass) =
       laws.at_gate (map seen old.gates.items) (seen old.store) (seen old.oracle) (map seen old.shards.items) gate
-      ∙ ap (λ (l : Log GateDeed). gate_entries l) (get_or-map seen old.gates.items gate d [] low_old) in
+      ∙ ap (λ (l : Log GateDeed). gate_entries l) (get_or-map seen old.gates.items gate d [] (has_gate shared old hand gate low)) in
       let mine : entries_of (hand_number old) (gate_pairs m.gate.log) ≡ entries_of (hand_number old) (seen pass) =
-      found.own_is d ∙ ap (λ (n : ℕ). entries_of n (seen pass)) (hand.gate_numbers gate d low_old) in
+      found.own_is d ∙ ap (λ (n : ℕ). entries_of n (seen pass)) (hand.gate_numbers gate d (has_gate shared old hand gate low)) in
       let P : List GateEntry × List GateEntry → Type 0 = λ z. AddsNone gate_author (hand_number old) z.0 z.1 in
       subst P (λ i. (sym was i, laws.gate_records m.gate.log i))
       (none_of gate_pair gate_entry laws.gate_back gate_author (λ r. refl) laws.gate_places (hand_number old) (seen pass) (gate_pairs m.gate.log)
@@ -122,7 +121,7 @@ module _ (laws : HandLaws) (rules : GateLaws) (shared : Shared) (old : Hand) (ga
 
   pub flies_there : flight_of m.gate.log ≡ Some flight
   flies_there =
-      let on = log_found laws old gate m.gate.log low_old found in
+      let on = log_found laws old gate m.gate.log (has_gate shared old hand gate low) found in
       let seen_log = gate_log (seen_by old) gate in
       let none : AddsNone gate_author flight.author seen_log m.gate.log =
       subst (λ (n : ℕ). AddsNone gate_author n seen_log m.gate.log) (sym may.own) none_own in

@@ -1,4 +1,5 @@
 -- The head of a channel is processed in the lock of a shard.
+-- Used by `apply`.
 use Rattle.std.proofs.Common.{◌≡◌, ℕ, ◌+◌, List, subst}
 use Rattle.std.specs.Prelude.{OnErr, OnOk, Result}
 use Rattle.weave_entries.specs.declared.shard_log.ShardDeed.TheVariants.{Applied}
@@ -6,19 +7,19 @@ use Rattle.weave_entries.specs.declared.shard_log.ShardEntry.{ShardEntry}
 use Rattle.weave_entries.specs.ShardReplay.{processed_count}
 use Rattle.shard_node.specs.declared.fault.ApplyFault.{ApplyFault}
 use Rattle.shard_node.specs.Shards.{AddsEntry}
-use Rattle.shard_lock.specs.Notes.{NotedView}
+use Rattle.shard_lock.specs.Notes.{NotedShardView}
 use Rattle.weaver_locks.specs.declared.hand.Hand.{Hand}
 use Rattle.weaver_locks.specs.Hands.{hand_number}
 use Rattle.weaver_locks.specs.ShardHolds.{shard_entries_of}
 use Rattle.weaver_locks.proofs.ShardCalled.{IsCalled}
 use Rattle.weaver_locks.proofs.ShardDone.{goes_by}
 
-module _ (old : Hand) (author gate : ℕ) (author_is : author ≡ hand_number old) (r : Result (Unit {0}) ApplyFault) (s m held : NotedView)
+module _ (old : Hand) (author gate : ℕ) (author_is : author ≡ hand_number old) (r : Result (Unit {0}) ApplyFault) (s m held : NotedShardView)
     (s_is : s ≡ held) where
   abbrev pub added : List ShardEntry
   added = shard_entries_of old (Applied gate (processed_count gate held.shard.log + 1)) r
 
   pub applied : OnOk r (AddsEntry s.shard m.shard author (Applied gate (processed_count gate s.shard.log + 1))) → OnErr r (m.shard ≡ s.shard)
       → m.shards ≡ s.shards → m.notes ≡ s.notes → IsCalled s m added
-  applied adds same shards notes = subst (λ (v : NotedView). IsCalled s m (shard_entries_of old (Applied gate (processed_count gate v.shard.log + 1)) r)) s_is
+  applied adds same shards notes = subst (λ (v : NotedShardView). IsCalled s m (shard_entries_of old (Applied gate (processed_count gate v.shard.log + 1)) r)) s_is
       (record { goes = goes_by old author (Applied gate (processed_count gate s.shard.log + 1)) s.shard m.shard author_is r adds same; shards = shards; notes = notes })

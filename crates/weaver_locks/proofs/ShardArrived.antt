@@ -1,7 +1,8 @@
 -- A message arrives in the lock of a shard.
+-- Used by `arrive`.
 use Rattle.std.proofs.Common.{◌≡◌, ◌≢◌, ℕ, List, [], ◌∷◌, ◌++◌, length, get_or, AllPairs, Contains, refl, sym, ap, subst}
 use Rattle.std.specs.Prelude.{IfOk, OnErr, Result, Ok, Err}
-use Rattle.proof_base.proofs.Members.{has_cut, has_none, only}
+use Rattle.weave_data.proofs.Members.{has_cut, has_none, only}
 use Rattle.graph_ops.specs.declared.part.Part.{Part}
 use Rattle.shard_queue.specs.declared.inbox.Arrival.{Arrival}
 use Rattle.shard_queue.specs.declared.inbox.Arrival.TheVariants.{Kept, Repeat}
@@ -25,7 +26,7 @@ use Rattle.chronicle.specs.Holds.{machine_of}
 use Rattle.chronicle.specs.Passes.{seen}
 use Rattle.shard_node.specs.Shards.{AddsEntry}
 use Rattle.shard_lock.specs.declared.noted.NotedShard.{NotedShard}
-use Rattle.shard_lock.specs.Notes.{NotedView, seen_by_passes, seen_of}
+use Rattle.shard_lock.specs.Notes.{NotedShardView, seen_by_passes, seen_of}
 use Rattle.weaver_locks.specs.declared.hand.Hand.{Hand}
 use Rattle.weaver_locks.specs.declared.shared.Shared.{Shared}
 use Rattle.weaver_locks.specs.Hands.{hand_number, IsHand, seen_by}
@@ -37,27 +38,27 @@ use Rattle.weaver_locks.proofs.Logged.{records_on}
 use Rattle.weaver_locks.proofs.ShardCalled.{IsCalled}
 use Rattle.weaver_locks.proofs.ShardDone.{goes_by_none, goes_by_one}
 
--- the vertices of a message that is made of a judgement, or empty, are distinct
-pub are_apart : ((store : List StoreEntry) → IsStoreLog store → HavePassed store)
-    → ((shards : ℕ) (store : List StoreEntry) (shard : ℕ) (log : List ShardEntry) → HasSeen shards store shard log → (message : Message)
-    → IsMade shards store shard message → AllPairs (λ (one other : Part). one.vertex ≢ other.vertex) message.parts)
-    → (shards shard : ℕ) (store : List StoreEntry) → IsStoreLog store → (message : Message) → IsMade shards store shard message
-    → AllPairs (λ (one other : Part). one.vertex ≢ other.vertex) message.parts
-are_apart passed apart shards shard store legal message made = apart shards store shard [] (record { passes = passed store legal; takes = none }) message made
-  where
-    none : (before : List ShardEntry) (entry : ShardEntry) (after : List ShardEntry) → [] ≡ before ++ entry ∷ after → TakesAs shards store shard before entry.deed
-    none before entry after at = absurd (has_none entry (subst (λ (l : List ShardEntry). Contains l entry) (sym at) (has_cut before entry after)))
+module _ (passed : (store : List StoreEntry) → IsStoreLog store → HavePassed store)
+    (apart : (shards : ℕ) (store : List StoreEntry) (shard : ℕ) (log : List ShardEntry) → HasSeen shards store shard log → (message : Message)
+    → IsMade shards store shard message → AllPairs (λ (one other : Part). one.vertex ≢ other.vertex) message.parts) where
+  -- the vertices of a message that is made of a judgement, or empty, are distinct
+  pub are_apart : (shards shard : ℕ) (store : List StoreEntry) → IsStoreLog store → (message : Message) → IsMade shards store shard message
+      → AllPairs (λ (one other : Part). one.vertex ≢ other.vertex) message.parts
+  are_apart shards shard store legal message made = apart shards store shard [] (record { passes = passed store legal; takes = none }) message made
+    where
+      none : (before : List ShardEntry) (entry : ShardEntry) (after : List ShardEntry) → [] ≡ before ++ entry ∷ after → TakesAs shards store shard before entry.deed
+      none before entry after at = absurd (has_none entry (subst (λ (l : List ShardEntry). Contains l entry) (sym at) (has_cut before entry after)))
 
 -- What was seen of a sending was seen by the notes
 module _ (laws : HoldLaws) (shared : Shared) (old now : Hand) (shard : ℕ) (held : Held NotedShard ShardDeed) (hand : IsHand shared old)
     (i : IsInShard shared old now shard held) where
-  abbrev was : NotedView
+  abbrev was : NotedShardView
   was = machine_of held
 
   abbrev by_passes : Account
   by_passes = seen_by_passes was.shard.number was.shard.log now.gates.items now.store now.oracle
 
-  pub still_seen : (s : NotedView) → s ≡ was → (gate number : ℕ) (message : Message)
+  pub still_seen : (s : NotedShardView) → s ≡ was → (gate number : ℕ) (message : Message)
       → ArrivesAsSeen (seen_by old) (length shared.shards.items) shard gate number message
       → ArrivesAsSeen (seen_of s.shard s.notes) s.shards s.shard.number gate number message
   still_seen s s_is gate number message h =
@@ -67,11 +68,11 @@ module _ (laws : HoldLaws) (shared : Shared) (old now : Hand) (shard : ℕ) (hel
       let oracle = records_on oracle_entry oracle_pair (λ x. refl) (seen old.oracle) (seen now.oracle) i.oracle.more in
       let there : ArrivesAsSeen by_passes (length shared.shards.items) shard gate number message =
       laws.shard_stays (length shared.shards.items) shard (seen_by old) by_passes gates store oracle [] 0 (Arrived gate number message) h in
-      subst (λ (v : NotedView). ArrivesAsSeen (seen_of v.shard v.notes) v.shards v.shard.number gate number message) (sym s_is)
+      subst (λ (v : NotedShardView). ArrivesAsSeen (seen_of v.shard v.notes) v.shards v.shard.number gate number message) (sym s_is)
       (subst (λ (z : Account × ℕ × ℕ). ArrivesAsSeen z.0 z.1 z.2 gate number message) (λ j. (sym i.same j, sym i.shard_count j, sym i.place j)) there)
 
 -- The entry of an arrival
-module _ {F : Type 0} (old : Hand) (author : ℕ) (deed : ShardDeed) (author_is : author ≡ hand_number old) (s m : NotedView) where
+module _ {F : Type 0} (old : Hand) (author : ℕ) (deed : ShardDeed) (author_is : author ≡ hand_number old) (s m : NotedShardView) where
   pub arrived : (r : Result Arrival F) → IfOk r (λ arrival. arrival ≡ Kept → AddsEntry s.shard m.shard author deed)
       → IfOk r (λ arrival. arrival ≡ Repeat → m.shard ≡ s.shard) → OnErr r (m.shard ≡ s.shard) → m.shards ≡ s.shards → m.notes ≡ s.notes
       → IsCalled s m (arrival_entries old deed r)

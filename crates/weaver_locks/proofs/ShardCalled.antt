@@ -1,7 +1,8 @@
 -- A call in the lock of a shard that adds at most one entry, and visits nothing.
+-- Used by `apply`, `arrive`, ShardApplied and ShardArrived.
 use Rattle.std.proofs.Common.{◌≡◌, ℕ, ◌<◌, List, [], length, get_or, Contains, ap, subst}
 use Rattle.std.specs.Prelude.{Result, Ok, Err}
-use Rattle.proof_base.proofs.Members.{has_none, only}
+use Rattle.weave_data.proofs.Members.{has_none, only}
 use Rattle.weave_entries.specs.declared.shard_log.ShardDeed.{ShardDeed}
 use Rattle.weave_entries.specs.declared.shard_log.ShardDeed.TheVariants.{Applied, Visited}
 use Rattle.weave_entries.specs.declared.shard_log.ShardEntry.{ShardEntry}
@@ -14,7 +15,7 @@ use Rattle.chronicle.specs.Holds.{log_at_entry, machine_of}
 use Rattle.chronicle.specs.Logs.{Follows}
 use Rattle.chronicle.specs.Passes.{number_of}
 use Rattle.shard_lock.specs.declared.noted.NotedShard.{NotedShard}
-use Rattle.shard_lock.specs.Notes.{IsKept, NotedView}
+use Rattle.shard_lock.specs.Notes.{ShardIsKept, NotedShardView}
 use Rattle.weaver_locks.specs.declared.hand.Hand.{Hand}
 use Rattle.weaver_locks.specs.declared.shared.Shared.{Shared}
 use Rattle.weaver_locks.specs.Hands.{hand_number, IsHand}
@@ -23,7 +24,7 @@ use Rattle.weaver_locks.specs.ShardHolds.{shard_entries_of}
 use Rattle.weaver_locks.proofs.ShardDone.{GoesBy, done, follows}
 
 -- the machine s is m now: its log has these entries more
-pub record IsCalled (s m : NotedView) (added : List ShardEntry) : Type 0 where
+pub record IsCalled (s m : NotedShardView) (added : List ShardEntry) : Type 0 where
   pub goes : GoesBy s.shard m.shard added
   pub shards : m.shards ≡ s.shards
   pub notes : m.notes ≡ s.notes
@@ -39,14 +40,14 @@ pub applied_apart : (gate number : ℕ) (v : Visit) → Applied gate number ≡ 
 applied_apart gate number v is = absurd cc
 
 module _ (shared : Shared) (old now : Hand) (shard : ℕ) (held : Held NotedShard ShardDeed) (hand : IsHand shared old)
-    (low : shard < length shared.shards.items) (i : IsInShard shared old now shard held) (s m : NotedView) (s_is : s ≡ machine_of held)
+    (low : shard < length shared.shards.items) (i : IsInShard shared old now shard held) (s m : NotedShardView) (s_is : s ≡ machine_of held)
     (added : List ShardEntry) (called : IsCalled s m added) (by : (e : ShardEntry) → Contains added e → e.author ≡ hand_number old) where
   here : IsCalled (machine_of held) m added
-  here = subst (λ (v : NotedView). IsCalled v m added) s_is called
+  here = subst (λ (v : NotedShardView). IsCalled v m added) s_is called
 
   pub called_follows : (p : Pass ShardDeed) → Follows (number_of (get_or now.shards.items shard p)) (log_at_entry held) (shard_pairs m.shard.log)
   called_follows = follows shared old now shard held hand low i m.shard.log added here.goes.log by
 
-  pub called_done : IsKept m.shard m.shards m.notes → ((v : Visit) → Contains added (visit_entry v) → ⊥)
+  pub called_done : ShardIsKept m.shard m.shards m.notes → ((v : Visit) → Contains added (visit_entry v) → ⊥)
       → IsDoneInShard shared old now shard m.shard.log (machine_of held).shard.log added []
   called_done kept none = done shared old now shard held hand low i m added here.goes here.shards here.notes kept by none

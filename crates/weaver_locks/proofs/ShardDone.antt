@@ -1,10 +1,11 @@
 -- What a hand did in the lock of a shard, if it visited nothing.
-use Rattle.std.proofs.Common.{◌≡◌, ℕ, ◌<◌, List, [], ◌∷◌, ◌++◌, length, map, get_or, Contains, refl, sym, ap, ◌∙◌, subst, arith}
+-- Used by `apply`, ShardApplied, ShardArrived, ShardCalled and ShardVisited.
+use Rattle.std.proofs.Common.{◌≡◌, ℕ, ◌<◌, List, [], ◌∷◌, ◌++◌, length, map, get_or, Contains, refl, sym, ap, ◌∙◌, subst}
 use Rattle.std.specs.Prelude.{All, Result, Ok, Err, OnOk, OnErr}
 use Rattle.std.proofs.lemmas.List.{append-nil, map-append}
 use Rattle.std.proofs.lemmas.List.Elements.{All-cons, All-nil}
 use mathlib.Core.List.{IsPrefix}
-use Rattle.proof_base.proofs.Members.{has_head, has_none, has_tail, only}
+use Rattle.weave_data.proofs.Members.{has_head, has_none, has_tail, only}
 use Rattle.weave_entries.specs.declared.oracle_log.OracleDeed.{OracleDeed}
 use Rattle.weave_entries.specs.declared.oracle_log.OracleEntry.{OracleEntry}
 use Rattle.weave_entries.specs.declared.shard_log.ShardDeed.{ShardDeed}
@@ -24,7 +25,7 @@ use Rattle.shard_node.specs.Shards.{AddsEntry, ShardView}
 use Rattle.shard_lock.specs.declared.noted.NotedShard.{NotedShard}
 use Rattle.shard_lock.specs.declared.notes.ShardNotes.{ShardNotes}
 use Rattle.shard_lock.specs.Frames.{shard_frame}
-use Rattle.shard_lock.specs.Notes.{at_place, frame_of, IsKept, NotedView, seen_by_passes, seen_of}
+use Rattle.shard_lock.specs.Notes.{at_place, frame_of, ShardIsKept, NotedShardView, seen_by_passes, seen_of}
 use Rattle.weaver_locks.specs.declared.hand.Hand.{Hand}
 use Rattle.weaver_locks.specs.declared.shared.Shared.{Shared}
 use Rattle.weaver_locks.specs.Hands.{hand_number, IsHand}
@@ -33,6 +34,7 @@ use Rattle.weaver_locks.specs.ShardHolds.{shard_entries_of}
 use Rattle.weaver_locks.proofs.Logged.{beyond}
 use Rattle.weaver_locks.proofs.Rows.{set_here, set_length}
 use Rattle.weaver_locks.proofs.Seeing.{placed_here}
+use Rattle.weaver_locks.proofs.HandParts.{has_shard}
 
 -- a shard's log has these entries more, and all else is as before
 pub record GoesBy (old new : ShardView) (added : List ShardEntry) : Type 0 where
@@ -67,21 +69,18 @@ all_by n author (e ∷ added) is by = All-cons (λ (x : ℕ × ShardDeed). x.0 �
 
 module _ (shared : Shared) (old now : Hand) (shard : ℕ) (held : Held NotedShard ShardDeed) (hand : IsHand shared old)
     (low : shard < length shared.shards.items) (i : IsInShard shared old now shard held) where
-  abbrev was : NotedView
+  abbrev was : NotedShardView
   was = machine_of held
-
-  low_old : shard < length old.shards.items
-  low_old = omega (arith, low, hand.shards)
 
   -- the pass that is in the hold
   pub its_pass : (p : Pass ShardDeed) → get_or now.shards.items shard p ≡ i.pass
-  its_pass p = ap (λ (l : List (Pass ShardDeed)). get_or l shard p) i.shards ∙ set_here old.shards.items shard i.pass p low_old
+  its_pass p = ap (λ (l : List (Pass ShardDeed)). get_or l shard p) i.shards ∙ set_here old.shards.items shard i.pass p (has_shard shared old hand shard low)
 
   pub as_many : length now.shards.items ≡ length shared.shards.items
   as_many = ap (λ (l : List (Pass ShardDeed)). length l) i.shards ∙ (set_length old.shards.items shard i.pass ∙ hand.shards)
 
   -- the pass can leave
-  pub its_hold : (m : NotedView) (p : Pass ShardDeed) → WentInWith (get_or now.shards.items shard p)
+  pub its_hold : (m : NotedShardView) (p : Pass ShardDeed) → WentInWith (get_or now.shards.items shard p)
       (record { chronicle = held.chronicle; machine = m; seat = held.seat; seated = held.seated; view = held.view; author = held.author })
   its_hold m p = subst (λ (q : Pass ShardDeed). WentInWith q
       (record { chronicle = held.chronicle; machine = m; seat = held.seat; seated = held.seated; view = held.view; author = held.author }))
@@ -97,14 +96,14 @@ module _ (shared : Shared) (old now : Hand) (shard : ℕ) (held : Held NotedShar
   )
 
   -- the frame stays
-  pub still_framed : (m : NotedView) → m.shard.number ≡ was.shard.number → m.shard.gates ≡ was.shard.gates → m.shards ≡ was.shards
+  pub still_framed : (m : NotedShardView) → m.shard.number ≡ was.shard.number → m.shard.gates ≡ was.shard.gates → m.shards ≡ was.shards
       → m.notes ≡ was.notes → frame_of m.shard m.shards m.notes ≡ (lock_in held).frame
   still_framed m number gates shards notes =
       (λ j. shard_frame (number j) (gates j) (shards j) (lock_noted (notes j).store) (lock_noted (notes j).oracle) (map lock_noted (notes j).gates.items))
       ∙ i.frame
 
-  module _ (m : NotedView) (added : List ShardEntry) (goes : GoesBy was.shard m.shard added) (shards : m.shards ≡ was.shards)
-      (notes : m.notes ≡ was.notes) (kept : IsKept m.shard m.shards m.notes)
+  module _ (m : NotedShardView) (added : List ShardEntry) (goes : GoesBy was.shard m.shard added) (shards : m.shards ≡ was.shards)
+      (notes : m.notes ≡ was.notes) (kept : ShardIsKept m.shard m.shards m.notes)
       (by : (e : ShardEntry) → Contains added e → e.author ≡ hand_number old)
       (no_visit : (v : Visit) → Contains added (visit_entry v) → ⊥) where
     abbrev G : ℕ

@@ -1,4 +1,5 @@
 -- A hand that enters the lock of a shard.
+-- Used by `enter_shard`.
 use Rattle.std.proofs.Common.{◌≡◌, ℕ, zero, suc, ◌<◌, List, [], ◌∷◌, ◌++◌, length, map, get_or, refl, sym, ap, ◌∙◌, subst, arith}
 use Rattle.std.specs.Vec.{with_item, with_items}
 use Rattle.std.proofs.lemmas.List.{get_or_default, length-map}
@@ -26,7 +27,7 @@ use Rattle.lock_row.specs.Rows.{names_of}
 use Rattle.lock_row.proofs.Lists.{written}
 use Rattle.gate_lock.specs.declared.noted.NotedGate.{NotedGate}
 use Rattle.shard_lock.specs.declared.noted.NotedShard.{NotedShard}
-use Rattle.shard_lock.specs.Notes.{at_place, frame_of, NotedView, seen_by_passes, seen_of}
+use Rattle.shard_lock.specs.Notes.{at_place, frame_of, NotedShardView, seen_by_passes, seen_of}
 use Rattle.shard_node.specs.Shards.{ShardView}
 use Rattle.weaver_locks.specs.declared.hand.Hand.{Hand}
 use Rattle.weaver_locks.specs.declared.shared.Shared.{Shared}
@@ -35,6 +36,7 @@ use Rattle.weaver_locks.specs.InShard.{IsInShard}
 use Rattle.weaver_locks.proofs.FrameParts.{first_of, rest_of}
 use Rattle.weaver_locks.proofs.Rows.{all_met_on, met_on}
 use Rattle.weaver_locks.proofs.Seeing.{gates_named}
+use Rattle.weaver_locks.proofs.HandParts.{has_shard}
 
 none_placed : (number k : ℕ) → get_or (at_place number []) k [] ≡ []
 unfolding at_place
@@ -48,7 +50,7 @@ no_entries gates [] entry after at = let n : length {A = ShardEntry} [] ≡ leng
 no_entries gates (x ∷ before) entry after at = let n : length {A = ShardEntry} [] ≡ length (x ∷ (before ++ entry ∷ after)) = ap (λ (l : List ShardEntry). length l) at in absurd (omega (arith, n))
 
 -- what the frame says of the shard in the lock
-record IsAt (shared : Shared) (shard : ℕ) (m : NotedView) : Type 0 where
+record IsAt (shared : Shared) (shard : ℕ) (m : NotedShardView) : Type 0 where
   pub place : m.shard.number ≡ shard
   pub gate_count : m.shard.gates ≡ length shared.gates.items
   pub shard_count : m.shards ≡ length shared.shards.items
@@ -56,7 +58,7 @@ record IsAt (shared : Shared) (shard : ℕ) (m : NotedView) : Type 0 where
 
 module _ (shared : Shared) (old : Hand) (shard : ℕ) (hand : IsHand shared old) (low : shard < length shared.shards.items)
     (lock : Chronicle NotedShard ShardDeed) (lock_at : lock ≡ get_or shared.shards.items shard lock) where
-  is_at : (m : NotedView) → frame_of m.shard m.shards m.notes ≡ (lock_of lock).frame → IsAt shared shard m
+  is_at : (m : NotedShardView) → frame_of m.shard m.shards m.notes ≡ (lock_of lock).frame → IsAt shared shard m
   is_at m frame =
       let is = frame ∙ (ap (λ (c : Chronicle NotedShard ShardDeed). (lock_of c).frame) lock_at ∙ shared.framed.shard_frames shard lock low) in
       record {
@@ -66,11 +68,11 @@ module _ (shared : Shared) (old : Hand) (shard : ℕ) (hand : IsHand shared old)
         gate_notes = ap (λ (f : Frame). rest_of (rest_of (rest_of f))) is;
       }
 
-  module _ (held : Held NotedShard ShardDeed) (s : NotedView) (s_is : s ≡ machine_of held)
+  module _ (held : Held NotedShard ShardDeed) (s : NotedShardView) (s_is : s ≡ machine_of held)
       (framed : frame_of (machine_of held).shard (machine_of held).shards (machine_of held).notes ≡ (lock_of lock).frame)
       (gates : List (Pass GateDeed)) (gates_is : gates ≡ old.gates.items) where
     s_framed : frame_of s.shard s.shards s.notes ≡ (lock_of lock).frame
-    s_framed = ap (λ (v : NotedView). frame_of v.shard v.shards v.notes) s_is ∙ framed
+    s_framed = ap (λ (v : NotedShardView). frame_of v.shard v.shards v.notes) s_is ∙ framed
 
     at : IsAt shared shard s
     at = is_at s s_framed
@@ -93,7 +95,7 @@ module _ (shared : Shared) (old : Hand) (shard : ℕ) (hand : IsHand shared old)
         (entry : log_at_entry held ≡ shard_pairs (machine_of held).shard.log)
         (lock_is : lock_in held ≡ lock_of lock) (went : WentInWith q held) (number : number_of q ≡ number_of was)
         (locks : List (Chronicle NotedGate GateDeed)) (locks_is : locks ≡ shared.gates.items)
-        (m : NotedView) (later : List (Pass GateDeed)) (store : Pass StoreDeed) (oracle : Pass OracleDeed)
+        (m : NotedShardView) (later : List (Pass GateDeed)) (store : Pass StoreDeed) (oracle : Pass OracleDeed)
         (shard_still : m.shard ≡ s.shard) (shards_still : m.shards ≡ s.shards)
         (frame_still : frame_of m.shard m.shards m.notes ≡ frame_of s.shard s.shards s.notes)
         (gates_met : AllMet locks gates later s.notes.gates.items m.notes.gates.items (length locks))
@@ -102,7 +104,7 @@ module _ (shared : Shared) (old : Hand) (shard : ℕ) (hand : IsHand shared old)
         (count : length later ≡ length gates)
         (same : seen_of m.shard m.notes ≡ seen_by_passes m.shard.number m.shard.log later store oracle) where
       low_old : shard < length old.shards.items
-      low_old = omega (arith, low, hand.shards)
+      low_old = has_shard shared old hand shard low
 
       many : length later ≡ length old.gates.items
       many = count ∙ ap (λ (l : List (Pass GateDeed)). length l) gates_is
@@ -122,7 +124,7 @@ module _ (shared : Shared) (old : Hand) (shard : ℕ) (hand : IsHand shared old)
       at_pass p = was_at ∙ get_or_default old.shards.items shard was p low_old
 
       its_log : m.shard.log ≡ (machine_of held).shard.log
-      its_log = ap (λ (v : ShardView). v.log) shard_still ∙ ap (λ (v : NotedView). v.shard.log) s_is
+      its_log = ap (λ (v : ShardView). v.log) shard_still ∙ ap (λ (v : NotedShardView). v.shard.log) s_is
 
       met : AllMet shared.gates.items old.gates.items (with_items old.gates later).items s.notes.gates.items m.notes.gates.items (length shared.gates.items)
       met = subst (λ (z : List (Chronicle NotedGate GateDeed) × List (Pass GateDeed) × List (Pass GateDeed)). AllMet z.0 z.1 z.2 s.notes.gates.items m.notes.gates.items (length z.0))

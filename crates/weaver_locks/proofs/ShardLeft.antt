@@ -1,4 +1,5 @@
 -- A hand that leaves the lock of a shard.
+-- Used by `leave_shard`.
 use Rattle.std.proofs.Common.{◌≡◌, ◌≢◌, ℕ, ◌<◌, ◌≤◌, List, [], ◌∷◌, ◌++◌, length, map, get_or, set, inl, inr, refl, sym, ap, ◌∙◌, subst, arith}
 use Rattle.std.proofs.lemmas.List.{length-append, length-map}
 use mathlib.Core.Logic.{dite}
@@ -37,6 +38,7 @@ use Rattle.weaver_locks.proofs.Beside.{gates_made, gates_on, named, no_gate_entr
 use Rattle.weaver_locks.proofs.Logged.{begin_length, none_past, own_adds, past_before, records_on}
 use Rattle.weaver_locks.proofs.Rows.{image_at, image_or, image_set, nothing_more, row_numbers, row_ready, set_here, set_length, set_there}
 use Rattle.weaver_locks.proofs.Seeing.{begins_longer, placed_here, same_gates, shard_at, shards_back}
+use Rattle.weaver_locks.proofs.HandParts.{has_shard}
 
 module _ (laws : HoldLaws) (shared : Shared) (old new : Hand) (shard : ℕ) (before added : List ShardEntry) (asked : List OracleEntry)
     (d : DoesInShard shared old shard new.gates.items new.store new.oracle before added asked)
@@ -56,7 +58,7 @@ module _ (laws : HoldLaws) (shared : Shared) (old new : Hand) (shard : ℕ) (bef
   many = length shared.shards.items
 
   low_old : shard < length old.shards.items
-  low_old = omega (arith, d.low, d.hand.shards)
+  low_old = has_shard shared old d.hand shard d.low
 
   -- The store's log
 
@@ -111,15 +113,12 @@ module _ (laws : HoldLaws) (shared : Shared) (old new : Hand) (shard : ℕ) (bef
       past_before shard_entry shard_pair (λ x. refl) laws.hand.shard_places n had before added (d.found p)
       (d.own_is p ∙ ap (λ (m : ℕ). entries_of m had) own_number) cut after e (sym here ∙ at) mine.0 past
 
-  named_now : next.gates ≡ gates_seen new.gates.items
-  named_now = named shared old new d.hand d.gates_on
-
   -- What was seen is legal
 
   legal : AreLegal (length shared.gates.items) many next
   legal = record {
-    gate_logs = λ home. subst (λ (l : List (List GateEntry)). IsGateLog home many (get_or l home [])) (sym named_now) (d.gates_legal.rules home);
-    hears = λ home. subst (λ (l : List (List GateEntry)). HearsNoMore home (get_or l home [])) (sym named_now) (d.gates_legal.hears home);
+    gate_logs = λ home. subst (λ (l : List (List GateEntry)). IsGateLog home many (get_or l home [])) (sym (named shared old new d.hand d.gates_on)) (d.gates_legal.rules home);
+    hears = λ home. subst (λ (l : List (List GateEntry)). HearsNoMore home (get_or l home [])) (sym (named shared old new d.hand d.gates_on)) (d.gates_legal.hears home);
     store_log = d.store_legal;
     oracle_log = d.oracle_legal;
     shard_logs = λ k. dite (ℕ_discrete k shard)
@@ -135,7 +134,7 @@ module _ (laws : HoldLaws) (shared : Shared) (old new : Hand) (shard : ℕ) (bef
 
   pub refers : ShardRefersWithin many next shard
   refers cut e after at =
-      laws.shard_stays many shard by_passes next (same_gates by_passes next (sym named_now)) (nothing_more next.store) (nothing_more next.oracle)
+      laws.shard_stays many shard by_passes next (same_gates by_passes next (sym (named shared old new d.hand d.gates_on))) (nothing_more next.store) (nothing_more next.oracle)
       cut e.author e.deed (d.refers cut e after (placed_here shard (before ++ added) ∙ (sym here ∙ at)))
 
   adds_at : (k : ℕ) (cut : List ShardEntry) (e : ShardEntry) (after : List ShardEntry) → shard_log next k ≡ cut ++ e ∷ after
@@ -171,13 +170,10 @@ module _ (laws : HoldLaws) (shared : Shared) (old new : Hand) (shard : ℕ) (bef
     store_entries = λ cut e after at mine. absurd (no_store_entry cut after e at mine);
     oracle_entries = λ cut e after at mine.
         let has = oracle_added shared old new d.hand d.settled asked d.oracle_adds laws cut after e at mine in
-        (laws.oracle_stays (of_gates (gates_seen new.gates.items)) next (same_gates (of_gates (gates_seen new.gates.items)) next (sym named_now)) e.deed (d.asked_refers e has), d.asked_for next here e has);
+        (laws.oracle_stays (of_gates (gates_seen new.gates.items)) next (same_gates (of_gates (gates_seen new.gates.items)) next (sym (named shared old new d.hand d.gates_on))) e.deed (d.asked_refers e has), d.asked_for next here e has);
     shard_entries = adds_at;
     asks_once = asks_at;
   }
-
-  seen_next : IsSeenByHand many n (start_of shared) next
-  seen_next = laws.hand.see_more (length shared.gates.items) many n (start_of shared) was next d.hand.seen within legal.shard_logs adds
 
   -- The hand
 
@@ -206,7 +202,7 @@ module _ (laws : HoldLaws) (shared : Shared) (old new : Hand) (shard : ℕ) (bef
     shard_numbers = λ k q low. at_shards (λ j x. number_of x ≡ hand_number new) (number_is ∙ sym d.store_on.number)
         (λ j x l. d.hand.shard_numbers j x (omega (arith, l, d.hand.shards)) ∙ sym d.store_on.number) k q (omega (arith, low, new_length, d.hand.shards));
     legal = legal;
-    seen = subst (λ (m : ℕ). IsSeenByHand many m (start_of shared) next) (sym d.store_on.number) seen_next;
+    seen = subst (λ (m : ℕ). IsSeenByHand many m (start_of shared) next) (sym d.store_on.number) (laws.hand.see_more (length shared.gates.items) many n (start_of shared) was next d.hand.seen within legal.shard_logs adds);
   }
 
   -- What the hand made

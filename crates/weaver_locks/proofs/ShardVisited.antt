@@ -1,12 +1,13 @@
 -- A visit in the lock of a shard, with the oracle's within it.
-use Rattle.std.proofs.Common.{◌≡◌, ◌≢◌, ℕ, ◌<◌, ◌≤◌, Bool, true, false, not, cond, ◌||◌, suc, ◌⊎◌, List, [], ◌∷◌, ◌++◌, length, map, get_or, Contains, inl, inr, refl, sym, ap, ◌∙◌, subst, arith}
+-- Used by `visit`.
+use Rattle.std.proofs.Common.{◌≡◌, ℕ, ◌<◌, Bool, true, false, not, cond, ◌||◌, suc, ◌⊎◌, List, [], ◌∷◌, ◌++◌, length, map, get_or, Contains, inl, inr, refl, sym, ap, ◌∙◌, subst, arith}
 use Rattle.std.specs.Prelude.{IsTrue, Result, Ok, Err, Vec}
 use Rattle.std.specs.Global.{Global}
 use Rattle.std.specs.List.{list_any}
 use Rattle.std.specs.Vec.{with_items}
 use Rattle.std.proofs.lemmas.List.{append-nil, length-map}
-use Rattle.proof_base.proofs.Members.{cut_at, has_cut, has_flat, has_head, has_none, only}
-use Rattle.proof_base.proofs.Entries.{each_before}
+use Rattle.weave_data.proofs.Members.{cut_at, has_cut, has_flat, has_head, has_none, only}
+use Rattle.weave_data.proofs.Entries.{each_before}
 use Rattle.std.proofs.lemmas.List.Elements.{Contains-append_right}
 use Rattle.graph_ops.specs.Operations.{State}
 use Rattle.weave_data.specs.declared.name.Name.{Name}
@@ -32,7 +33,7 @@ use Rattle.weave_account.specs.GoesOn.{IsBeginningOf}
 use Rattle.weave_account.specs.Oracle.{seen_last}
 use Rattle.seen_logs.specs.Entries.{oracle_entries, oracle_pairs, store_entries, shard_entries, shard_entry, shard_pair, shard_pairs}
 use Rattle.seen_logs.specs.References.{IsAskedAsSeen, OracleRefersAs}
-use Rattle.seen_logs.specs.Seen.{GatesGoOn, HasAsked, OracleRefersWithin, ShardRefersWithin, visit_entry}
+use Rattle.seen_logs.specs.Seen.{GatesGoOn, OracleRefersWithin, ShardRefersWithin, visit_entry}
 use Rattle.chronicle.specs.declared.chronicle.Chronicle.{Chronicle}
 use Rattle.chronicle.specs.declared.held.Held.{Held}
 use Rattle.chronicle.specs.declared.note.Note.{Note}
@@ -48,7 +49,7 @@ use Rattle.oracle_lock.specs.Seen.{gates_noted, gates_seen, of_gates, oracle_see
 use Rattle.shard_node.specs.declared.fault.VisitFault.{VisitFault}
 use Rattle.shard_node.specs.Shards.{ShardView}
 use Rattle.shard_lock.specs.declared.noted.NotedShard.{NotedShard}
-use Rattle.shard_lock.specs.Notes.{at_place, IsKept, NotedView, seen_by_passes, seen_of}
+use Rattle.shard_lock.specs.Notes.{at_place, ShardIsKept, NotedShardView, seen_by_passes, seen_of}
 use Rattle.shard_lock.specs.Visited.{VisitsOver}
 use Rattle.weaver_locks.specs.declared.hand.Hand.{Hand}
 use Rattle.weaver_locks.specs.declared.shared.Shared.{Shared}
@@ -56,8 +57,7 @@ use Rattle.weaver_locks.specs.AskLaws.{AskLaws}
 use Rattle.weaver_locks.specs.Going.{AddsToOracle}
 use Rattle.weaver_locks.specs.Hands.{hand_number, IsHand, seen_by}
 use Rattle.weaver_locks.specs.HoldLaws.{HoldLaws}
-use Rattle.weaver_locks.specs.InShard.{DoesInShard, IsDoneInShard, IsInShard}
-use Rattle.weaver_locks.specs.Locks.{start_of}
+use Rattle.weaver_locks.specs.InShard.{AddedAskForNewPairs, DoesInShard, IsDoneInShard, IsInShard}
 use Rattle.weaver_locks.specs.ShardHolds.{asked_entries, visit_entries}
 use Rattle.weaver_locks.proofs.AskedOnce.{asks_new}
 use Rattle.weaver_locks.proofs.Beside.{oracle_found}
@@ -66,6 +66,7 @@ use Rattle.weaver_locks.proofs.Rows.{all_met_on, begins_more, go_on_twice, image
 use Rattle.weaver_locks.proofs.Seeing.{gates_named, oracles_back, placed_here, same_gates, shard_at, shards_back}
 use Rattle.weaver_locks.proofs.ShardDone.{follows, GoesBy, goes_by_none, goes_by_one}
 use Rattle.weaver_locks.proofs.StoreCommitted.{call_by}
+use Rattle.weaver_locks.proofs.HandParts.{has_shard}
 
 -- the entry of a visit
 abbrev visited : ℕ → ℕ → Stamp → Name → List ShardEntry → List OracleEntry → Visit
@@ -179,12 +180,7 @@ module _ (laws : AskLaws) (old : Hand) (gates request : ℕ) (stamp : Stamp) (ve
       (own_there : (cut after : List ShardEntry) (e : ShardEntry) → before ≡ cut ++ e ∷ after → e.author ≡ n
       → length cut < length (shard_log (seen_by old) shard)) where
     asks_nothing_again : {A F : Type 0} (r : Result A F) → IsShardLog gates (before ++ visit_entries old request stamp vertex before settled r)
-        → (next : Account) → shard_log next shard ≡ before ++ visit_entries old request stamp vertex before settled r
-        → ((k : ℕ) → k ≢ shard → shard_log next k ≡ shard_log (seen_by old) k)
-        → (cut after : List ShardEntry) (a : Visit) → before ++ visit_entries old request stamp vertex before settled r ≡ cut ++ visit_entry a ∷ after
-        → length before ≤ length cut → IsTrue a.settled → (other : ℕ) (rest : List ShardEntry) (b : Visit)
-        → HasAsked n (start_of shared) next other rest b → a.stamp ≡ b.stamp
-        → seen_last cut a ≡ seen_last rest b → (shard ≡ other) × (length cut ≡ length rest)
+        → AddedAskForNewPairs shared old shard before (visit_entries old request stamp vertex before settled r)
     asks_nothing_again (Ok x) legal next here there cut after a at over marked other rest b of_b same alike =
         asks_new hold laws shared old hand shard before settled oracle_there found own_there visit (kept_for legal) refl refl
         next here there cut after a at over marked other rest b of_b same alike
@@ -207,10 +203,10 @@ oracle_log_on old request stamp v was new had mine has settled (Err f) visits =
     visits.oracle ∙ ap (λ (l : List OracleEntry). oracle_pairs l) (sym (append-nil settled))
 
 module _ (shared : Shared) (old now : Hand) (shard : ℕ) (held : Held NotedShard ShardDeed) (hand : IsHand shared old)
-    (low : shard < length shared.shards.items) (i : IsInShard shared old now shard held) (s m : NotedView) (s_is : s ≡ machine_of held)
+    (low : shard < length shared.shards.items) (i : IsInShard shared old now shard held) (s m : NotedShardView) (s_is : s ≡ machine_of held)
     (request : ℕ) (stamp : Stamp) (vertex : Name) (r : Result State VisitFault) (oracle : Pass OracleDeed) (settled : List OracleEntry)
     (visits : VisitsOver (number_of now.oracle) request stamp vertex s.shard m.shard (seen now.oracle) (own now.oracle) (seen oracle) settled r) where
-  abbrev was : NotedView
+  abbrev was : NotedShardView
   was = machine_of held
 
   abbrev before : List ShardEntry
@@ -227,7 +223,7 @@ module _ (shared : Shared) (old now : Hand) (shard : ℕ) (held : Held NotedShar
 
   pub visited_here : VisitsOver (hand_number old) request stamp vertex was.shard m.shard (seen now.oracle) (own now.oracle) (seen oracle) settled r
   visited_here = subst (λ (z : ℕ × ShardView). VisitsOver z.0 request stamp vertex z.1 m.shard (seen now.oracle) (own now.oracle) (seen oracle) settled r)
-      (λ j. (number_is j, ap (λ (v : NotedView). v.shard) s_is j)) visits
+      (λ j. (number_is j, ap (λ (v : NotedShardView). v.shard) s_is j)) visits
 
   goes : GoesBy was.shard m.shard added
   goes = shard_log_on old request stamp vertex was.shard m.shard (seen now.oracle) (own now.oracle) (seen oracle) settled r visited_here
@@ -250,14 +246,11 @@ module _ (shared : Shared) (old now : Hand) (shard : ℕ) (held : Held NotedShar
 
   -- Where the hand's entries were
 
-  low_old : shard < length old.shards.items
-  low_old = omega (arith, low, hand.shards)
-
   abbrev had : Log ShardDeed
   had = seen (get_or old.shards.items shard i.pass)
 
   had_is : shard_log (seen_by old) shard ≡ shard_entries had
-  had_is = shard_at old shard ∙ ap shard_entries (image_at seen old.shards.items shard i.pass [] low_old)
+  had_is = shard_at old shard ∙ ap shard_entries (image_at seen old.shards.items shard i.pass [] (has_shard shared old hand shard low))
 
   found : IsBeginningOf (shard_log (seen_by old) shard) before
   found = subst (λ (z : List ShardEntry × List ShardEntry). IsBeginningOf z.0 z.1) (λ j. (sym had_is j, shards_back before j))
@@ -266,7 +259,7 @@ module _ (shared : Shared) (old now : Hand) (shard : ℕ) (held : Held NotedShar
   own_there : HoldLaws → (cut after : List ShardEntry) (e : ShardEntry) → before ≡ cut ++ e ∷ after → e.author ≡ hand_number old
       → length cut < length (shard_log (seen_by old) shard)
   own_there laws cut after e at mine =
-      let own_is = i.own_is i.pass ∙ ap (λ (k : ℕ). entries_of k had) (hand.shard_numbers shard i.pass low_old) in
+      let own_is = i.own_is i.pass ∙ ap (λ (k : ℕ). entries_of k had) (hand.shard_numbers shard i.pass (has_shard shared old hand shard low)) in
       let split = cut_pairs shard_entry shard_pair (λ x. refl) (shard_pairs before) cut after e (shards_back before ∙ at) in
       let there = laws.hand.shard_places (hand_number old) had (shard_pairs before) (shard_pairs cut) (shard_pairs after) (shard_pair e) (i.found i.pass) own_is split mine in
       omega (arith, there, length-map cut shard_pair, ap (λ (l : List ShardEntry). length l) had_is, length-map had shard_entry)
@@ -278,7 +271,7 @@ module _ (shared : Shared) (old now : Hand) (shard : ℕ) (held : Held NotedShar
       (count : length later ≡ length passes) (on : GatesGoOn (of_gates (gates_seen passes)) (of_gates (gates_seen later)))
       (oracle_kept : OracleIsKept s.shards (gates_seen later) (oracle_entries (seen oracle)))
       (met : (notes : List (Note GateDeed)) × (last : List (Note GateDeed)) × (length notes ≡ length locks)
-      × AllMet locks passes later notes last (length locks)) (kept : IsKept m.shard m.shards m.notes) where
+      × AllMet locks passes later notes last (length locks)) (kept : ShardIsKept m.shard m.shards m.notes) where
     abbrev G : ℕ
     G = length shared.gates.items
 
@@ -288,11 +281,8 @@ module _ (shared : Shared) (old now : Hand) (shard : ℕ) (held : Held NotedShar
     abbrev gates_now : List (Pass GateDeed)
     gates_now = (with_items now.gates later).items
 
-    many : length later ≡ length now.gates.items
-    many = count ∙ ap (λ (l : List (Pass GateDeed)). length l) passes_is
-
     back : gates_now ≡ later
-    back = written now.gates.len later now.gates.items (many ∙ sym now.gates.ok.0)
+    back = written now.gates.len later now.gates.items (count ∙ ap (λ (l : List (Pass GateDeed)). length l) passes_is ∙ sym now.gates.ok.0)
 
     all_met : AllMet shared.gates.items now.gates.items gates_now met.0 met.1 G
     all_met = subst (λ (z : List (Chronicle NotedGate GateDeed) × List (Pass GateDeed) × List (Pass GateDeed)). AllMet z.0 z.1 z.2 met.0 met.1 (length z.0))
@@ -307,14 +297,14 @@ module _ (shared : Shared) (old now : Hand) (shard : ℕ) (held : Held NotedShar
     notes_on : GatesGoOn by_notes by_passes
     notes_on = subst (λ (z : List (List GateEntry) × List (Pass GateDeed)). GatesGoOn (of_gates z.0) (of_gates (gates_seen z.1)))
         (λ j. (
-          (ap gates_seen passes_is ∙ (sym (ap (λ (a : Account). a.gates) i.same) ∙ (ap (λ (v : NotedView). gates_noted v.notes.gates.items) (sym s_is)
+          (ap gates_seen passes_is ∙ (sym (ap (λ (a : Account). a.gates) i.same) ∙ (ap (λ (v : NotedShardView). gates_noted v.notes.gates.items) (sym s_is)
               ∙ ap (λ (v : Vec (Note GateDeed) Global). gates_noted v.items) (sym gates_still)))) j,
           sym back j,
         )) on
 
     store_is : by_notes.store ≡ by_passes.store
     store_is = ap (λ (t : Note StoreDeed). store_entries (noted t)) store_still
-        ∙ (ap (λ (v : NotedView). store_entries (noted v.notes.store)) s_is ∙ ap (λ (a : Account). a.store) i.same)
+        ∙ (ap (λ (v : NotedShardView). store_entries (noted v.notes.store)) s_is ∙ ap (λ (a : Account). a.store) i.same)
 
     place_is : m.shard.number ≡ shard
     place_is = goes.number ∙ i.place
@@ -323,7 +313,7 @@ module _ (shared : Shared) (old now : Hand) (shard : ℕ) (held : Held NotedShar
     log_is = ap (λ (k : ℕ). get_or (at_place k m.shard.log) shard []) place_is ∙ (placed_here shard m.shard.log ∙ goes.log)
 
     shard_count : m.shards ≡ H
-    shard_count = shards_still ∙ (ap (λ (v : NotedView). v.shards) s_is ∙ i.shard_count)
+    shard_count = shards_still ∙ (ap (λ (v : NotedShardView). v.shards) s_is ∙ i.shard_count)
 
     kept_refers : ShardRefersWithin H by_notes shard
     kept_refers = subst (λ (z : ℕ × ℕ). ShardRefersWithin z.0 by_notes z.1) (λ j. (shard_count j, place_is j)) kept.refers
@@ -339,7 +329,7 @@ module _ (shared : Shared) (old now : Hand) (shard : ℕ) (held : Held NotedShar
 
     oracle_is_kept : OracleIsKept H (gates_seen gates_now) (oracle_entries (seen oracle))
     oracle_is_kept = subst (λ (z : ℕ × List (Pass GateDeed)). OracleIsKept z.0 (gates_seen z.1) (oracle_entries (seen oracle)))
-        (λ j. ((ap (λ (v : NotedView). v.shards) s_is ∙ i.shard_count) j, sym back j)) oracle_kept
+        (λ j. ((ap (λ (v : NotedShardView). v.shards) s_is ∙ i.shard_count) j, sym back j)) oracle_kept
 
     asked_there : (e : OracleEntry) → Contains asked e → OracleRefersAs (of_gates (gates_seen gates_now)) e.deed
     asked_there e has =
@@ -356,7 +346,7 @@ module _ (shared : Shared) (old now : Hand) (shard : ℕ) (held : Held NotedShar
       low = low;
       gates_on = go_on_twice shared.gates.items old.gates.items now.gates.items gates_now i.gates
           (all_met_on shared.gates.items now.gates.items gates_now met.0 met.1 all_met
-          (met.2 ∙ ap (λ (l : List (Chronicle NotedGate GateDeed)). length l) locks_is) (ap (λ (l : List (Pass GateDeed)). length l) back ∙ many));
+          (met.2 ∙ ap (λ (l : List (Chronicle NotedGate GateDeed)). length l) locks_is) (ap (λ (l : List (Pass GateDeed)). length l) back ∙ count ∙ ap (λ (l : List (Pass GateDeed)). length l) passes_is));
       store_on = i.store;
       settled = settled;
       oracle_adds = oracle_adds ready number;

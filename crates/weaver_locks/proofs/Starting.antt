@@ -1,4 +1,5 @@
 -- Locks that were opened for machines of legal logs which refer to nothing but themselves.
+-- Used by `new`.
 use Rattle.std.proofs.Common.{◌≡◌, inr, ℕ, ◌<◌, List, [], ◌∷◌, ◌++◌, length, map, get_or, set, refl, sym, ap, ◌∙◌, subst, arith, length-append}
 use Rattle.std.proofs.lemmas.List.{append-nil, get_or-map, length-map, set-get_or}
 use Rattle.weave_entries.specs.declared.gate_log.GateDeed.{GateDeed}
@@ -98,7 +99,7 @@ module _ (laws : OpeningLaws) (locks : Locks) (gates : List GateView) (store : L
   shard_refers k before entry after at = (start.refers 0).shard_entries k before entry after at
       (inr (was_there (shard_log account k) before after entry at))
 
-  pub kept_gate : (k : ℕ) (g : GateView) → k < length gates → (notes : GateNotes) → GateNotesStart locks notes → gate.IsKept (get_or gates k g) notes
+  pub kept_gate : (k : ℕ) (g : GateView) → k < length gates → (notes : GateNotes) → GateNotesStart locks notes → gate.GateIsKept (get_or gates k g) notes
   kept_gate k g low notes is =
       let v : GateView = get_or gates k g in
       let home : v.home ≡ k = start.order.homes k g low in
@@ -120,7 +121,7 @@ module _ (laws : OpeningLaws) (locks : Locks) (gates : List GateView) (store : L
       (λ j. ap (λ (l : List (List ShardEntry)). get_or l j []) shards_seen)
 
   pub kept_shard : (k : ℕ) (s : ShardView) → k < length shards → (notes : ShardNotes) → ShardNotesStart locks notes
-      → shard.IsKept (get_or shards k s) (length shards) notes
+      → shard.ShardIsKept (get_or shards k s) (length shards) notes
   kept_shard k s low notes is =
       let v : ShardView = get_or shards k s in
       let number : v.number ≡ k = start.order.numbers k s low in

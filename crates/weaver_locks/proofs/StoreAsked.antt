@@ -1,5 +1,6 @@
 -- What a judgement asks of the hold of the store.
-use Rattle.std.proofs.Common.{◌≡◌, ℕ, List, [], ◌∷◌, length, get_or, sym, ap, ◌∙◌, subst}
+-- Used by `commit`.
+use Rattle.std.proofs.Common.{◌≡◌, ℕ, List, [], get_or, sym, ap, ◌∙◌, subst}
 use Rattle.weave_entries.specs.declared.gate_log.GateDeed.{GateDeed}
 use Rattle.weave_entries.specs.declared.gate_log.GateEntry.{GateEntry}
 use Rattle.weave_entries.specs.declared.store_log.StoreDeed.{StoreDeed}
@@ -11,7 +12,6 @@ use Rattle.chronicle.specs.declared.pass.Pass.{Pass}
 use Rattle.chronicle.specs.Holds.{machine_of}
 use Rattle.chronicle.specs.Locks.{lock_of, name_of}
 use Rattle.chronicle.specs.Passes.{IsReady, lock_noted}
-use Rattle.lock_row.specs.Rows.{names_of}
 use Rattle.gate_lock.specs.declared.noted.NotedGate.{NotedGate}
 use Rattle.oracle_lock.specs.Seen.{AreGateLogs, gates_noted, gates_seen, of_gates}
 use Rattle.store_lock.specs.declared.noted_store.NotedStore.{NotedStore}
@@ -25,12 +25,6 @@ use Rattle.weaver_locks.proofs.Rows.{nothing_more}
 module _ (shared : Shared) (old now : Hand) (held : Held NotedStore StoreDeed) (hand : IsHand shared old) (i : IsInStore shared old now held)
     (s : StoreView) (s_is : s ≡ machine_of held) (locks : List (Chronicle NotedGate GateDeed)) (locks_is : locks ≡ shared.gates.items)
     (passes : List (Pass GateDeed)) (passes_is : passes ≡ now.gates.items) where
-  shard_count : s.shards ≡ length shared.shards.items
-  shard_count = ap (λ (v : StoreView). v.shards) s_is ∙ i.shard_count
-
-  pub oracle_framed : (lock_of shared.oracle).frame ≡ (s.shards ∷ []) ∷ names_of locks
-  oracle_framed = shared.framed.oracle_frame ∙ (λ j. (sym shard_count j ∷ []) ∷ names_of (sym locks_is j))
-
   pub its_note : lock_noted s.oracle ≡ name_of (lock_of shared.oracle)
   its_note = ap (λ (v : StoreView). lock_noted v.oracle) s_is ∙ i.oracle_note
 

@@ -1,10 +1,11 @@
 -- A judgement in the lock of the store, with the oracle's within it.
+-- Used by `commit` and ShardVisited.
 use Rattle.std.proofs.Common.{◌≡◌, ℕ, List, [], ◌∷◌, ◌++◌, length, map, Contains, inl, refl, sym, ap, ◌∙◌, subst}
 use Rattle.std.specs.Prelude.{All, Result, Ok, Err}
 use Rattle.std.specs.Vec.{with_items}
 use Rattle.std.proofs.lemmas.List.{append-nil, map-append}
 use Rattle.std.proofs.lemmas.List.Elements.{All-cons, All-nil}
-use Rattle.proof_base.proofs.Members.{has_head, has_none, has_tail, only}
+use Rattle.weave_data.proofs.Members.{has_head, has_none, has_tail, only}
 use Rattle.graph_ops.specs.declared.op.Op.{Op}
 use Rattle.graph_ops.specs.declared.tx.Got.{Got}
 use Rattle.vector_stamp.specs.declared.clock.Stamp.{Stamp}
@@ -157,11 +158,8 @@ module _ {F : Type 0} (shared : Shared) (old now : Hand) (held : Held NotedStore
       (met : (notes : List (Note GateDeed)) × (last : List (Note GateDeed)) × (length notes ≡ length locks)
       × AllMet locks passes later notes last (length locks))
       (kept : StoreIsKept m.shards (gates_noted m.gates) (oracle_entries (noted m.oracle)) m.store) where
-    many : length later ≡ length now.gates.items
-    many = count ∙ ap (λ (l : List (Pass GateDeed)). length l) passes_is
-
     back : (with_items now.gates later).items ≡ later
-    back = written now.gates.len later now.gates.items (many ∙ sym now.gates.ok.0)
+    back = written now.gates.len later now.gates.items (count ∙ ap (λ (l : List (Pass GateDeed)). length l) passes_is ∙ sym now.gates.ok.0)
 
     all_met : AllMet shared.gates.items now.gates.items (with_items now.gates later).items met.0 met.1 (length shared.gates.items)
     all_met = subst (λ (z : List (Chronicle NotedGate GateDeed) × List (Pass GateDeed) × List (Pass GateDeed)). AllMet z.0 z.1 z.2 met.0 met.1 (length z.0))
@@ -188,7 +186,7 @@ module _ {F : Type 0} (shared : Shared) (old now : Hand) (held : Held NotedStore
       hand = hand;
       gates_on = go_on_twice shared.gates.items old.gates.items now.gates.items (with_items now.gates later).items i.gates
           (all_met_on shared.gates.items now.gates.items (with_items now.gates later).items met.0 met.1 all_met
-          (met.2 ∙ ap (λ (l : List (Chronicle NotedGate GateDeed)). length l) locks_is) (ap (λ (l : List (Pass GateDeed)). length l) back ∙ many));
+          (met.2 ∙ ap (λ (l : List (Chronicle NotedGate GateDeed)). length l) locks_is) (ap (λ (l : List (Pass GateDeed)). length l) back ∙ count ∙ ap (λ (l : List (Pass GateDeed)). length l) passes_is));
       oracle_adds = record {
         ready = ready;
         number = number ∙ (ap number_of i.oracle ∙ hand.oracle_number);

@@ -1,4 +1,5 @@
 -- A hand that leaves the lock of the store.
+-- Used by `leave_store`.
 use Rattle.std.proofs.Common.{◌≡◌, ℕ, ◌≤◌, List, [], ◌∷◌, ◌++◌, length, map, get_or, refl, sym, ap, ◌∙◌, subst, arith}
 use Rattle.std.proofs.lemmas.List.{length-append}
 use Rattle.weave_entries.specs.declared.gate_log.GateEntry.{GateEntry}
@@ -49,9 +50,6 @@ module _ (laws : HoldLaws) (shared : Shared) (old new : Hand) (before added : Li
   abbrev many : ℕ
   many = length shared.shards.items
 
-  named_now : next.gates ≡ gates_seen new.gates.items
-  named_now = named shared old new d.hand d.gates_on
-
   -- The store's log
 
   left : next.store ≡ before ++ added
@@ -84,8 +82,8 @@ module _ (laws : HoldLaws) (shared : Shared) (old new : Hand) (before added : Li
 
   legal : AreLegal (length shared.gates.items) many next
   legal = record {
-    gate_logs = λ home. subst (λ (l : List (List GateEntry)). IsGateLog home many (get_or l home [])) (sym named_now) (d.oracle_kept.legal.gate_logs home);
-    hears = λ home. subst (λ (l : List (List GateEntry)). HearsNoMore home (get_or l home [])) (sym named_now) (d.oracle_kept.legal.hears home);
+    gate_logs = λ home. subst (λ (l : List (List GateEntry)). IsGateLog home many (get_or l home [])) (sym (named shared old new d.hand d.gates_on)) (d.oracle_kept.legal.gate_logs home);
+    hears = λ home. subst (λ (l : List (List GateEntry)). HearsNoMore home (get_or l home [])) (sym (named shared old new d.hand d.gates_on)) (d.oracle_kept.legal.hears home);
     store_log = subst (λ (l : List StoreEntry). IsStoreLog l) (sym left) d.store_legal;
     oracle_log = d.oracle_kept.legal.oracle_log;
     shard_logs = λ k. subst (IsShardLog (length shared.gates.items)) (sym (shards_same k)) (d.hand.legal.shard_logs k);
@@ -95,14 +93,14 @@ module _ (laws : HoldLaws) (shared : Shared) (old new : Hand) (before added : Li
   by_store = store_seen (gates_seen new.gates.items) (oracle_entries (seen new.oracle)) (before ++ added)
 
   refers : StoreRefersWithin next
-  refers cut e after at = laws.store_stays by_store next (same_gates by_store next (sym named_now)) (nothing_more next.oracle) cut e.author e.deed
+  refers cut e after at = laws.store_stays by_store next (same_gates by_store next (sym (named shared old new d.hand d.gates_on))) (nothing_more next.oracle) cut e.author e.deed
       (d.refers cut e after (sym left ∙ at))
 
   abbrev by_oracle : Account
   by_oracle = oracle_seen (gates_seen new.gates.items) (oracle_entries (seen new.oracle))
 
   oracle_refers : OracleRefersWithin next
-  oracle_refers cut e after at = laws.oracle_stays by_oracle next (same_gates by_oracle next (sym named_now)) e.deed (d.oracle_kept.refers cut e after at)
+  oracle_refers cut e after at = laws.oracle_stays by_oracle next (same_gates by_oracle next (sym (named shared old new d.hand d.gates_on))) e.deed (d.oracle_kept.refers cut e after at)
 
   adds : AddsAsSeen many n (start_of shared) was next
   adds = record {
@@ -114,9 +112,6 @@ module _ (laws : HoldLaws) (shared : Shared) (old new : Hand) (before added : Li
     asks_once = λ k other cut rest a b of_a of_b past same alike.
         absurd (none_new (shard_log next k) (shard_log was k) cut of_a.after (visit_entry a) (shards_same k) of_a.at past);
   }
-
-  seen_next : IsSeenByHand many n (start_of shared) next
-  seen_next = laws.hand.see_more (length shared.gates.items) many n (start_of shared) was next d.hand.seen within legal.shard_logs adds
 
   -- The hand
 
@@ -134,7 +129,7 @@ module _ (laws : HoldLaws) (shared : Shared) (old new : Hand) (before added : Li
     shard_numbers = λ k q low. subst (λ (l : List (Pass ShardDeed)). number_of (get_or l k q) ≡ hand_number new) (sym shards_is)
         (d.hand.shard_numbers k q (omega (arith, low, ap (λ (l : List (Pass ShardDeed)). length l) shards_is)) ∙ sym number_is);
     legal = legal;
-    seen = subst (λ (m : ℕ). IsSeenByHand many m (start_of shared) next) (sym number_is) seen_next;
+    seen = subst (λ (m : ℕ). IsSeenByHand many m (start_of shared) next) (sym number_is) (laws.hand.see_more (length shared.gates.items) many n (start_of shared) was next d.hand.seen within legal.shard_logs adds);
   }
 
   -- What the hand made

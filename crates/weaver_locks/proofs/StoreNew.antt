@@ -1,11 +1,12 @@
 -- A transaction that a hand began, and has not had judged, has a new stamp in the store's lock.
+-- Used by `commit` and AskedOnce.
 use Rattle.std.proofs.Common.{◌≡◌, ◌≢◌, ℕ, zero, suc, ◌≤◌, ◌==◌, List, [], ◌∷◌, ◌++◌, length, get_or, AllPairs, Contains, inl, inr, refl, sym, ap, ◌∙◌, subst, arith, eq-eqb}
 use Rattle.std.specs.Prelude.{All}
 use Rattle.std.specs.List.{flat_map}
 use Rattle.std.proofs.lemmas.List.{length-map}
 use Rattle.std.proofs.lemmas.List.Elements.{All-contains, Contains-append_left, Contains-get_or}
-use Rattle.proof_base.proofs.Members.{cut_at, flat_has, has_cut, has_filter, has_flat, has_head, has_map, has_none, has_tail, map_has}
-use Rattle.proof_base.proofs.Ordered.{pairs_cases}
+use Rattle.weave_data.proofs.Members.{cut_at, flat_has, has_cut, has_filter, has_flat, has_head, has_map, has_none, has_tail, map_has}
+use Rattle.weave_data.proofs.Ordered.{pairs_cases}
 use Rattle.vector_stamp.specs.declared.clock.Stamp.{Stamp}
 use Rattle.vector_stamp.specs.Order.{id_of}
 use Rattle.weave_entries.specs.GateReplay.{Begun, begun_in, program_by, tx_by, txs_of}
@@ -36,6 +37,7 @@ use Rattle.weaver_locks.specs.InStore.{IsInStore}
 use Rattle.weaver_locks.proofs.Beside.{gates_on, named}
 use Rattle.weaver_locks.proofs.Logged.{cut_pairs, inside, records_on}
 use Rattle.weaver_locks.proofs.Seeing.{stores_back}
+use Rattle.store_lock.proofs.Begun.{OtherIds}
 
 -- what is in the image of a beginning is in that of the whole
 pub still_there : {A B : Type 0} (f : A → List B) (a b : List A) → IsBeginningOf a b → (x : B) → Contains (flat_map f a) x
@@ -62,9 +64,6 @@ in_all (log ∷ logs) (suc home) begun h =
 
 judged_author : (author : ℕ) (deed : StoreDeed) → (judged_by author deed).author ≡ author
 judged_author author (Judged request stamp ops asked verdict) = refl
-
-abbrev OtherIds : Begun → Begun → Type 0
-OtherIds a b = id_of a.stamp ≢ id_of b.stamp
 
 abbrev IdsDiffer : Type 0
 IdsDiffer = (shards : ℕ) (seen : Account) → length seen.gates ≤ 8 → ((home : ℕ) → IsGateLog home shards (gate_log seen home))

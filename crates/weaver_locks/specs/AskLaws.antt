@@ -1,4 +1,4 @@
--- The laws of the crates below that a visit in a hold stands on, in one. No public contract cites this.
+-- The laws of the crates below that a visit in a hold relies on, in one record. No public contract cites this.
 use Rattle.std.specs.Prelude.{◌≡◌, ◌↔◌, ℕ, List, [], ◌∷◌, ◌++◌, IsTrue}
 use Rattle.weave_data.specs.declared.name.Name.{Name}
 use Rattle.vector_stamp.specs.declared.clock.Stamp.{Stamp}

@@ -1,4 +1,4 @@
--- The laws of the crates below that closed logs stand on, in one. No public contract cites this.
+-- The laws of the crates below that closed logs rely on, in one record. No public contract cites this.
 use Rattle.std.specs.Prelude.{◌≡◌, ℕ, ◌<◌, ◌≤◌, List, [], ◌∷◌, ◌++◌, map, length, slice_index_or}
 use Rattle.weave_entries.specs.declared.gate_log.GateDeed.{GateDeed}
 use Rattle.weave_entries.specs.declared.gate_log.GateEntry.{GateEntry}
@@ -30,7 +30,7 @@ MoreIsSeen = (gates next_gates : List (List (ℕ × GateDeed))) (store next_stor
     → IsWithin (account_of_logs gates store oracle shards)
     (account_of_logs next_gates next_store next_oracle next_shards)
 
--- the laws that the closed logs stand on
+-- the laws that the closed logs rely on
 pub record ClosingLaws : Type 0 where
   pub gate_entries : OwnEntries GateDeed
   pub store_entries : OwnEntries StoreDeed

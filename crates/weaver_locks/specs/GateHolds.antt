@@ -40,7 +40,7 @@ pub record WasAtGate (shards : ℕ) (old new : Hand) (gate : ℕ) (before added 
   pub refers : GateRefersWithin shards (seen_by new) gate
   pub clock : IsKnown (seen_by new) (clock_of gate (gate_log (seen_by new) gate))
 
--- A transaction of the hand is in flight at the gatekeeper, and these operations were judged so for it.
+-- A transaction of the hand is in flight at the gatekeeper, and this verdict on these operations is its own.
 pub record MaySend (seen : Account) (number gate : ℕ) (ops : List Op) (verdict : Verdict) : Type 0 where
   pub flight : Begun
   pub flies : flight_of (gate_log seen gate) ≡ Some flight

@@ -22,7 +22,7 @@ module _ {E : Type 0} where
     pub more : IsPrefix (seen p) (seen q)
 
 module _ {M E : Type 0} where
-  -- so each pass of a row does
+  -- each pass of a row goes on like this
   pub record AllGoOn (locks : List (Chronicle M E)) (before after : List (Pass E)) : Type 0 where
     pub count : length after ≡ length before
     pub each : (k : ℕ) (c : Chronicle M E) (p : Pass E) → k < length locks

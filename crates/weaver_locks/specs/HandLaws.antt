@@ -17,11 +17,15 @@ use Rattle.seen_logs.specs.Entries.{account_of_logs, gate_entries, gate_pairs, o
 use Rattle.seen_logs.specs.Seen.{AddsAsSeen, AreLegal, IsSeenByHand, IsWithin}
 use Rattle.chronicle.specs.Logs.{Log, entries_of}
 
--- what a pass has seen has all of its own entries, if it has as many of them as the log
+-- if what is seen has all of the author's entries in the log, each of them has a place there
 abbrev pub KeepsPlaces : Type 0 → Type 0
 KeepsPlaces E = (author : ℕ) (seen log before after : Log E) (entry : ℕ × E) → IsPrefix seen log
     → entries_of author log ≡ entries_of author seen → log ≡ before ++ entry ∷ after → entry.0 ≡ author
     → length before < length seen
+
+-- each of these logs is the beginning of the one at its place
+abbrev pub AreBeginnings : {E : Type 0} → List (Log E) → List (Log E) → Type 0
+AreBeginnings logs next = (k : ℕ) → IsBeginningOf (slice_index_or logs k []) (slice_index_or next k [])
 
 -- hands see more, own entries were seen, and entries are pairs
 pub record HandLaws : Type 0 where
@@ -50,8 +54,7 @@ pub record HandLaws : Type 0 where
       → shard_log (account_of_logs gates store oracle shards) shard ≡ shard_entries (slice_index_or shards shard [])
   pub within : (gates next_gates : List (Log GateDeed)) (store next_store : Log StoreDeed)
       (oracle next_oracle : Log OracleDeed) (shards next_shards : List (Log ShardDeed))
-      → ((home : ℕ) → IsBeginningOf (slice_index_or gates home []) (slice_index_or next_gates home []))
-      → IsBeginningOf store next_store → IsBeginningOf oracle next_oracle
-      → ((shard : ℕ) → IsBeginningOf (slice_index_or shards shard []) (slice_index_or next_shards shard []))
+      → AreBeginnings gates next_gates → IsBeginningOf store next_store → IsBeginningOf oracle next_oracle
+      → AreBeginnings shards next_shards
       → IsWithin (account_of_logs gates store oracle shards)
       (account_of_logs next_gates next_store next_oracle next_shards)

@@ -1,4 +1,4 @@
--- The laws of the crates below that a hold stands on, in one. No public contract cites this.
+-- The laws of the crates below that a hold relies on, in one record. No public contract cites this.
 use Rattle.std.specs.Prelude.{◌≡◌, ℕ, List, [], ◌∷◌}
 use Rattle.vector_stamp.specs.declared.clock.Stamp.{Stamp}
 use Rattle.weave_entries.specs.declared.oracle_log.OracleDeed.{OracleDeed}

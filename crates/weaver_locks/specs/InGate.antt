@@ -69,7 +69,7 @@ pub record HasMachine (shared : Shared) (now : Hand) (number gate : ℕ) (before
       (map noted noted_gate.notes.shards.items)
       ≡ seen_by_passes gate own now.gates.items now.store now.shards.items
 
--- The hand went in with `old` and is `now` so, the log was `before`, and `added` is what it has added.
+-- The hand went in as `old` and is now `now`; the log was `before`, and `added` is what the hand has added.
 pub record IsInGate (shared : Shared) (old now : Hand) (gate : ℕ) (before added : List GateEntry)
     (held : Held NotedGate GateDeed) : Type 0 where
   pub elsewhere : SeesElsewhere shared old now gate

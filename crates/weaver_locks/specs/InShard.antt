@@ -54,6 +54,22 @@ pub record IsInShard (shared : Shared) (old now : Hand) (shard : ℕ) (held : He
   pub same : seen_of (machine_of held).shard (machine_of held).notes
       ≡ seen_by_passes (machine_of held).shard.number (machine_of held).shard.log now.gates.items now.store now.oracle
 
+-- the visit that follows these entries of a shard's log asked for no pair of another visit for which the hand answers
+abbrev pub AsksForNewPair : Shared → Hand → ℕ → Account → List ShardEntry → Visit → Type 0
+AsksForNewPair shared old shard account cut a =
+    (other : ℕ) (rest : List ShardEntry) (b : Visit)
+    → HasAsked (hand_number old) (start_of shared) account other rest b → a.stamp ≡ b.stamp
+    → seen_last cut a ≡ seen_last rest b → (shard ≡ other) × (length cut ≡ length rest)
+
+-- so it is with each marked visit in what was added to this shard's log, where the other shards' logs are as the hand
+-- has seen them
+abbrev pub AddedAskForNewPairs : Shared → Hand → ℕ → List ShardEntry → List ShardEntry → Type 0
+AddedAskForNewPairs shared old shard before added =
+    (next : Account) → shard_log next shard ≡ before ++ added
+    → ((k : ℕ) → k ≢ shard → shard_log next k ≡ shard_log (seen_by old) k)
+    → (cut after : List ShardEntry) (a : Visit) → before ++ added ≡ cut ++ visit_entry a ∷ after
+    → length before ≤ length cut → IsTrue a.settled → AsksForNewPair shared old shard next cut a
+
 -- What the hand did in the lock of a shard: it added these entries of its own to the shard's log, and these to the
 -- oracle's within it. Its other passes are these now. They have seen all that both logs refer to.
 pub record DoesInShard (shared : Shared) (old : Hand) (shard : ℕ) (gates : List (Pass GateDeed))
@@ -79,15 +95,10 @@ pub record DoesInShard (shared : Shared) (old : Hand) (shard : ℕ) (gates : Lis
   pub shard_legal : IsShardLog (length shared.gates.items) (before ++ added)
   pub refers : ShardRefersWithin (length shared.shards.items)
       (seen_by_passes shard (before ++ added) gates store oracle) shard
-  -- a visit in what was added asked for no pair of another visit for which the hand answers
-  pub asks_new : (next : Account) → shard_log next shard ≡ before ++ added
-      → ((k : ℕ) → k ≢ shard → shard_log next k ≡ shard_log (seen_by old) k)
-      → (cut after : List ShardEntry) (a : Visit) → before ++ added ≡ cut ++ visit_entry a ∷ after
-      → length before ≤ length cut → IsTrue a.settled → (other : ℕ) (rest : List ShardEntry) (b : Visit)
-      → HasAsked (hand_number old) (start_of shared) next other rest b → a.stamp ≡ b.stamp
-      → seen_last cut a ≡ seen_last rest b → (shard ≡ other) × (length cut ≡ length rest)
+  -- what was added asked for no pair of another visit for which the hand answers
+  pub asks_new : AddedAskForNewPairs shared old shard before added
 
--- so its pass of that lock can leave
+-- the hand is done in the shard: its pass of that lock can leave
 pub record IsDoneInShard (shared : Shared) (old now : Hand) (shard : ℕ) (log before added : List ShardEntry)
     (asked : List OracleEntry) : Type 0 where
   pub log_is : log ≡ before ++ added

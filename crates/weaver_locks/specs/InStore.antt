@@ -66,7 +66,7 @@ pub record DoesInStore (shared : Shared) (old : Hand) (gates : List (Pass GateDe
   pub refers : StoreRefersWithin (store_seen (gates_seen gates) (oracle_entries (seen oracle)) (before ++ added))
   pub oracle_kept : OracleIsKept (length shared.shards.items) (gates_seen gates) (oracle_entries (seen oracle))
 
--- so its pass of that lock can leave
+-- the hand is done in the store: its pass of that lock can leave
 pub record IsDoneInStore (shared : Shared) (old now : Hand) (log before added : List StoreEntry)
     (settled asked : List OracleEntry) : Type 0 where
   pub log_is : log ≡ before ++ added

@@ -7,9 +7,9 @@ use Rattle.weave_entries.specs.declared.store_log.StoreEntry.{StoreEntry}
 use Rattle.seen_logs.specs.Entries.{gate_pair, oracle_pair, shard_pair, store_pair}
 use Rattle.chronicle.specs.declared.chronicle.Chronicle.{Chronicle}
 use Rattle.chronicle.specs.Frames.{Frame}
-use Rattle.chronicle.specs.Locks.{lock_of, name_of, BeginsAs, IsVacant}
+use Rattle.chronicle.specs.Locks.{lock_of, name_of, LockStartsWith, IsVacant}
 use Rattle.chronicle.specs.Passes.{IsUnopened}
-use Rattle.lock_row.specs.Hands.{AreDealt, AreFirst, HavePasses, IsNew}
+use Rattle.lock_row.specs.Hands.{AreDealt, AreFirst, HavePasses, IsNewPass}
 use Rattle.lock_row.specs.Openings.{AreVacant}
 use Rattle.lock_row.specs.Reservations.{AreUnopened}
 use Rattle.lock_row.specs.Rows.{names_of}
@@ -29,7 +29,7 @@ use Rattle.weaver_locks.specs.declared.rooms.Rooms.{Rooms}
 abbrev pub passes_of : Locks → ℕ
 passes_of locks = (lock_of locks.store).passes
 
--- locks that are still to be opened, with one number of passes
+-- locks that are still to be opened, all with the same number of passes
 pub record AreReserved (locks : Locks) (parts : Parts) : Type 0 where
   pub gate_count : vec_len parts.gates ≡ length locks.gates.items
   pub gates : AreUnopened locks.gates.items parts.gates.items
@@ -69,14 +69,14 @@ frame_for_shard locks shards shard = shard_frame shard.number shard.gates shards
 pub record AreOpened (locks : Locks) (gates : List GateView) (store : List StoreEntry) (oracle : List OracleEntry)
     (shards : List ShardView) : Type 0 where
   pub gate_locks : (k : ℕ) (c : Chronicle NotedGate GateDeed) (g : GateView) → k < length locks.gates.items
-      → BeginsAs (lock_of (slice_index_or locks.gates.items k c)) (passes_of locks)
+      → LockStartsWith (lock_of (slice_index_or locks.gates.items k c)) (passes_of locks)
       (frame_for_gate locks (slice_index_or gates k g)) (map gate_pair (slice_index_or gates k g).log)
-  pub store_lock : BeginsAs (lock_of locks.store) (passes_of locks) (frame_for_store locks (length shards))
+  pub store_lock : LockStartsWith (lock_of locks.store) (passes_of locks) (frame_for_store locks (length shards))
       (map store_pair store)
-  pub oracle_lock : BeginsAs (lock_of locks.oracle) (passes_of locks) (frame_for_oracle locks (length shards))
+  pub oracle_lock : LockStartsWith (lock_of locks.oracle) (passes_of locks) (frame_for_oracle locks (length shards))
       (map oracle_pair oracle)
   pub shard_locks : (k : ℕ) (c : Chronicle NotedShard ShardDeed) (s : ShardView) → k < length locks.shards.items
-      → BeginsAs (lock_of (slice_index_or locks.shards.items k c)) (passes_of locks)
+      → LockStartsWith (lock_of (slice_index_or locks.shards.items k c)) (passes_of locks)
       (frame_for_shard locks (length shards) (slice_index_or shards k s))
       (map shard_pair (slice_index_or shards k s).log)
 
@@ -102,7 +102,7 @@ pub record AreEmpty (locks : Locks) (places : Places) : Type 0 where
 pub record IsNewHand (locks : Locks) (number : ℕ) (hand : Hand) : Type 0 where
   pub gate_count : length hand.gates.items ≡ length locks.gates.items
   pub gates : AreDealt number locks.gates.items hand.gates.items
-  pub store : IsNew number (lock_of locks.store) hand.store
-  pub oracle : IsNew number (lock_of locks.oracle) hand.oracle
+  pub store : IsNewPass number (lock_of locks.store) hand.store
+  pub oracle : IsNewPass number (lock_of locks.oracle) hand.oracle
   pub shard_count : length hand.shards.items ≡ length locks.shards.items
   pub shards : AreDealt number locks.shards.items hand.shards.items

@@ -1,4 +1,4 @@
--- The laws of the crates below that new locks stand on, in one. No public contract cites this.
+-- The laws of the crates below that new locks rely on, in one record. No public contract cites this.
 use Rattle.std.specs.Prelude.{◌≡◌, ℕ, ◌<◌, List, map, length}
 use Rattle.weave_entries.specs.declared.gate_log.GateEntry.{GateEntry}
 use Rattle.weave_entries.specs.declared.oracle_log.OracleDeed.{OracleDeed}
@@ -26,13 +26,13 @@ pub record OpeningLaws : Type 0 where
       → AreLegal g.gates g.shards account → GateRefersWithin g.shards account g.home
       → ((k : ℕ) → gate_log (gate.seen_of g notes) k ≡ gate_log account k)
       → (gate.seen_of g notes).store ≡ account.store
-      → ((k : ℕ) → shard_log (gate.seen_of g notes) k ≡ shard_log account k) → gate.IsKept g notes
+      → ((k : ℕ) → shard_log (gate.seen_of g notes) k ≡ shard_log account k) → gate.GateIsKept g notes
   pub shard_kept : (s : ShardView) (shards : ℕ) (notes : ShardNotes) (account : Account) → s.number < shards
       → length notes.gates.items ≡ s.gates → AreLegal s.gates shards account
       → ShardRefersWithin shards account s.number
       → ((k : ℕ) → gate_log (shard.seen_of s notes) k ≡ gate_log account k)
       → (shard.seen_of s notes).store ≡ account.store → (shard.seen_of s notes).oracle ≡ account.oracle
-      → s.log ≡ shard_log account s.number → shard.IsKept s shards notes
+      → s.log ≡ shard_log account s.number → shard.ShardIsKept s shards notes
   pub store_stays : (seen next : Account) → GatesGoOn seen next → IsBeginningOf seen.oracle next.oracle
       → (before : List StoreEntry) (author : ℕ) (deed : StoreDeed)
       → StoreRefersAs seen before author deed → StoreRefersAs next before author deed

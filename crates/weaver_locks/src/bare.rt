@@ -10,7 +10,7 @@ use shard_node::Shard;
 use std::alloc::{AllocError, Global};
 use store_lock::NotedStore;
 
-// The gatekeepers beside the locks of which they will keep notes.
+// The gatekeepers with the locks of which they will keep notes.
 pub(crate) fn bare_gates(
     alloc: Global,
     gates: Vec<Gate>,
@@ -27,7 +27,7 @@ pub(crate) fn bare_gates(
     Ok(bare)
 }
 
-// The shards, of which there are that many, beside the locks of which they will keep notes.
+// The shards, of which there are that many, with the locks of which they will keep notes.
 pub(crate) fn bare_shards(
     alloc: Global,
     shards: Vec<Shard>,

@@ -5,7 +5,7 @@ use chronicle::laws::own_entries_were_seen;
 use seen_logs::laws::{accounts_have_logs_of_locks, entries_come_back};
 use weave_entries::{GateDeed, OracleDeed, ShardDeed, StoreDeed};
 
-// The laws of the crates below that closed logs stand on.
+// The laws of the crates below that closed logs rely on.
 pub(crate) fn closed_logs_keep_their_laws()
     ensures { ClosingLaws }
 {

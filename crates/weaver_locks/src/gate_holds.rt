@@ -3,7 +3,7 @@ ghost use Rattle.std.specs.Prelude.{◌≡◌, ◌<◌, List, []};
 ghost use Rattle.weave_entries.specs.declared.gate_log.GateEntry.{GateEntry};
 ghost use Rattle.seen_logs.specs.Seen.{IsWithin};
 ghost use Rattle.chronicle.specs.Holds.{machine_of};
-ghost use Rattle.gate_lock.specs.Notes.{IsKept, seen_of};
+ghost use Rattle.gate_lock.specs.Notes.{GateIsKept, seen_of};
 ghost use Rattle.weaver_locks.specs.declared.hand.Hand.{Hand};
 ghost use Rattle.weaver_locks.specs.GateHolds.{WasAtGate};
 ghost use Rattle.weaver_locks.specs.Hands.{seen_by, IsHand};
@@ -29,7 +29,7 @@ impl Shared {
         requires hand { IsHand self.now hand.old }
         requires gate { gate < gate_count self.now }
         ensures inside { IsInGate self.now hand.old hand.new gate (machine_of result).gate.log [] result }
-        ensures kept { IsKept (machine_of result).gate (machine_of result).notes }
+        ensures kept { GateIsKept (machine_of result).gate (machine_of result).notes }
         ensures within { IsWithin (without_oracle (seen_by hand.old))
             (seen_of (machine_of result).gate (machine_of result).notes) }
     {

@@ -142,8 +142,8 @@ pub fn seen_entries_are_their_authors()
         → Contains (shard_log (made_by one) shard) entry }
 {}
 
-/// What the hand with a number has seen is what one of the hands with this number has. So hands that visit their own
-/// programs do so by their numbers, which is what the closed logs need.
+/// What the hand with a number has seen is what one of the hands with this number has. So if hands visit their own
+/// programs, this holds by their numbers too, which is what the closed logs need.
 pub fn hands_are_found_by_number()
     ensures found { (hands : List Hand) (number : ℕ) → Contains (map hand_number hands) number → (hand : Hand)
         × Contains hands hand × (hand_number hand ≡ number) × (seen_by_number hands number ≡ seen_by hand) }
@@ -166,7 +166,7 @@ pub fn own_programs_stay_begun()
         (record { author = hand_number hand; request = request; stamp = stamp }) }
 {}
 
-/// A hand's visits since the start are of programs that it began itself: so it is before its first call. It stays so in
+/// A hand's visits since the start are of programs that it began itself. This holds before its first call. It stays in
 /// a call that adds no entry at a shard, or there only visits of such programs and entries that are no visits.
 pub fn visits_stay_of_own_programs()
     ensures start { (shared : Shared) (hand : Hand) → seen_by hand ≡ start_of shared

@@ -45,7 +45,7 @@ fn note_gate(
     hand: &mut Hand,
 ) -> Result<NotedGate, AllocError>
     requires hand { IsNewHand locks.now 0 hand.old }
-    requires kept { (notes : GateNotes) → GateNotesStart locks.now notes → gate.IsKept bare.gate notes }
+    requires kept { (notes : GateNotes) → GateNotesStart locks.now notes → gate.GateIsKept bare.gate notes }
     ensures hand { OnOk result (IsNewHand locks.now 0 hand.new) }
     ensures gate { IfOk result (λ n. n.gate ≡ bare.gate) }
     ensures notes { IfOk result (λ n. GateNotesStart locks.now n.notes) }
@@ -65,7 +65,7 @@ pub(crate) fn note_gates(
     hand: &mut Hand,
 ) -> Result<Vec<NotedGate>, AllocError>
     requires hand { IsNewHand locks.now 0 hand.old }
-    requires kept { All (λ b. (notes : GateNotes) → GateNotesStart locks.now notes → gate.IsKept b.gate notes)
+    requires kept { All (λ b. (notes : GateNotes) → GateNotesStart locks.now notes → gate.GateIsKept b.gate notes)
         bare.items }
     ensures hand { OnOk result (IsNewHand locks.now 0 hand.new) }
     ensures gates { IfOk result (λ r. map (λ n. n.gate) r.items ≡ map (λ b. b.gate) bare.items) }
@@ -88,7 +88,7 @@ fn note_shard(
     hand: &mut Hand,
 ) -> Result<NotedShard, AllocError>
     requires hand { IsNewHand locks.now 0 hand.old }
-    requires kept { (notes : ShardNotes) → ShardNotesStart locks.now notes → shard.IsKept bare.shard count notes }
+    requires kept { (notes : ShardNotes) → ShardNotesStart locks.now notes → shard.ShardIsKept bare.shard count notes }
     ensures hand { OnOk result (IsNewHand locks.now 0 hand.new) }
     ensures shard { IfOk result (λ n. n.shard ≡ bare.shard) }
     ensures count { IfOk result (λ n. n.shards ≡ count) }
@@ -110,7 +110,7 @@ pub(crate) fn note_shards(
     hand: &mut Hand,
 ) -> Result<Vec<NotedShard>, AllocError>
     requires hand { IsNewHand locks.now 0 hand.old }
-    requires kept { All (λ b. (notes : ShardNotes) → ShardNotesStart locks.now notes → shard.IsKept b.shard count notes)
+    requires kept { All (λ b. (notes : ShardNotes) → ShardNotesStart locks.now notes → shard.ShardIsKept b.shard count notes)
         bare.items }
     ensures hand { OnOk result (IsNewHand locks.now 0 hand.new) }
     ensures shards { IfOk result (λ r. map (λ n. n.shard) r.items ≡ map (λ b. b.shard) bare.items) }

@@ -80,12 +80,12 @@ pub(crate) fn note_all(
     hand: &mut Hand,
 ) -> Result<Machines, AllocError>
     requires hand { IsNewHand locks.now 0 hand.old }
-    requires gates { All (λ b. (notes : GateNotes) → GateNotesStart locks.now notes → gate.IsKept b.gate notes)
+    requires gates { All (λ b. (notes : GateNotes) → GateNotesStart locks.now notes → gate.GateIsKept b.gate notes)
         gates.items }
     requires store { StoreIsKept count (gates_start locks.now) (oracle_entries (lock_of locks.now.oracle).start) store }
     requires oracle { OracleIsKept count (gates_start locks.now) oracle }
     requires shards { All (λ b. (notes : ShardNotes) → ShardNotesStart locks.now notes
-        → shard.IsKept b.shard count notes) shards.items }
+        → shard.ShardIsKept b.shard count notes) shards.items }
     ensures hand { OnOk result (IsNewHand locks.now 0 hand.new) }
     ensures gates { IfOk result (λ m. map (λ n. n.gate) m.gates.items ≡ map (λ b. b.gate) gates.items) }
     ensures gate_notes { IfOk result (λ m. All (λ n. GateNotesStart locks.now n.notes) m.gates.items) }

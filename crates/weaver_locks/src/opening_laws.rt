@@ -3,7 +3,7 @@ ghost use Rattle.weaver_locks.specs.OpeningLaws.{OpeningLaws};
 
 use seen_logs::laws::{beginnings_are_legal, entries_come_back, references_go_on};
 
-// The laws of the crates below that new locks stand on.
+// The laws of the crates below that new locks rely on.
 pub(crate) fn new_locks_keep_their_laws()
     ensures { OpeningLaws }
 {

@@ -2,7 +2,7 @@
 ghost use Rattle.std.specs.Prelude.{◌≡◌, ◌<◌, ◌≤◌, ◌+◌, List, [], is_some, IfErr, IfOk, OnOk, if◌then◌else◌};
 ghost use Rattle.weave_entries.specs.declared.shard_log.ShardEntry.{ShardEntry};
 ghost use Rattle.weave_entries.specs.ShardReplay.{arrived_at, processed_count};
-ghost use Rattle.shard_node.specs.Shards.{IsNext, IsRightlyUnapplied};
+ghost use Rattle.shard_node.specs.Shards.{CanApplyHead, IsRightlyUnapplied};
 ghost use Rattle.seen_logs.specs.References.{ArrivesAsSeen};
 ghost use Rattle.weaver_locks.specs.Hands.{seen_by, IsHand};
 ghost use Rattle.weaver_locks.specs.Locks.{gate_count, shard_count};
@@ -72,7 +72,7 @@ impl Shared {
         ensures hold { (before : List ShardEntry)
             × WasAtShard (shard_count self.now) hand.old hand.new shard before
             (shard_entries_of hand.old (ShardDeed.Applied gate (processed_count gate before + 1)) result) []
-            × OnOk result (IsNext gate before)
+            × OnOk result (CanApplyHead gate before)
             × IfErr result (λ fault. IsRightlyUnapplied gate before fault) }
     {
         let author = hand.number();

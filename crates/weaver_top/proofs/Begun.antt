@@ -1,13 +1,14 @@
 -- Where requests begin and end: what has its reply has ended, so it is not in flight.
+-- Used by OnThreads and Unanswered.
 use Rattle.std.proofs.Common.{◌≡◌, ℕ, ◌==◌, Bool, List, ◌∷◌, Contains, IsTrue, Some, sym, ap, subst, ◌∙◌}
 use Rattle.std.specs.Prelude.{◌&&◌}
 use Rattle.std.specs.List.{flat_map}
 use Rattle.std.proofs.lemmas.Bool.{and_parts, eqb-true}
 use Rattle.std.proofs.lemmas.List.Concat.{flat_map-append}
 use Rattle.std.proofs.lemmas.List.Elements.{Contains-append_left}
-use Rattle.proof_base.proofs.Images.{flat-has}
-use Rattle.proof_base.proofs.Members.{any_has, cut_at, has_none, only}
-use Rattle.proof_base.proofs.Numbers.{has-in}
+use Rattle.weave_data.proofs.Images.{flat-has}
+use Rattle.weave_data.proofs.Members.{cut_at, has_none, only}
+use Rattle.weave_data.proofs.Numbers.{has-in}
 use Rattle.program_defs.specs.declared.script.Request.{Request}
 use Rattle.program_defs.specs.declared.script.Script.{Script}
 use Rattle.program_defs.specs.declared.script.Work.{Work}
@@ -17,22 +18,19 @@ use Rattle.report_rules.specs.Lookups.{is_some_and, request_at}
 use Rattle.weave_entries.specs.declared.gate_log.GateDeed.{GateDeed}
 use Rattle.weave_entries.specs.declared.gate_log.GateDeed.TheVariants.{BeganTx, BeganProgram, Sent, Nop, Heard, Raised, Finished}
 use Rattle.weave_entries.specs.declared.gate_log.GateEntry.{GateEntry}
-use Rattle.weave_entries.specs.declared.session_log.SessionDeed.{SessionDeed}
-use Rattle.weave_entries.specs.declared.session_log.SessionDeed.TheVariants as session
-use Rattle.weave_entries.specs.declared.session_log.SessionEntry.{SessionEntry}
 use Rattle.weave_entries.specs.GateReplay.{Begun, begun_by, begun_in, ended_by, ended_in, flight_of}
-use Rattle.weave_entries.specs.SessionReplay.{has_reply_in, replied_in, reply_by}
+use Rattle.weave_entries.specs.SessionReplay.{has_reply_in}
 use Rattle.weave_account.specs.declared.account.Account.{Account}
-use Rattle.weave_account.specs.Account.{all_begun, gate_log, is_ended, session_log}
+use Rattle.weave_account.specs.Account.{all_begun, gate_log, session_log}
 use Rattle.weave_account.specs.Gatekeepers.{BeginsAs}
 use Rattle.weave_account.specs.IsAccount.{IsAccount}
-use Rattle.weave_account.specs.Sessions.{RepliesAs}
 use Rattle.weave_account.proofs.Beginning.{all-in, tx-begun}
 use Rattle.weave_account.proofs.PhaseOrder.{ended-deed}
 use Rattle.weave_account.proofs.Replying.{place-of}
-use Rattle.weaver_top.specs.LowerLaws.{LowerLaws}
+use Rattle.weaver_top.specs.LowerLaws.{LawsForCommands}
+use Rattle.weaver_core.proofs.Replied.{replied-ended}
 
-module _ (laws : LowerLaws) (script : Script) (account : Account) (limits : IsWithinLimits script) (is : IsAccount script account) where
+module _ (laws : LawsForCommands) (script : Script) (account : Account) (limits : IsWithinLimits script) (is : IsAccount script account) where
   -- Gatekeepers
 
   own-gate : (home r : ℕ) (kind : Work → Bool) (request : Request) → request_at script r ≡ Some request
@@ -74,26 +72,13 @@ module _ (laws : LowerLaws) (script : Script) (account : Account) (limits : IsWi
 
   -- Replies
 
-  reply-ended : (deed : SessionDeed) (r : ℕ) → Contains (reply_by deed) r → RepliesAs account deed → IsTrue (is_ended account r)
-  reply-ended (session.Begun q stamp) r h right = absurd (has_none r h)
-  reply-ended (session.Replied q) r h right = subst (λ k. IsTrue (is_ended account k)) (only q r h) right
-
-  -- what has its reply has ended
-  replied-ended : (r number : ℕ) → IsTrue (has_reply_in r (session_log account number)) → IsTrue (is_ended account r)
-  replied-ended r number h =
-      let found = any_has (λ replied. replied == r) (replied_in (session_log account number)) h in
-      let from = flat-has (λ (e : SessionEntry). reply_by e.deed) (session_log account number) found.0 found.1 in
-      let place = cut_at (session_log account number) from.0 from.1.0 in
-      subst (λ k. IsTrue (is_ended account k)) (eqb-true found.0 r found.2)
-      (reply-ended (from.0).deed found.0 from.1.1 (is.sessions.replies number place.before from.0 place.after place.is))
-
   -- a transaction in flight has no reply
   pub flight-unanswered : (home number : ℕ) (flight : Begun) (request : Request) → flight_of (gate_log account home) ≡ Some flight → request_at script flight.request ≡ Some request
       → IsTrue (has_reply_in flight.request (session_log account number)) → ⊥
   flight-unanswered home number flight request flies there replied =
       let r = flight.request in
       let so = (laws.in_flight home script.shards (gate_log account home) (is.gatekeepers.logs home) (laws.once script account limits is home) flight).0 flies in
-      let log = flat-has ended_in account.gates r (has-in (flat_map ended_in account.gates) r (replied-ended r number replied)) in
+      let log = flat-has ended_in account.gates r (has-in (flat_map ended_in account.gates) r (replied-ended script account is r number replied)) in
       let other = place-of account.gates log.0 log.1.0 in
       let here : Contains (ended_in (gate_log account other.0)) r = subst (λ l. Contains (ended_in l) r) (sym other.1) log.1.1 in
       let b = ended-begun other.0 r here in

@@ -1,4 +1,5 @@
 -- What was read, and what was delivered of an answer to it.
+-- Used by `execute`, `prepare_from_input`, `prepare_run` and `weave`.
 use Rattle.std.proofs.Common.{◌≡◌, ℕ, ◌<◌, ◌≤◌, List, [], length, true, false, IsTrue, Option, Some, None, IfSome, Result, IfOk, ◌⊎◌, inl, inr, refl, sym, ap, ◌∙◌, subst, arith}
 use Rattle.weave_io.specs.Told.{Told, TakesAtMost, Tells, Writes, WritesPrefix}
 use Rattle.weaver_top.specs.declared.answer.Answer.{Answer}
@@ -11,7 +12,7 @@ use Rattle.weaver_top.specs.Commands.{reads_input}
 use Rattle.weaver_top.specs.Loads.{TellsLoad, WritesLoadPrefix}
 use Rattle.weaver_top.specs.Refusals.{TellsRefusal}
 
--- an answer to what was read is one to what the source told
+-- an answer to what was read is one to what the source had
 pub fits_told : (command : Command) (left : Told) (read bytes : List ℕ) (answer : Answer) → Tells left read → bytes ≡ read → IsAnswerTo command bytes answer → IfSome left (λ input. IsAnswerTo command input answer)
 fits_told command None read bytes answer tells same fits = tt
 fits_told command (Some told) read bytes answer tells same fits = let P : List ℕ → Type 0 = λ input. IsAnswerTo command input answer in subst P (same ∙ sym tells) fits
@@ -60,7 +61,7 @@ no_write (Load seed size) ends = cc
 not_write : (command : Command) (status : Status) → IsTrue (can_end command status) → status ≡ Write → ⊥
 not_write command status ends failed = let P : Status → Type 0 = λ status. IsTrue (can_end command status) in no_write command (subst P failed ends)
 
--- where a command ended with another status than that, its text was written whole
+-- if a command ended with another status than that, its text was written whole
 text_written : (command : Command) (left before after : Told) (answer : Answer) (status : Status) (Failed : Type 0) → IfSome left (λ input. IsAnswerTo command input answer) → Delivers answer status before after Failed → (status ≡ Write → ⊥) → Writes (TellsAt command status) left before after
 text_written command None before after answer status Failed fits ends whole = tt
 text_written command (Some input) before after answer status Failed fits (inl (is, appended)) whole =
@@ -112,7 +113,7 @@ reads_to_refuse asked other command left before after answer status Failed other
     answered (inl (same, appended)) = sym same ∙ is
     answered (inr (same, failure, prefix)) = absurd (cc)
 
--- where the writing failed, some of such a text was written
+-- if the writing failed, some of such a text was written
 pub some_written : (command : Command) (left before after : Told) (answer : Answer) (status : Status) (Failed : Type 0) → IfSome left (λ input. IsAnswerTo command input answer) → IsTrue (can_end command answer.status) → Delivers answer status before after Failed → status ≡ Write → WritesPrefix (TellsAnswer command) left before after
 some_written command left before after answer status Failed fits ends (inl (is, appended)) failed = absurd (not_write command answer.status ends (sym is ∙ failed))
 some_written command None before after answer status Failed fits ends (inr (is, failure, prefix)) failed = tt
@@ -162,7 +163,7 @@ prefix_read Trace left before after written = written
 prefix_read (Load seed size) None before after written = tt
 prefix_read (Load seed size) (Some input) before after (text, tells, prefix) = (text, (Done, (load_only seed size tells.0 [] text tells.1).1), prefix)
 
--- two commands that the words ask for are one
+-- two commands that the words ask for are the same
 pub same_command : (asked : Option Command) (other command : Command) → Some other ≡ asked → asked ≡ Some command → other ≡ command
 same_command asked other command other_is asks = cc
 

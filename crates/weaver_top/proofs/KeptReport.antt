@@ -1,4 +1,5 @@
 -- What the report of logs says is kept in the report of logs that go on from them: stamps and final states.
+-- Used by Loaded.
 use Rattle.std.proofs.Common.{◌≡◌, ℕ, zero, suc, ◌+◌, ◌<◌, false, List, [], ◌∷◌, map, length, IsTrue, Option, Some, None, ◌⊎◌, inl, inr, refl, sym, ap, subst, ◌∙◌, arith}
 use Rattle.std.specs.Prelude.{slice_get, IsSomeAnd}
 use Rattle.std.specs.List.{AllByRecursion, range_with_len}
@@ -19,14 +20,16 @@ use Rattle.program_defs.specs.Visits.{graph_read}
 use Rattle.program_defs.specs.Works.{is_look}
 use Rattle.report_rules.specs.declared.report.Reply.{Reply}
 use Rattle.report_rules.specs.declared.report.ReplyState.{ReplyState}
-use Rattle.report_rules.specs.declared.report.ReplyState.TheVariants.{Unbegun, Begun as Running, Committed, Conflict, Refused, Finished}
+use Rattle.report_rules.specs.declared.report.ReplyState.TheVariants.{Unbegun, Begun as Running, Finished}
 use Rattle.report_rules.specs.declared.report.Report.{Report}
 use Rattle.report_rules.specs.Lookups.{is_final, reply_at, request_at, stamp_at}
 use Rattle.weave_entries.specs.StoreReplay.{Judgement, judgement_of}
 use Rattle.weave_account.specs.declared.account.Account.{Account}
-use Rattle.weave_account.specs.Account.{is_ended, reads_of, stamp_of}
+use Rattle.weave_account.specs.Account.{reads_of, stamp_of}
 use Rattle.weave_account.specs.Report.{IsReplyInAccount, IsStateOf, IsStateOfProgram, MatchesAccount, state_of_tx}
 use Rattle.weave_drive.specs.Staying.{ReportStays}
+use Rattle.weave_account.proofs.OneReport.{IsDone, IsOpen, done-or-open}
+use mathlib.Core.List.{tail-eq_of_cons-eq}
 
 -- Lists
 
@@ -34,9 +37,6 @@ all-at : {A : Type 0} (P : A → Type 0) (xs : List A) (i : ℕ) (x : A) → All
 all-at P [] i x all e = absurd (cc)
 all-at P (y ∷ xs) zero x all e = let same : y ≡ x = cc in subst P same all.0
 all-at P (y ∷ xs) (suc i) x all e = all-at P xs i x all.1 e
-
-same-rest : {A : Type 0} (x y : A) (xs ys : List A) → x ∷ xs ≡ y ∷ ys → xs ≡ ys
-same-rest x y xs ys e = cc
 
 -- each reply is that of the request of its place
 request-there : (replies : List Reply) (start n r : ℕ) (reply : Reply) → map (λ (reply : Reply). reply.request) replies ≡ range_with_len start n
@@ -48,30 +48,10 @@ request-there (first ∷ replies) start (suc n) zero reply are e =
     let head : first.request ≡ start = cc in
     sym (ap (λ (x : Reply). x.request) same) ∙ head ∙ omega arith
 request-there (first ∷ replies) start (suc n) (suc r) reply are e =
-    let rest = same-rest first.request start (map (λ (reply : Reply). reply.request) replies) (range_with_len (start + 1) n) are in
+    let rest = tail-eq_of_cons-eq are in
     request-there replies (start + 1) n r reply rest e ∙ omega arith
 
 -- Programs
-
--- what a program's state says: it is finished with its answer, or running
-record IsDone (account : Account) (r : ℕ) (program : Program) (state : ReplyState) : Type 0 where
-  ended : IsTrue (is_ended account r)
-  answer : Answer
-  is : state ≡ Finished answer
-  plain : IsPlainAnswer (graph_read (reads_of account r)) program answer
-
-record IsOpen (account : Account) (r : ℕ) (state : ReplyState) : Type 0 where
-  ended : is_ended account r ≡ false
-  is : state ≡ Running
-
-done-or-open : (account : Account) (r : ℕ) (program : Program) (state : ReplyState) → IsStateOfProgram account r program state
-    → IsDone account r program state ⊎ IsOpen account r state
-done-or-open account r program (Finished answer) is = inl (record { ended = is.0; answer = answer; is = refl; plain = is.1 })
-done-or-open account r program Unbegun is = inr (record { ended = is.0; is = is.1 })
-done-or-open account r program Running is = inr (record { ended = is.0; is = is.1 })
-done-or-open account r program (Committed number answers) is = inr (record { ended = is.0; is = is.1 })
-done-or-open account r program (Conflict v newer) is = inr (record { ended = is.0; is = is.1 })
-done-or-open account r program (Refused op reason at) is = inr (record { ended = is.0; is = is.1 })
 
 -- a program has one plain answer at most
 abbrev pub AnswersAreOne : Type 0

@@ -1,4 +1,5 @@
 -- What is promised of what `load` writes.
+-- Used by `loaded` and `summary_of`.
 use Rattle.std.proofs.Common.{◌≡◌, ℕ, ◌*◌, List, length, sym, ap, ◌∙◌, subst}
 use Rattle.std.proofs.lemmas.Option.{slice_get_within}
 use Rattle.program_defs.specs.Limits.{IsWithinLimits}

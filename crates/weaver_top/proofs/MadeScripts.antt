@@ -1,4 +1,5 @@
 -- How many requests and steps a generated script has.
+-- Used by `loaded` and Loaded.
 use Rattle.std.proofs.Common.{◌≡◌, ℕ, zero, suc, ◌*◌, List, [], ◌∷◌, length, refl, arith}
 use Rattle.std.proofs.lemmas.List.{length-append}
 use Rattle.weave_script.specs.Scripts.{steps_of}

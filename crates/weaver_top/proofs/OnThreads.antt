@@ -1,9 +1,10 @@
 -- What a phase on threads leaves is a part of a run, and one can start after the phases before it.
+-- Used by `end_next`, `run_and_end` and `run_on_threads`.
 use Rattle.std.proofs.Common.{◌≡◌, ℕ, zero, suc, ◌+◌, ◌-◌, ◌<◌, ◌≤◌, ◌==◌, false, cond, List, [], ◌∷◌, length, Contains, IsTrue, Option, None, Some, refl, sym, ap, subst, ◌∙◌, arith}
 use Rattle.std.specs.Prelude.{slice_get, slice_index_or}
 use Rattle.std.proofs.Math.Dec.{eqb-suc-zero}
 use Rattle.std.proofs.lemmas.Bool.{lt-ltb}
-use Rattle.proof_base.proofs.Members.{has_flat, has_head}
+use Rattle.weave_data.proofs.Members.{has_flat, has_head}
 use Rattle.program_defs.specs.declared.script.Script.{Script}
 use Rattle.program_defs.specs.Limits.{IsWithinLimits}
 use Rattle.weave_script.specs.Scripts.{RiseTo}
@@ -18,11 +19,11 @@ use Rattle.weaver_core.specs.Cores.{CoreView}
 use Rattle.weaver_core.specs.Splitting.{NoneInFlight}
 use Rattle.weaver_workers.specs.Phases.{phase_end, phase_start}
 use Rattle.weaver_workers.specs.Workers.{HasPhase}
-use Rattle.workers_account.specs.Pairs.{AddsOpenPairs, GainBelow}
-use Rattle.workers_account.specs.Ready.{IsAnsweredUpTo}
+use Rattle.weave_phase.specs.Pairs.{AddsOpenPairs, GainBelow}
+use Rattle.weave_phase.specs.Ready.{IsAnsweredUpTo}
 use Rattle.weave_phase.specs.RunsPhase.{RunsPhase}
 use Rattle.weave_drive.specs.Driving.{DrivesGates, is_driving_deed}
-use Rattle.weaver_top.specs.LowerLaws.{LowerLaws}
+use Rattle.weaver_top.specs.LowerLaws.{LawsForCommands}
 use Rattle.weaver_top.specs.PhaseByPhase.{EndsAt, IsRunUpTo, IsWholeRun, RunsBelow}
 use Rattle.weaver_top.proofs.Begun.{flight-begun, flight-unanswered}
 use Rattle.weaver_top.proofs.Onward.{runs-same, runs-through}
@@ -93,10 +94,10 @@ drives bound old new gain home =
           (its.epochs entry h),
     )
 
-module _ (laws : LowerLaws) (script : Script) (limits : IsWithinLimits script) where
+module _ (laws : LawsForCommands) (script : Script) (limits : IsWithinLimits script) where
   -- Before a phase
 
-  -- where what has begun has its reply, nothing is in flight
+  -- if what has begun has its reply, nothing is in flight
   pub none-flies : (phase bound : ℕ) (account : Account) → IsRunUpTo script phase bound account → NoneInFlight account
   none-flies phase bound account run home = at (flight_of (gate_log account home)) refl
     where
@@ -160,8 +161,8 @@ module _ (laws : LowerLaws) (script : Script) (limits : IsWithinLimits script) w
       (subst (λ (s : Script). EndsAt s (phase_end old.script phase) new.state.account last) (runs.script ∙ is)
       (subst (λ n. EndsAt new.script n new.state.account last) end-is ends)))
 
--- with the phase behind the last `phase` line it is a whole run
-pub whole-on-threads : (laws : LowerLaws) (script first second : Script) → IsWithinLimits script → first ≡ script → second ≡ first → (phases : ℕ) → phases ≡ length first.phases → (account last : Account)
+-- with the phase after the last `phase` line it is a whole run
+pub whole-on-threads : (laws : LawsForCommands) (script first second : Script) → IsWithinLimits script → first ≡ script → second ≡ first → (phases : ℕ) → phases ≡ length first.phases → (account last : Account)
     → IsRunUpTo first phases (phase_start first phases) account → EndsAt second (phase_end second phases) account last → IsWholeRun script last
 whole-on-threads laws script first second limits same still phases count account last run ends =
     whole-run laws script first second limits same still (phase_start first phases) (phase_end second phases) account last

@@ -1,9 +1,10 @@
--- A run goes on: what driving and collecting leave, one after another.
+-- Parts of a run compose: nothing, a driven stretch, a collection (`RunsBelow`). Ended phases stay ended.
+-- Used by `collect`, `collect_all`, `end_phase`, OnThreads and PhaseEnds.
 use Rattle.std.proofs.Common.{◌≡◌, ℕ, ◌<◌, ◌==◌, List, [], ◌∷◌, ◌++◌, fold, Contains, IsTrue, inl, inr, sym, ap, subst, ◌∙◌, append_assoc}
 use Rattle.std.proofs.lemmas.List.{append-nil}
 use Rattle.std.proofs.lemmas.List.Concat.{flat_map-append}
 use Rattle.std.proofs.lemmas.List.Elements.{Contains-append_cases, Contains-append_left}
-use Rattle.proof_base.proofs.Members.{any_from, any_has, has_none}
+use Rattle.weave_data.proofs.Members.{any_from, any_has, has_none}
 use Rattle.program_defs.specs.declared.script.Request.{Request}
 use Rattle.program_defs.specs.declared.script.Script.{Script}
 use Rattle.program_defs.specs.declared.script.Step.{Step}
@@ -20,11 +21,12 @@ use Rattle.step_rules.specs.IsCore.{IsCore, IsStepOf}
 use Rattle.step_rules.specs.Requests.{has_reply}
 use Rattle.step_rules.specs.Trace.{state_after}
 use Rattle.weave_drive.specs.Driving.{AreDriving, DrivesGates, IsDriven}
-use Rattle.workers_account.specs.Pairs.{AddsOpenPairs}
-use Rattle.weaver_top.specs.LowerLaws.{LowerLaws}
+use Rattle.weave_phase.specs.Pairs.{AddsOpenPairs}
+use Rattle.weaver_top.specs.LowerLaws.{LawsForCommands}
 use Rattle.weaver_top.specs.PhaseByPhase.{EndsAt, RunsBelow}
-use Rattle.weaver_top.proofs.GoingOn.{driven-on, goes-further, goes-same, steps-go-on}
+use Rattle.weaver_top.proofs.GoingOn.{driven-on, steps-go-on}
 use Rattle.weaver_top.proofs.Unanswered.{step-adds}
+use Rattle.step_rules.proofs.StepGoesOn.{goes-further, goes-same}
 
 -- a reply stays
 pub reply-stays : (old new : Account) → GoesOn old new → (r : ℕ) (request : Request) → IsTrue (has_reply old r request) → IsTrue (has_reply new r request)
@@ -47,7 +49,7 @@ gates-through bound a b c x y home =
     let q = y home in
     (p.0 ++ q.0, q.1 ∙ ap (λ k. k ++ q.0) p.1 ∙ append_assoc (gate_log a home) p.0 q.0, λ e h. elim (Contains-append_cases p.0 q.0 e h) [ inl l ↦ p.2 e l | inr r ↦ q.2 e r ])
 
-module _ (laws : LowerLaws) (script : Script) (limits : IsWithinLimits script) where
+module _ (laws : LawsForCommands) (script : Script) (limits : IsWithinLimits script) where
   -- Pairs
 
   pub adds-through : (a b c : Account) → GoesOn a b → GoesOn b c → AddsOpenPairs script a b → AddsOpenPairs script b c → AddsOpenPairs script a c
@@ -100,7 +102,7 @@ module _ (laws : LowerLaws) (script : Script) (limits : IsWithinLimits script) w
     pairs = step-adds laws script limits state (Collect shard) core.account;
   }
 
-  -- and so what a core's step leaves that collects
+  -- so is what a step of a core leaves that collects
   pub collected-so : (seen : Script) (bound : ℕ) (state new : CoreState) (shard : ℕ) → seen ≡ script → shard < script.shards → IsCore script state
       → new ≡ state_after script state (Collect shard) → IsCore seen new → RunsBelow script bound state.account new.account
   collected-so seen bound state new shard same there core is after =

@@ -1,4 +1,5 @@
 -- The phases of a run end one after another, and with the last requests it is a run by phases.
+-- Used by `end_next`, `end_phases`, `report_of`, `run` and OnThreads.
 use Rattle.std.proofs.Common.{◌≡◌, ℕ, zero, suc, ◌+◌, ◌<◌, ◌≤◌, ◌==◌, ◌⊎◌, Bool, true, false, cond, nat_le, nat_lt, List, [], ◌∷◌, length, replicate, get_or, Contains, IsTrue, Option, None, Some, inl, inr, refl, sym, ap, subst, ◌∙◌, arith}
 use Rattle.std.specs.Prelude.{count_by, slice_get}
 use Rattle.std.specs.List.{find, list_any}
@@ -7,8 +8,8 @@ use Rattle.std.proofs.lemmas.Bool.{cases_eq, eqb-true, le-leb, leb-false, leb-tr
 use Rattle.std.proofs.lemmas.List.Elements.{Contains-append_cases}
 use Rattle.std.proofs.lemmas.Option.{slice_get_within}
 use Rattle.std.proofs.lemmas.List.Sums.{count_by-le-length, sum_by-cons}
-use Rattle.proof_base.proofs.Images.{flat-has}
-use Rattle.proof_base.proofs.Members.{any_has, find_has, has_none, only}
+use Rattle.weave_data.proofs.Images.{flat-has}
+use Rattle.weave_data.proofs.Members.{any_has, find_has, has_none, only}
 use Rattle.vector_stamp.specs.declared.clock.Stamp.{Stamp}
 use Rattle.vector_stamp.specs.Order.{id_of}
 use Rattle.program_defs.specs.declared.script.Request.{Request}
@@ -28,12 +29,11 @@ use Rattle.weave_account.specs.NoLogs.{no_logs}
 use Rattle.weave_account.specs.Phases.{EndsPhase}
 use Rattle.step_rules.specs.Requests.{has_reply}
 use Rattle.weave_drive.specs.Driving.{AreReplied, DrivesGates, is_driving_deed}
-use Rattle.weave_account.proofs.Replying.{place-of}
-use Rattle.workers_account.proofs.Begun.{has-all as at-home}
-use Rattle.weaver_top.specs.LowerLaws.{LowerLaws}
+use Rattle.weave_account.proofs.Replying.{place-of, has-all as at-home}
+use Rattle.weaver_top.specs.LowerLaws.{LawsForCommands}
 use Rattle.weaver_top.specs.PhaseByPhase.{EndsAt, HasEnded, IsRunUpTo, IsWholeRun, RunsBelow}
-use Rattle.weaver_top.proofs.GoingOn.{goes-further, goes-same}
 use Rattle.weaver_top.proofs.Onward.{adds-through, runs-same}
+use Rattle.step_rules.proofs.StepGoesOn.{goes-further, goes-same}
 
 -- Ends of phases rise
 
@@ -189,7 +189,7 @@ there-below [] r less = absurd (omega (arith, less))
 there-below (request ∷ requests) zero less = (request, refl)
 there-below (request ∷ requests) (suc r) less = there-below requests r (omega (arith, less))
 
-module _ (laws : LowerLaws) (script : Script) (limits : IsWithinLimits script) where
+module _ (laws : LawsForCommands) (script : Script) (limits : IsWithinLimits script) where
   -- a phase that has ended has ended still
   carried : (bound phase : ℕ) (logs account next : Account) → RunsBelow script bound account next → HasEnded script phase logs account → HasEnded script phase logs next
   carried bound phase logs account next runs ended = record {
@@ -296,7 +296,7 @@ module _ (laws : LowerLaws) (script : Script) (limits : IsWithinLimits script) w
   }
 
 -- the same of a core's script, which is the script
-pub whole-run : (laws : LowerLaws) (script first second : Script) → IsWithinLimits script → first ≡ script → second ≡ first → (bound all : ℕ) (account last : Account) → all ≡ length second.requests
+pub whole-run : (laws : LawsForCommands) (script first second : Script) → IsWithinLimits script → first ≡ script → second ≡ first → (bound all : ℕ) (account last : Account) → all ≡ length second.requests
     → IsRunUpTo first (length first.phases) bound account → EndsAt second all account last → IsWholeRun script last
 whole-run laws script first second limits same still bound all account last is-all run ends =
     whole laws script limits bound account last

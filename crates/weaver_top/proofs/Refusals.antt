@@ -1,4 +1,5 @@
 -- Inputs that are refused, by any command.
+-- Used by `too_long` and `verdict_on`.
 use Rattle.std.proofs.Common.{◌≡◌, ℕ, ◌<◌, List, length, true, nat_lt, Err, refl, sym, subst, arith}
 use Rattle.std.proofs.lemmas.Bool.{lt-ltb}
 use Rattle.weave_script.specs.declared.fault.Cause.TheVariants.{TooLong}
@@ -44,7 +45,7 @@ too_long answer status is command input reads long =
       line = is;
     }))
 
--- so is one that is a text of no value
+-- the same holds of one that is a text of no value
 pub faulty : (command : Command) (input : List ℕ) (answer : Answer) (fault : Fault) → reads_input command ≡ true → ((value : (input_of command).Value) → ¬ (input_of command).IsText input value) → (input_of command).read input ≡ Err fault → answer.status ≡ Refused → answer.text.items ≡ refusal_line fault.line (cause_text fault.cause) → IsAnswerTo command input answer
 faulty command input answer fault reads none first status is =
     refuses command input answer reads status (by_fault command input answer.text.items (record { not_taken = λ taken. none taken.value taken.input_is_its_text; fault = fault; is_first = first; line = is }))

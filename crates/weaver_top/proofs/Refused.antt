@@ -1,4 +1,5 @@
 -- An answer that refuses an input.
+-- Used by `too_long` and `verdict_on`.
 use Rattle.std.proofs.Common.{◌≡◌, ℕ, List, Result, Ok, Err, IfOk, subst}
 use Rattle.weave_script.specs.declared.fault.Cause.{Cause}
 use Rattle.weave_script.specs.declared.fault.ScriptFault.{ScriptFault}
@@ -7,7 +8,7 @@ use Rattle.weave_script.specs.Answers.{IfRefused}
 use Rattle.weaver_top.specs.declared.answer.Answer.{Answer}
 use Rattle.weaver_top.specs.declared.status.Status.TheVariants.{Refused}
 
--- what is told where a line was refused
+-- what is promised of a refusal holds of its line and cause
 pub told : (A : Type 0) (why : ScriptFault) (line : ℕ) (cause : Cause) (P : ℕ → Cause → Type 0) → why ≡ fault.Refused line cause → IfRefused {A = A} (Err why) P → P line cause
 told A why line cause P is holds = let Q : ScriptFault → Type 0 = λ why. IfRefused {A = A} (Err why) P in subst Q is holds
 

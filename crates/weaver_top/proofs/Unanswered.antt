@@ -1,4 +1,5 @@
 -- A step adds pairs to requests that have no reply, and so do steps one after another.
+-- Used by Onward.
 use Rattle.std.proofs.Common.{◌≡◌, ℕ, ◌⊎◌, Bool, true, false, cond, List, [], ◌∷◌, ◌++◌, Contains, IsTrue, Option, None, Some, inl, inr, refl, sym, ap, subst, ◌∙◌}
 use Rattle.std.specs.Prelude.{map, slice_get, ◌==◌}
 use Rattle.std.proofs.lemmas.Bool.{eqb-true}
@@ -10,7 +11,7 @@ use Rattle.std.specs.List.{cons_option, filter_map}
 use Rattle.std.specs.Option.{option_map}
 use Rattle.std.proofs.lemmas.List.Concat.{flat_map-append}
 use Rattle.std.proofs.lemmas.List.Elements.{Contains-append_cases}
-use Rattle.proof_base.proofs.Members.{find_has, has_none, has_read}
+use Rattle.weave_data.proofs.Members.{find_has, has_none, has_read}
 use Rattle.vector_stamp.specs.declared.clock.Clock.{Clock}
 use Rattle.vector_stamp.specs.declared.clock.Stamp.{Stamp}
 use Rattle.vector_stamp.specs.Precedence.{Given}
@@ -40,8 +41,8 @@ use Rattle.step_rules.specs.Answers.{answer_of}
 use Rattle.step_rules.specs.Entries.{account_with, after_begin, after_deliver, after_hear, after_judge, after_reply, after_send, after_visit, after_work, at_request, lasts_in, seen_in, state_with, update_stamps, verdict_in, with_finish}
 use Rattle.step_rules.specs.Requests.{has_ended, next_vertex, ops_in}
 use Rattle.step_rules.specs.Trace.{is_ok, state_after}
-use Rattle.weaver_top.specs.LowerLaws.{LowerLaws}
-use Rattle.workers_account.specs.Pairs.{AddsOpenPairs}
+use Rattle.weaver_top.specs.LowerLaws.{LawsForCommands}
+use Rattle.weave_phase.specs.Pairs.{AddsOpenPairs}
 use Rattle.weave_account.proofs.Beginning.{all-in, program-begun as program-begun-in}
 use Rattle.weaver_top.proofs.Begun.{flight-begun, flight-unanswered}
 
@@ -63,7 +64,7 @@ place-later earlier later (place ∷ places) e l h = at (slice_get earlier place
       | inr more ↦ rest more
     ]
 
--- so has each pair that settling adds
+-- the same holds of each pair that settling adds
 settled-later : (author : ℕ) (earlier : List Stamp) (later : Stamp) (places : List ℕ) (e l : Stamp)
     → Contains (pairs_of_log (map oracle_entry (entries_of_call author earlier later places))) (e, l) → later ≡ l
 settled-later author earlier later [] e l h = absurd (has_none (e, l) h)
@@ -87,7 +88,7 @@ more-pairs log more e l h =
 
 -- A step
 
-module _ (laws : LowerLaws) (script : Script) (limits : IsWithinLimits script) where
+module _ (laws : LawsForCommands) (script : Script) (limits : IsWithinLimits script) where
   -- with the same oracle there is no new pair
   same-oracle : (old new : Account) → new.oracle ≡ old.oracle → AddsOpenPairs script old new
   same-oracle old new same e l h = inl (subst (λ o. Contains (pairs_of_log o) (e, l)) same h)

@@ -1,4 +1,5 @@
 -- What `check` finds of an input.
+-- Used by `judged_summary` and `verdict_for`.
 use Rattle.std.proofs.Common.{◌≡◌, ℕ, ◌≤◌, ◌^◌, true, List, [], ◌∷◌, length, IsTrue, refl, arith}
 use Rattle.std.specs.List.{AllByRecursion, list_all}
 use Rattle.std.proofs.lemmas.Bool.{and_from, lt-ltb}
@@ -24,7 +25,7 @@ pub wrong : (input text : List ℕ) (script : Script) (report : Report) (clause 
 wrong input text script report clause place short is_text breaks is =
     record { input_is_short = short; script = script; report = report; input_is_their_text = is_text; clause = clause; place = place; breaks = breaks; line = is }
 
--- where each transaction has at most 64 operations, they are few enough to be numbered
+-- if each transaction has at most 64 operations, they are few enough to be numbered
 numbered_work : (work : Work) → length (ops_of work) ≤ 64 → judgement.is_numbered_work work ≡ true
 numbered_work (Change ops) few = lt-ltb (length ops) (2 ^ 32) (omega (arith, few))
 numbered_work (Look program) few = refl

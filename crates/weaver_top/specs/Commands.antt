@@ -35,8 +35,8 @@ command_of (word ∷ seed ∷ size ∷ []) = load_of word seed size
 command_of _ = None
 
 -- the words ask for this command
-abbrev pub Asks : List (List ℕ) → Command → Type 0
-Asks words command = command_of words ≡ Some command
+abbrev pub AreWordsOf : List (List ℕ) → Command → Type 0
+AreWordsOf words command = command_of words ≡ Some command
 
 -- the command reads an input: all but `load` do
 abbrev pub reads_input : Command → Bool

@@ -15,12 +15,13 @@ use Rattle.weave_script.specs.CheckText.{IsCheckTextOf}
 use Rattle.weave_script.specs.ScriptLines.{IsTextOf}
 use Rattle.weave_script.specs.Scripts.{steps_of}
 use Rattle.weaver_top.specs.VerdictLines.{yes_line}
+use Rattle.weave_script.specs.Limits.{IsShort}
 
 -- `run`: the input is a valid script, and the text is a right report for it, printed. The report's order is the printed
 -- order; of two requests that meet at a vertex one precedes the other, and the script's phases are kept; every request
 -- has its final reply, and there are no answers of steps.
 pub record TellsRightReport (input text : List ℕ) : Type 0 where
-  pub input_is_short : length input ≤ 4194304
+  pub input_is_short : IsShort input
   pub script : Script
   pub input_is_its_text : IsTextOf input script
   pub report : Report
@@ -39,7 +40,7 @@ pub record TellsRightReport (input text : List ℕ) : Type 0 where
 -- answered `ok`. It is a right report for the script, in the printed order; of two requests that meet at a vertex one
 -- precedes the other.
 pub record TellsTrace (input text : List ℕ) : Type 0 where
-  pub input_is_short : length input ≤ 4194304
+  pub input_is_short : IsShort input
   pub script : Script
   pub input_is_its_text : IsTextOf input script
   pub report : Report
@@ -55,7 +56,7 @@ pub record TellsTrace (input text : List ℕ) : Type 0 where
 -- `check`: the input is a valid script and then a report for it, the report is right for the script, and the text is
 -- `yes`
 pub record TellsYes (input text : List ℕ) : Type 0 where
-  pub input_is_short : length input ≤ 4194304
+  pub input_is_short : IsShort input
   pub script : Script
   pub report : Report
   pub input_is_their_text : IsCheckTextOf input script report

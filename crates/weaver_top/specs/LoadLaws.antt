@@ -1,4 +1,4 @@
--- The laws of the crates below that `load` stands on, in one. No public contract cites this.
+-- The laws of the crates below that `load` relies on, in one record. No public contract cites this.
 use Rattle.std.specs.Prelude.{◌≡◌, ◌≢◌, ℕ, Contains, IsTrue, Some}
 use Rattle.vector_stamp.specs.Order.{id_of}
 use Rattle.vector_stamp.specs.Precedence.{Given}

@@ -1,4 +1,4 @@
--- The laws of the crates below that a run by phases stands on, in one. No public contract cites this.
+-- The laws of the crates below that a run by phases relies on, in one record. No public contract cites this.
 use Rattle.std.specs.Prelude.{◌≡◌, ◌≢◌, ◌↔◌, ℕ, List, Contains, IsTrue, Some}
 use Rattle.vector_stamp.specs.Order.{id_of}
 use Rattle.program_defs.specs.declared.script.Request.{Request}
@@ -19,7 +19,7 @@ use Rattle.step_rules.specs.CoreState.{CoreState, start_state}
 use Rattle.step_rules.specs.IsCore.{IsCore, IsStepOf}
 use Rattle.step_rules.specs.Trace.{state_after}
 
-pub record LowerLaws : Type 0 where
+pub record LawsForCommands : Type 0 where
   -- requests_end, what_has_not_ended_goes_on
   pub ends : (home shards : ℕ) (log : List GateEntry) → IsGateLog home shards log → EndsWhatItBegan log
   pub in_flight : (home shards : ℕ) (log : List GateEntry) → IsGateLog home shards log → BeginsEachOnce log

@@ -13,7 +13,7 @@ use Rattle.weave_account.specs.GoesOn.{GoesOn}
 use Rattle.weave_account.specs.IsAccount.{IsAccount}
 use Rattle.weave_account.specs.Phases.{IsRunByPhases}
 use Rattle.step_rules.specs.Requests.{has_reply}
-use Rattle.workers_account.specs.Pairs.{AddsOpenPairs}
+use Rattle.weave_phase.specs.Pairs.{AddsOpenPairs}
 use Rattle.weave_drive.specs.Driving.{AreReplied, DrivesGates, is_driving_deed}
 
 -- Parts of a run

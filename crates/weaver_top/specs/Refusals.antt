@@ -10,6 +10,7 @@ use Rattle.weave_script.specs.ReadText.{Fault, read_text}
 use Rattle.weave_script.specs.ScriptLines.{IsTextOf}
 use Rattle.weaver_top.specs.declared.command.Command.{Command}
 use Rattle.weaver_top.specs.declared.command.Command.TheVariants.{Run, Check, Trace, Load}
+use Rattle.weave_script.specs.Limits.{IsShort}
 
 -- what a command reads: the values, when bytes are a text of one, and the value or first fault of each text
 pub record InputKind : Type 1 where
@@ -46,7 +47,7 @@ input_of (Load seed size) = load_input
 
 -- the input isn't too long, and is a text of a value
 pub record CanBeTaken (kind : InputKind) (input : List ℕ) : Type 0 where
-  pub input_is_short : length input ≤ 4194304
+  pub input_is_short : IsShort input
   pub value : kind.Value
   pub input_is_its_text : kind.IsText input value
 

@@ -7,6 +7,7 @@ use Rattle.report_rules.specs.declared.report.Clause.TheVariants.{I, Ii, Iii, Iv
 use Rattle.report_rules.specs.declared.report.Report.{Report}
 use Rattle.report_rules.specs.RightReport.{BreaksFirst}
 use Rattle.weave_script.specs.CheckText.{IsCheckTextOf}
+use Rattle.weave_script.specs.Limits.{IsShort}
 
 -- the word of a clause
 abbrev pub clause_text : Clause → List ℕ
@@ -30,7 +31,7 @@ no_line clause place = codes "no " ++ clause_text clause ++ codes " " ++ decimal
 -- the input is a valid script and then a report for it that isn't right, and the text names the first clause that
 -- breaks and the first place at which it does
 pub record TellsNo (input text : List ℕ) : Type 0 where
-  pub input_is_short : length input ≤ 4194304
+  pub input_is_short : IsShort input
   pub script : Script
   pub report : Report
   pub input_is_their_text : IsCheckTextOf input script report

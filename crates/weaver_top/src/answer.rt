@@ -3,6 +3,7 @@ ghost use Rattle.std.specs.Prelude.{◌≡◌, ◌<◌, ℕ, true, List, length,
 ghost use Rattle.weaver_top.specs.Answers.{IsAnswerTo};
 ghost use Rattle.weaver_top.specs.Commands.{reads_input};
 ghost use Rattle.weaver_top.specs.Refusals.{refusal_line};
+ghost use Rattle.weave_script.specs.Limits.{IsLong};
 
 use crate::command::Command;
 use crate::status::Status;
@@ -20,7 +21,7 @@ pub(crate) struct Answer {
 /// Says that the input is too long.
 pub(crate) fn too_long(alloc: Global) -> Result<Answer, AllocError>
     ensures answer { IfOk result (λ answer. (command : Command) (input : List ℕ)
-        → reads_input command ≡ true → 4194304 < length input → IsAnswerTo command input answer) }
+        → reads_input command ≡ true → IsLong input → IsAnswerTo command input answer) }
     ensures refused { IfOk result (λ answer. answer.status ≡ Status.Refused) }
 {
     refusal(alloc, 0, Cause::TooLong.text())

@@ -2,6 +2,7 @@
 ghost use Rattle.std.specs.Prelude.{◌≤◌, length, IfOk};
 ghost use Rattle.weaver_top.specs.Answers.{IsAnswerTo};
 ghost use Rattle.weaver_top.specs.Commands.{IsSized};
+ghost use Rattle.weave_script.specs.Limits.{IsShort};
 
 use crate::answer::Answer;
 use crate::check_command::verdict_on;
@@ -13,7 +14,7 @@ use std::alloc::{AllocError, Global};
 
 /// What the command answers to an input that was read whole. That of `load` plays no part.
 pub(crate) fn answer_to(alloc: Global, command: Command, input: &[u8]) -> Result<Answer, AllocError>
-    requires short { length input.now ≤ 4194304 }
+    requires short { IsShort input.now }
     requires sized { IsSized command }
     ensures { IfOk result (IsAnswerTo command input.now) }
 {

@@ -4,6 +4,7 @@ ghost use Rattle.weave_script.specs.CheckText.{IsCheckTextOf};
 ghost use Rattle.weave_script.specs.Scripts.{IsScript};
 ghost use Rattle.weaver_top.specs.Answers.{IsAnswerTo};
 ghost use Rattle.weaver_top.specs.VerdictLines.{clause_text, no_line, yes_line};
+ghost use Rattle.weave_script.specs.Limits.{IsShort};
 
 use crate::answer::{Answer, refusal};
 use crate::command::Command;
@@ -17,7 +18,7 @@ use weave_text::Text;
 
 /// Reads the script and the report after it, and says whether the report is right; or says why the input can't be read.
 pub(crate) fn verdict_on(alloc: Global, input: &[u8]) -> Result<Answer, AllocError>
-    requires { length input.now ≤ 4194304 }
+    requires { IsShort input.now }
     ensures { IfOk result (IsAnswerTo Command.Check input.now) }
 {
     checks_are_read();
@@ -32,7 +33,7 @@ pub(crate) fn verdict_on(alloc: Global, input: &[u8]) -> Result<Answer, AllocErr
 fn verdict_for(alloc: Global, script: &Script, report: &Report) -> Result<Answer, AllocError>
     requires { IsScript script.now }
     ensures { IfOk result (λ answer. (input : List ℕ)
-        → length input ≤ 4194304 → IsCheckTextOf input script.now report.now → IsAnswerTo Command.Check input answer) }
+        → IsShort input → IsCheckTextOf input script.now report.now → IsAnswerTo Command.Check input answer) }
 {
     scripts_are_small();
     match judge_report(alloc, script, report)? {

@@ -1,14 +1,15 @@
-//! All that a command does, but for threads.
+//! All that a command does, except for threads.
 ghost use Rattle.std.specs.Prelude.{◌≡◌, ◌≢◌, ◌⊎◌, ◌↔◌, ℕ, false, [], map, string_bytes, IsTrue, Err, None, IfOk, OnOk, IfSome};
 ghost use Rattle.weave_io.specs.Counts.{Rose};
 ghost use Rattle.weave_io.specs.Told.{IsReadWhole, KeepsWritten, Tells, TakesAtMost, Writes, WritesPrefix};
 ghost use Rattle.weaver_top.specs.Acceptance.{IsAcceptedByCheck};
 ghost use Rattle.weaver_top.specs.Answers.{Delivers, IsAnswerTo, TellsAnswer, can_end, input_told};
-ghost use Rattle.weaver_top.specs.Commands.{Asks, IsSized, command_of, reads_input};
+ghost use Rattle.weaver_top.specs.Commands.{AreWordsOf, IsSized, command_of, reads_input};
 ghost use Rattle.weaver_top.specs.Headlines.{TellsRightReport, TellsTrace, TellsYes};
 ghost use Rattle.weaver_top.specs.Loads.{WritesLoad, WritesLoadPrefix};
 ghost use Rattle.weaver_top.specs.Refusals.{CanBeTaken, TellsRefusal, check_input, run_input, trace_input};
 ghost use Rattle.weaver_top.specs.VerdictLines.{TellsNo};
+ghost use Rattle.weave_script.specs.Limits.{most_bytes};
 
 use crate::answer::{Answer, too_long};
 use crate::answering::answer_to;
@@ -30,45 +31,45 @@ pub fn execute<S: Source, K: Sink>(
     sink: &mut K,
 ) -> Status
     // The headlines.
-    ensures right_report { Asks (map string_bytes words.now) Command.Run → result ≡ Status.Done
+    ensures right_report { AreWordsOf (map string_bytes words.now) Command.Run → result ≡ Status.Done
         → Writes TellsRightReport (S.left source.old) (K.written sink.old) (K.written sink.new) }
-    ensures traced { Asks (map string_bytes words.now) Command.Trace → result ≡ Status.Done
+    ensures traced { AreWordsOf (map string_bytes words.now) Command.Trace → result ≡ Status.Done
         → Writes TellsTrace (S.left source.old) (K.written sink.old) (K.written sink.new) }
-    ensures yes { Asks (map string_bytes words.now) Command.Check → result ≡ Status.Done
+    ensures yes { AreWordsOf (map string_bytes words.now) Command.Check → result ≡ Status.Done
         → Writes TellsYes (S.left source.old) (K.written sink.old) (K.written sink.new) }
     ensures no { result ≡ Status.NotRight
-        → Asks (map string_bytes words.now) Command.Check
+        → AreWordsOf (map string_bytes words.now) Command.Check
         × Writes TellsNo (S.left source.old) (K.written sink.old) (K.written sink.new) }
-    ensures loaded { (seed size : ℕ) → Asks (map string_bytes words.now) (Command.Load seed size)
+    ensures loaded { (seed size : ℕ) → AreWordsOf (map string_bytes words.now) (Command.Load seed size)
         → result ≡ Status.Done → WritesLoad seed size (K.written sink.old) (K.written sink.new) }
-    ensures all_is_read { (command : Command) → Asks (map string_bytes words.now) command
+    ensures all_is_read { (command : Command) → AreWordsOf (map string_bytes words.now) command
         → IsTrue (reads_input command) → (result ≡ Status.Done) ⊎ (result ≡ Status.NotRight)
         → Tells (S.left source.new) [] }
 
-    // What `run` does beside: `check` accepts its report.
-    ensures accepted_by_check { Asks (map string_bytes words.now) Command.Run → result ≡ Status.Done
+    // What `run` does besides: `check` accepts its report.
+    ensures accepted_by_check { AreWordsOf (map string_bytes words.now) Command.Run → result ≡ Status.Done
         → Writes IsAcceptedByCheck (S.left source.old) (K.written sink.old) (K.written sink.new) }
 
-    // What `trace` does beside: `check` accepts its report.
-    ensures trace_accepted { Asks (map string_bytes words.now) Command.Trace → result ≡ Status.Done
+    // What `trace` does besides: `check` accepts its report.
+    ensures trace_accepted { AreWordsOf (map string_bytes words.now) Command.Trace → result ≡ Status.Done
         → Writes IsAcceptedByCheck (S.left source.old) (K.written sink.old) (K.written sink.new) }
 
     // When each other status comes.
     ensures words { (result ≡ Status.Words) ↔ (command_of (map string_bytes words.now) ≡ None) }
     ensures read { result ≡ Status.Read → Rose (S.faults source.old) (S.faults source.new) }
-    ensures refused { (command : Command) → Asks (map string_bytes words.now) command → result ≡ Status.Refused
+    ensures refused { (command : Command) → AreWordsOf (map string_bytes words.now) command → result ≡ Status.Refused
         → Writes (TellsRefusal command) (S.left source.old) (K.written sink.old) (K.written sink.new) }
-    ensures input_refused { (command : Command) → Asks (map string_bytes words.now) command
+    ensures input_refused { (command : Command) → AreWordsOf (map string_bytes words.now) command
         → result ≡ Status.Refused → IsTrue (reads_input command) }
     ensures write { result ≡ Status.Write →
         Rose (K.faults sink.old) (K.faults sink.new) ⊎ Rose (K.stalls sink.old) (K.stalls sink.new) }
-    ensures prefix { (command : Command) → Asks (map string_bytes words.now) command → result ≡ Status.Write
+    ensures prefix { (command : Command) → AreWordsOf (map string_bytes words.now) command → result ≡ Status.Write
         → WritesPrefix (TellsAnswer command) (S.left source.old) (K.written sink.old) (K.written sink.new) }
-    ensures load_prefix { (seed size : ℕ) → Asks (map string_bytes words.now) (Command.Load seed size)
+    ensures load_prefix { (seed size : ℕ) → AreWordsOf (map string_bytes words.now) (Command.Load seed size)
         → result ≡ Status.Write → WritesLoadPrefix seed size (K.written sink.old) (K.written sink.new) }
 
     // Reading comes before writing, and a stall ends the writing.
-    ensures read_first { (command : Command) → Asks (map string_bytes words.now) command
+    ensures read_first { (command : Command) → AreWordsOf (map string_bytes words.now) command
         → IsTrue (reads_input command) → (result ≡ Status.Refused) ⊎ (result ≡ Status.Write)
         → IsReadWhole (S.left source.old) (S.left source.new) }
     ensures without_stall { (result ≡ Status.Done) ⊎ (result ≡ Status.NotRight) ⊎ (result ≡ Status.Refused)
@@ -78,26 +79,26 @@ pub fn execute<S: Source, K: Sink>(
     ensures nothing_written { (result ≡ Status.Words) ⊎ (result ≡ Status.Read) ⊎ (result ≡ Status.Memory)
         → K.written sink.new ≡ K.written sink.old }
     ensures nothing_read { result ≡ Status.Words → source.new ≡ source.old }
-    ensures load_reads_nothing { (seed size : ℕ) → Asks (map string_bytes words.now) (Command.Load seed size)
+    ensures load_reads_nothing { (seed size : ℕ) → AreWordsOf (map string_bytes words.now) (Command.Load seed size)
         → source.new ≡ source.old }
-    ensures read_in_time { result ≡ Status.Read → TakesAtMost (S.left source.old) (S.left source.new) 4194304 }
+    ensures read_in_time { result ≡ Status.Read → TakesAtMost (S.left source.old) (S.left source.new) most_bytes }
     ensures rest { TakesAtMost (S.left source.old) (S.left source.new) 4194305 }
     ensures written_stays { KeepsWritten (K.written sink.old) (K.written sink.new) }
 
     // An input that a command takes gets its answer, unless reading or writing fails, or memory runs out.
-    ensures all_run { Asks (map string_bytes words.now) Command.Run
+    ensures all_run { AreWordsOf (map string_bytes words.now) Command.Run
         → ¬ Rose (S.faults source.old) (S.faults source.new)
         → ¬ Rose (K.faults sink.old) (K.faults sink.new)
         → ¬ Rose (K.stalls sink.old) (K.stalls sink.new)
         → IfSome (S.left source.old) (λ input. CanBeTaken run_input input
         → (result ≡ Status.Done) ⊎ (result ≡ Status.Memory)) }
-    ensures all_judged { Asks (map string_bytes words.now) Command.Check
+    ensures all_judged { AreWordsOf (map string_bytes words.now) Command.Check
         → ¬ Rose (S.faults source.old) (S.faults source.new)
         → ¬ Rose (K.faults sink.old) (K.faults sink.new)
         → ¬ Rose (K.stalls sink.old) (K.stalls sink.new)
         → IfSome (S.left source.old) (λ input. CanBeTaken check_input input
         → ((result ≡ Status.Done) ⊎ (result ≡ Status.NotRight)) ⊎ (result ≡ Status.Memory)) }
-    ensures all_traced { Asks (map string_bytes words.now) Command.Trace
+    ensures all_traced { AreWordsOf (map string_bytes words.now) Command.Trace
         → ¬ Rose (S.faults source.old) (S.faults source.new)
         → ¬ Rose (K.faults sink.old) (K.faults sink.new)
         → ¬ Rose (K.stalls sink.old) (K.stalls sink.new)
@@ -105,7 +106,7 @@ pub fn execute<S: Source, K: Sink>(
         → (result ≡ Status.Done) ⊎ (result ≡ Status.Memory)) }
 
     // `load` refuses nothing: it gets its answer, unless writing fails, or memory runs out.
-    ensures all_loaded { (seed size : ℕ) → Asks (map string_bytes words.now) (Command.Load seed size)
+    ensures all_loaded { (seed size : ℕ) → AreWordsOf (map string_bytes words.now) (Command.Load seed size)
         → ¬ Rose (K.faults sink.old) (K.faults sink.new)
         → ¬ Rose (K.stalls sink.old) (K.stalls sink.new)
         → (result ≡ Status.Done) ⊎ (result ≡ Status.Memory) }
@@ -134,7 +135,7 @@ fn prepare<S: Source>(
         (answer.status ≡ Status.Done) ⊎ (answer.status ≡ Status.NotRight) → Tells (S.left source.new) []) }
     ensures read { result ≡ Err PrepareError.Read → Rose (S.faults source.old) (S.faults source.new) }
     ensures read_in_time { result ≡ Err PrepareError.Read
-        → TakesAtMost (S.left source.old) (S.left source.new) 4194304 }
+        → TakesAtMost (S.left source.old) (S.left source.new) most_bytes }
     ensures read_first { IsTrue (reads_input command)
         → OnOk result (IsReadWhole (S.left source.old) (S.left source.new)) }
     ensures rest { TakesAtMost (S.left source.old) (S.left source.new) (4194305) }
@@ -164,7 +165,7 @@ fn prepare_from_input<S: Source>(
         → Tells (S.left source.new) []) }
     ensures read { result ≡ Err PrepareError.Read → Rose (S.faults source.old) (S.faults source.new) }
     ensures read_in_time { result ≡ Err PrepareError.Read
-        → TakesAtMost (S.left source.old) (S.left source.new) 4194304 }
+        → TakesAtMost (S.left source.old) (S.left source.new) most_bytes }
     ensures read_first { OnOk result (IsReadWhole (S.left source.old) (S.left source.new)) }
     ensures rest { TakesAtMost (S.left source.old) (S.left source.new) (4194305) }
 {

@@ -1,4 +1,4 @@
-//! The laws of the crates below that `load` stands on.
+//! The laws of the crates below that `load` relies on.
 ghost use Rattle.weaver_top.specs.LoadLaws.{LoadLaws};
 
 use program_defs::laws::plain_answer_is_one;
@@ -8,7 +8,7 @@ use weave_account::laws::{
     replied_requests_are_final,
 };
 
-/// All laws of the crates below that what is promised of `load` stands on.
+/// All laws of the crates below that what is promised of `load` relies on.
 pub(crate) fn the_crates_below_keep_their_laws()
     ensures { LoadLaws }
 {

@@ -1,5 +1,5 @@
-//! The laws of the crates below that a run by phases stands on, in one.
-ghost use Rattle.weaver_top.specs.LowerLaws.{LowerLaws};
+//! The laws of the crates below that a run by phases relies on, in one.
+ghost use Rattle.weaver_top.specs.LowerLaws.{LawsForCommands};
 
 use step_rules::laws::{start_is_a_core, steps_keep_the_core};
 use weave_account::laws::{
@@ -7,9 +7,9 @@ use weave_account::laws::{
 };
 use weave_entries::laws::{requests_end, what_has_not_ended_goes_on};
 
-// What has its reply has ended, no two requests have one stamp, and steps keep the core and let its logs go on.
+// What has its reply has ended, no two requests have the same stamp, and steps keep the core and let its logs go on.
 pub(crate) fn the_crates_below_keep_their_laws()
-    ensures { LowerLaws }
+    ensures { LawsForCommands }
 {
     requests_end();
     what_has_not_ended_goes_on();

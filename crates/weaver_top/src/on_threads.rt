@@ -38,7 +38,7 @@ pub(crate) fn run_on_threads<R: Threads + Wait + Sync, P: Pace>(
     Ok(core)
 }
 
-// How many `phase` lines the script has. No text that is short enough to be read has as many as it refuses.
+// How many `phase` lines the script has. It refuses 2^32 or more, which no text has that is short enough to be read.
 fn count_phases(core: &Core) -> Result<u32, AllocError>
     ensures { IfOk result (λ count. count ≡ length core.now.script.phases) }
 {

@@ -70,8 +70,8 @@ fn end_of(core: &Core, phase: usize) -> u32
     core.script().phases.as_slice()[phase]
 }
 
-/// The phase of the requests below the bound ends: the core is driven until each of them has its reply, and then the shards
-/// drop old versions.
+/// The phase of the requests below the bound ends: the core is driven until each of them has its reply, and then the
+/// shards drop old versions.
 pub(crate) fn end_phase(alloc: Global, core: &mut Core, bound: u32) -> Result<(), AllocError>
     requires { bound ≤ length core.old.script.requests }
     ensures script { OnOk result (core.new.script ≡ core.old.script) }

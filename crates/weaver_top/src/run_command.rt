@@ -4,6 +4,7 @@ ghost use Rattle.weave_script.specs.Scripts.{IsScript};
 ghost use Rattle.weave_script.specs.ScriptLines.{IsTextOf};
 ghost use Rattle.weaver_top.specs.Answers.{IsAnswerTo, TellsRun};
 ghost use Rattle.weaver_top.specs.PhaseByPhase.{IsWholeRun};
+ghost use Rattle.weave_script.specs.Limits.{IsShort};
 
 use crate::answer::{Answer, refusal};
 use crate::command::Command;
@@ -25,7 +26,7 @@ use weaver_workers::Pace;
 
 /// Reads the script, runs it, and prints its report; or says why the input is refused.
 pub(crate) fn report_on(alloc: Global, input: &[u8]) -> Result<Answer, AllocError>
-    requires { length input.now ≤ 4194304 }
+    requires { IsShort input.now }
     ensures { IfOk result (IsAnswerTo Command.Run input.now) }
 {
     texts_are_read();
@@ -41,7 +42,7 @@ pub(crate) fn report_on(alloc: Global, input: &[u8]) -> Result<Answer, AllocErro
 fn answer_for(alloc: Global, script: Script) -> Result<Answer, AllocError>
     requires { IsScript script }
     ensures { IfOk result (λ answer. (input : List ℕ)
-        → length input ≤ 4194304 → IsTextOf input script → IsAnswerTo Command.Run input answer) }
+        → IsShort input → IsTextOf input script → IsAnswerTo Command.Run input answer) }
 {
     let core = run(alloc, script)?;
     Ok(Answer {
@@ -50,14 +51,15 @@ fn answer_for(alloc: Global, script: Script) -> Result<Answer, AllocError>
     })
 }
 
-/// Reads the script, runs it by workers on threads, and prints its report; or says why the input is refused. It may wait.
+/// Reads the script, runs it by workers on threads, and prints its report; or says why the input is refused. It may
+/// wait.
 pub(crate) fn report_on_threads<R: Threads + Wait + Sync, P: Pace>(
     rt: &R,
     alloc: Global,
     input: &[u8],
     pace: &P,
 ) -> Result<Answer, AllocError>
-    requires { length input.now ≤ 4194304 }
+    requires { IsShort input.now }
     ensures { IfOk result (IsAnswerTo Command.Run input.now) }
 {
     texts_are_read();
@@ -78,7 +80,7 @@ fn answer_on_threads<R: Threads + Wait + Sync, P: Pace>(
 ) -> Result<Answer, AllocError>
     requires { IsScript script }
     ensures { IfOk result (λ answer. (input : List ℕ)
-        → length input ≤ 4194304 → IsTextOf input script → IsAnswerTo Command.Run input answer) }
+        → IsShort input → IsTextOf input script → IsAnswerTo Command.Run input answer) }
 {
     let core = run_on_threads(rt, alloc, script, pace)?;
     Ok(Answer {
@@ -92,7 +94,7 @@ fn report_of(alloc: Global, core: &Core) -> Result<Vec<u8>, AllocError>
     requires valid { IsScript core.now.script }
     requires whole { IsWholeRun core.now.script core.now.state.account }
     ensures { IfOk result (λ text. (input : List ℕ)
-        → length input ≤ 4194304 → IsTextOf input core.now.script → TellsRun input text.items) }
+        → IsShort input → IsTextOf input core.now.script → TellsRun input text.items) }
 {
     account_is_right();
     phases_are_kept();

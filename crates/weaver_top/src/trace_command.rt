@@ -7,6 +7,7 @@ ghost use Rattle.step_rules.specs.Trace.{trace_of};
 ghost use Rattle.weave_script.specs.Scripts.{IsScript, steps_of};
 ghost use Rattle.weave_script.specs.ScriptLines.{IsTextOf};
 ghost use Rattle.weaver_top.specs.Answers.{IsAnswerTo, TellsTraceAccepted};
+ghost use Rattle.weave_script.specs.Limits.{IsShort};
 
 use crate::answer::{Answer, refusal};
 use crate::command::Command;
@@ -27,7 +28,7 @@ use weaver_core::Core;
 
 /// Reads the script, does its steps, and prints their report; or says why the input is refused.
 pub(crate) fn trace_on(alloc: Global, input: &[u8]) -> Result<Answer, AllocError>
-    requires { length input.now ≤ 4194304 }
+    requires { IsShort input.now }
     ensures { IfOk result (IsAnswerTo Command.Trace input.now) }
 {
     texts_are_read();
@@ -43,7 +44,7 @@ pub(crate) fn trace_on(alloc: Global, input: &[u8]) -> Result<Answer, AllocError
 fn answer_for(alloc: Global, script: Script) -> Result<Answer, AllocError>
     requires { IsScript script }
     ensures { IfOk result (λ answer. (input : List ℕ)
-        → length input ≤ 4194304 → IsTextOf input script → IsAnswerTo Command.Trace input answer) }
+        → IsShort input → IsTextOf input script → IsAnswerTo Command.Trace input answer) }
 {
     Ok(Answer {
         status: Status::Done,
@@ -55,7 +56,7 @@ fn answer_for(alloc: Global, script: Script) -> Result<Answer, AllocError>
 fn report_of(alloc: Global, script: Script) -> Result<Vec<u8>, AllocError>
     requires { IsScript script }
     ensures { IfOk result (λ text. (input : List ℕ)
-        → length input ≤ 4194304 → IsTextOf input script → TellsTraceAccepted input text.items) }
+        → IsShort input → IsTextOf input script → TellsTraceAccepted input text.items) }
 {
     account_is_right();
     orders_are_of_replies_and_pairs();

@@ -1,4 +1,5 @@
 -- The program that runs after a try is of a request before `upto`, if the request that was tried is.
+-- Used by `go_session`.
 use Rattle.std.proofs.Common.{◌≡◌, inl, inr, ℕ, ◌-◌, ◌<◌, Bool, true, false, List, [], ◌∷◌, Option, None, Some, refl, sym, ap, ◌∙◌, subst}
 use Rattle.std.specs.Prelude.{is_some, slice_get, if◌then◌else◌}
 use Rattle.std.specs.Option.{ForSome}
@@ -9,7 +10,7 @@ use Rattle.weaver_core.specs.declared.client.Client.{Client}
 use Rattle.weaver_core.specs.declared.walks.Running.{Running}
 use Rattle.weaver_core.specs.Clients.{log_of, requests_in, unanswered_in}
 use Rattle.weaver_locks.specs.declared.shared.Shared.{Shared}
-use Rattle.weaver_workers.specs.ClientWork.{Does, Goes, IsSameWalk, RunsRequestBelow, Stand}
+use Rattle.weaver_workers.specs.ClientWork.{DoesOneCall, Goes, RunsSameProgram, RunsRequestBelow, Stand}
 use Rattle.weaver_workers.specs.Keeping.{KeepsClient}
 
 -- none runs
@@ -21,7 +22,7 @@ one-below : (upto : ℕ) (client : Client) (one : Running) → client.running �
 one-below upto client one is low other at = subst (λ (r : Running). r.request < upto) (same_Some one other (sym is ∙ at)) low
 
 -- the same one goes on
-same-below : (upto : ℕ) (was is : Option Running) → IsSameWalk was is → ForSome was (λ (one : Running). one.request < upto)
+same-below : (upto : ℕ) (was is : Option Running) → RunsSameProgram was is → ForSome was (λ (one : Running). one.request < upto)
     → ForSome is (λ (one : Running). one.request < upto)
 same-below upto None is none below one at = absurd (none-some one (sym none ∙ at))
 same-below upto (Some was) None impossible below one at = absurd impossible
@@ -31,7 +32,7 @@ same-below upto (Some was) (Some is) same below one at =
 
 module _ (shared : Shared) (script : Script) (number upto : ℕ) where
   -- after one thing done
-  does-below : (old new : Stand) → Does shared script number upto old new → RunsRequestBelow upto old.client → RunsRequestBelow upto new.client
+  does-below : (old new : Stand) → DoesOneCall shared script number upto old new → RunsRequestBelow upto old.client → RunsRequestBelow upto new.client
   does-below old new (inl change) below = none-below upto new.client change.running
   does-below old new (inr (inl start)) below = one-below upto new.client _ start.running start.next.below
   does-below old new (inr (inr (inl visit))) below =

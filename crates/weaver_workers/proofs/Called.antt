@@ -1,7 +1,8 @@
 -- Each call of a hand that begins nothing.
+-- Used by `nudge`, `other_calls_only_carry` and There.
 use Rattle.std.proofs.Common.{ℕ, Bool, true, false, [], ◌∷◌, Contains, refl}
 use Rattle.std.specs.Prelude.{IsTrue, Result, Ok, Err, is_some, if◌then◌else◌}
-use Rattle.proof_base.proofs.Members.{has_none}
+use Rattle.weave_data.proofs.Members.{has_none}
 use Rattle.weave_entries.specs.declared.message.Message.{Message}
 use Rattle.weave_entries.specs.declared.shard_log.ShardEntry.{ShardEntry}
 use Rattle.weave_entries.specs.ShardReplay.{arrived_at}

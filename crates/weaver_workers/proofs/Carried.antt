@@ -1,10 +1,11 @@
 -- Calls that begin nothing, one after another.
+-- Used by `other_calls_only_carry`, Called, Deeds, Going, ReadOn and There.
 use Rattle.std.proofs.Common.{◌≡◌, ℕ, Bool, true, List, [], ◌∷◌, ◌++◌, length, get_or, set, Contains, inl, inr, refl, sym, ap, ◌∙◌, subst, arith, append_assoc}
 use Rattle.std.specs.Prelude.{IsTrue}
 use Rattle.std.proofs.lemmas.Bool.{cases_lt, cases_eq}
 use Rattle.std.proofs.lemmas.List.{append-nil, get_or_past, get_or-set_same, get_or-set_other, length-set}
 use Rattle.std.proofs.lemmas.List.Elements.{Contains-append_cases}
-use Rattle.proof_base.proofs.Members.{has_none, only}
+use Rattle.weave_data.proofs.Members.{has_none, only}
 use Rattle.weave_entries.specs.declared.gate_log.GateEntry.{GateEntry}
 use Rattle.weave_entries.specs.declared.shard_log.ShardEntry.{ShardEntry}
 use Rattle.weave_account.specs.declared.account.Account.{Account}
@@ -90,7 +91,7 @@ made-none old new none = record {
       (sym none.made) (gains-none (λ (e : ShardEntry). is_bringing e.deed) _);
 }
 
--- entries of a gatekeeper that tell
+-- entries of a gatekeeper that hear a clock or send an empty message
 pub at-gate : (shards : ℕ) (old new : Hand) (gate : ℕ) (before added : List GateEntry) → WasAtGate shards old new gate before added
     → ((entry : GateEntry) → Contains added entry → IsTrue (is_telling entry.deed)) → OnlyCarries old new
 at-gate shards old new gate before added was pass = record {

@@ -1,17 +1,15 @@
--- Deeds of a session, and what a worker has done with them.
-use Rattle.std.proofs.Common.{◌≡◌, inl, inr, ℕ, zero, suc, ◌<◌, ◌≤◌, List, [], ◌∷◌, ◌++◌, length, get_or, Option, Some, None, Err, refl, sym, ap, ◌∙◌, subst, arith}
+-- Each thing that a client's worker does, with room reserved first, leaves it able to go on (`WorkerGoesOn`).
+-- Used by `finish_look`, `go_client`, `start_look` and `try_change`.
+use Rattle.std.proofs.Common.{◌≡◌, inl, inr, ℕ, zero, suc, ◌<◌, ◌≤◌, List, [], ◌∷◌, length, get_or, Option, Some, None, Err, refl, sym, ap, ◌∙◌, subst, arith}
 use Rattle.std.specs.Prelude.{is_some, slice_get, IsTrue}
 use Rattle.std.proofs.lemmas.List.{append-nil}
 use Rattle.std.proofs.lemmas.Option.{none-some, same_Some, slice_get-get_or}
 use Rattle.graph_ops.specs.declared.op.Op.{Op}
 use Rattle.vector_stamp.specs.declared.clock.Stamp.{Stamp}
-use Rattle.path_program.specs.AnyPrograms.{any_of, HasRead}
-use Rattle.path_program.specs.declared.any.AnyProgram.{AnyProgram}
 use Rattle.program_defs.specs.declared.program.Answer.{Answer}
-use Rattle.program_defs.specs.declared.program.Program.{Program}
 use Rattle.program_defs.specs.declared.script.Request.{Request}
 use Rattle.program_defs.specs.declared.script.Script.{Script}
-use Rattle.program_defs.specs.declared.script.Work.TheVariants.{Change, Look}
+use Rattle.program_defs.specs.declared.script.Work.TheVariants.{Change}
 use Rattle.program_defs.specs.Limits.{IsWithinLimits}
 use Rattle.program_defs.specs.Works.{ops_of}
 use Rattle.report_rules.specs.declared.report.ReplyState.TheVariants.{Finished}
@@ -31,13 +29,13 @@ use Rattle.weaver_locks.specs.declared.hand.Hand.{Hand}
 use Rattle.weaver_locks.specs.declared.shared.Shared.{Shared}
 use Rattle.weaver_locks.specs.Hands.{IsHand}
 use Rattle.weaver_locks.specs.Locks.{gate_count, shard_count}
-use Rattle.weaver_hands.specs.Programs.{Finishes}
+use Rattle.weaver_hands.specs.Programs.{HandFinishes}
 use Rattle.weaver_hands.specs.declared.fault.HandFault.{HandFault}
 use Rattle.weaver_hands.specs.declared.fault.HandFault.TheVariants as hand
-use Rattle.weaver_hands.specs.Transactions.{Starts, Transacts, TransactsAs}
+use Rattle.weaver_hands.specs.Transactions.{Transacts, TransactsAs}
 use Rattle.weaver_workers.specs.declared.tried.Tried.{Tried}
 use Rattle.weaver_workers.specs.declared.tried.Tried.TheVariants.{Busy as AtGate}
-use Rattle.weaver_workers.specs.ClientWork.{reply_with, DoesChange, DoesFinish, DoesStart, GoesOn, IsNextRequest}
+use Rattle.weaver_workers.specs.ClientWork.{reply_with, DoesChange, DoesFinish, DoesStart, WorkerGoesOn, IsNextRequest}
 use Rattle.weaver_workers.specs.KeepLaws.{KeepLaws}
 use Rattle.weaver_workers.specs.Keeping.{KeepsClient}
 use Rattle.weaver_workers.specs.Turning.{stand, tried_at, GainsReply, Tries}
@@ -58,17 +56,17 @@ module _ (laws : KeepLaws) where
   module _ (shared : Shared) (script : Script) (number upto : ℕ) (old new : Hand) (client reserved after : Client)
       (keeps : KeepsClient shared script number old client) (same : IsSameClient client reserved) (is_hand : IsHand shared new) where
     -- room was taken first
-    first : GoesOn shared script number upto (stand old client) (stand old reserved)
+    first : WorkerGoesOn shared script number upto (stand old client) (stand old reserved)
     first = goes-reserve shared script number upto laws (stand old client) (stand old reserved) keeps refl same
 
-    onward : GoesOn shared script number upto (stand old reserved) (stand new after) → GoesOn shared script number upto (stand old client) (stand new after)
+    onward : WorkerGoesOn shared script number upto (stand old reserved) (stand new after) → WorkerGoesOn shared script number upto (stand old client) (stand new after)
     onward second = goes-then shared script number upto (stand old client) (stand old reserved) (stand new after) first second
 
     -- a program was finished
-    pub finished : (running : Running) → reserved.running ≡ Some running → (answer : Answer) → Finishes (shard_count shared) old new running answer
+    pub finished : (running : Running) → reserved.running ≡ Some running → (answer : Answer) → HandFinishes (shard_count shared) old new running answer
         → AddsDeed number reserved after (Replied running.request)
         → values_of after ≡ with_reply (values_of reserved) (reply_with running.request running.stamp (Finished answer))
-        → GoesOn shared script number upto (stand old client) (stand new after)
+        → WorkerGoesOn shared script number upto (stand old client) (stand new after)
     finished running is answer finishes adds values =
         let runs = first.keeps.running running is in
         let does : DoesFinish shared number (stand old reserved) (stand new after) = record {
@@ -91,7 +89,7 @@ module _ (laws : KeepLaws) where
         → asked.gate < gate_count shared → (stamp : Stamp) (verdict : Verdict)
         → Transacts (shard_count shared) old new asked.gate r ops reserved.session.last stamp verdict
         → GainsReply number reserved after r stamp (state_by_verdict verdict)
-        → GoesOn shared script number upto (stand old client) (stand new after)
+        → WorkerGoesOn shared script number upto (stand old client) (stand new after)
     changed r asked next ops work low stamp verdict transacts answered =
         let does : DoesChange shared script number upto (stand old reserved) (stand new after) = record {
           r = r;
@@ -111,36 +109,14 @@ module _ (laws : KeepLaws) where
         (change-keeps laws shared script number (stand old reserved) (stand new after) first.keeps is_hand upto answered.at_end does low answered.session))
 
     -- a program was begun
-    pub started : (r : ℕ) (asked : Request) → IsNextRequest script upto reserved r asked → (program : Program) → asked.work ≡ Look program
-        → asked.gate < gate_count shared → (stamp : Stamp) → Starts (shard_count shared) old new asked.gate r reserved.session.last stamp
-        → (walk : AnyProgram) → any_of walk ≡ program → HasRead walk []
-        → IsClientOf number after.session after.log.items → after.session ≡ session_after reserved.session (Begun r stamp)
-        → requests_in after ≡ requests_in reserved
-        → log_of after ≡ log_of reserved ++ record { author = number; deed = Begun r stamp } ∷ []
-        → after.running ≡ Some (record { request = r; stamp = stamp; walk = walk })
-        → after.replies.items ≡ reserved.replies.items
-        → GoesOn shared script number upto (stand old client) (stand new after)
-    started r asked next program work low stamp starts walk program_is unread at_end session requests log running replies =
-        let does : DoesStart shared script number upto (stand old reserved) (stand new after) = record {
-          r = r;
-          asked = asked;
-          next = next;
-          program = program;
-          work_is = work;
-          stamp = stamp;
-          starts = starts;
-          walk = walk;
-          program_is = program_is;
-          unread = unread;
-          requests = requests;
-          log = log;
-          running = running;
-          replies = replies;
-        } in
+    pub started : (does : DoesStart shared script number upto (stand old reserved) (stand new after)) → does.asked.gate < gate_count shared
+        → IsClientOf number after.session after.log.items → after.session ≡ session_after reserved.session (Begun does.r does.stamp)
+        → WorkerGoesOn shared script number upto (stand old client) (stand new after)
+    started does low at_end session =
         onward (goes-one shared script number upto (stand old reserved) (stand new after) (inr (inl does))
         (start-keeps laws shared script number (stand old reserved) (stand new after) first.keeps is_hand upto at_end does low session))
 
-    -- a transaction was not begun
+    -- the gatekeeper was busy, so no transaction was begun
     pub refused : (r : ℕ) (asked : Request) → IsNextRequest script upto reserved r asked → (ops : List Op) → asked.work ≡ Change ops
         → (last : Option Stamp) (fault : HandFault) (answer : Tried)
         → TransactsAs (shard_count shared) old new asked.gate r ops last (Err fault) → tried_at asked.gate fault ≡ Some answer
@@ -168,13 +144,13 @@ module _ (laws : KeepLaws) where
     refused r asked next ops work last (hand.Waits vertex) answer none is = absurd none
     refused r asked next ops work last hand.Memory answer none is = absurd (none-some answer is)
 
--- where no element is, the list has ended
+-- if no element is at a place, the list has ended before it
 none-past : {A : Type 0} (xs : List A) (i : ℕ) → slice_get xs i ≡ None → length xs ≤ i
 none-past [] i none = omega arith
 none-past (x ∷ xs) zero none = absurd (none-some x (sym none))
 none-past (x ∷ xs) (suc i) none = let rest = none-past xs i none in omega (arith, rest)
 
--- a request's operations are few
+-- a request has at most 64 operations, so fewer than 2^31
 pub few-ops : (script : Script) → IsWithinLimits script → (r : ℕ) (ops : List Op) → r < length script.requests
     → ((asked : Request) → request_at script r ≡ Some asked → asked.work ≡ Change ops) → length ops < 2147483648
 few-ops script limits r ops low work = at (request_at script r) refl

@@ -1,9 +1,10 @@
 -- What a client's worker keeps stays after each thing that it does.
+-- Used by Deeds, Going, ReadOn and StillKept.
 use Rattle.std.proofs.Common.{◌≡◌, ◌≢◌, ◌⊎◌, ℕ, ◌+◌, ◌-◌, ◌<◌, ◌≤◌, List, [], ◌∷◌, get_or, Contains, Option, Some, None, refl, sym, ap, ◌∙◌, subst, arith}
 use Rattle.std.specs.Prelude.{is_some, slice_get}
 use Rattle.std.specs.Option.{ForSome}
 use Rattle.std.proofs.lemmas.Option.{none-some, same_Some}
-use Rattle.proof_base.proofs.Members.{has_none, only}
+use Rattle.weave_data.proofs.Members.{has_none, only}
 use Rattle.vector_stamp.specs.declared.clock.Stamp.{Stamp}
 use Rattle.program_defs.specs.declared.program.Program.{Program}
 use Rattle.program_defs.specs.declared.script.Script.{Script}
@@ -32,7 +33,7 @@ use Rattle.weaver_hands.specs.Programs.{own_reads, IsRunning, ReadsNoMore}
 use Rattle.program_defs.specs.Agreement.{AreSameReads}
 use Rattle.seen_logs.specs.Seen.{since}
 use Rattle.weaver_workers.specs.Carrying.{OnlyCarries}
-use Rattle.weaver_workers.specs.ClientWork.{DoesCarry, DoesChange, DoesFinish, DoesStart, DoesVisit, IsSameSession, IsSameWalk, Stand}
+use Rattle.weaver_workers.specs.ClientWork.{DoesCarry, DoesChange, DoesFinish, DoesStart, DoesVisit, IsSameSession, RunsSameProgram, Stand}
 use Rattle.weaver_workers.specs.KeepLaws.{KeepLaws}
 use Rattle.weaver_workers.specs.Keeping.{IsFresh, IsRunningFor, KeepsClient}
 use Rattle.weaver_workers.proofs.Landed.{LandedIn}
@@ -99,7 +100,7 @@ module _ (laws : KeepLaws) (shared : Shared) where
     }
 
     -- a program that is running goes on, when the hand only carries
-    walk-still : (was is : Option Running) → IsSameWalk was is → OnlyCarries old.hand new.hand → new.client.session ≡ old.client.session
+    walk-still : (was is : Option Running) → RunsSameProgram was is → OnlyCarries old.hand new.hand → new.client.session ≡ old.client.session
         → ForSome was (IsRunningFor shared script old.hand old.client.session)
         → ForSome is (IsRunningFor shared script new.hand new.client.session)
     walk-still None is none only session runs = none-running _ is none
@@ -117,7 +118,7 @@ module _ (laws : KeepLaws) (shared : Shared) where
               (alone-still old.hand new.hand only was.request) for.runs);
         })
 
-    runs-alike : (was is : Option Running) → IsSameWalk was is → is_some is ≡ is_some was
+    runs-alike : (was is : Option Running) → RunsSameProgram was is → is_some is ≡ is_some was
     runs-alike None is none = ap is_some none
     runs-alike (Some was) None impossible = absurd impossible
     runs-alike (Some was) (Some is) same = refl

@@ -1,11 +1,12 @@
 -- What a read of a running program leaves of the worker.
+-- Used by `go_client`, `go_session`, `look_on`, `read_all`, `read_next`, 5 more and crate workers_account.
 use Rattle.std.proofs.Common.{◌≡◌, inl, inr, ℕ, ◌<◌, ◌≤◌, List, [], drop, length, map, Contains, Option, Some, Result, Ok, Err, refl, sym, ap, ◌∙◌, subst}
 use Rattle.std.specs.Prelude.{IfOk}
 use Rattle.std.proofs.Math.Seq.{drop-nil}
 use Rattle.std.proofs.lemmas.Bool.{cases_lt}
 use Rattle.std.proofs.lemmas.List.{append-nil, get_or_past, length-map}
 use Rattle.std.proofs.lemmas.Option.{none-some, same_Some}
-use Rattle.proof_base.proofs.Members.{has_none}
+use Rattle.weave_data.proofs.Members.{has_none}
 use Rattle.vector_stamp.specs.declared.clock.Stamp.{Stamp}
 use Rattle.program_defs.specs.declared.script.Script.{Script}
 use Rattle.weave_entries.specs.declared.gate_log.GateDeed.{GateDeed}
@@ -30,7 +31,7 @@ use Rattle.weaver_workers.specs.declared.ended.Ended.{Ended}
 use Rattle.weaver_workers.specs.declared.ended.Ended.TheVariants as ended
 use Rattle.weaver_workers.specs.declared.tried.Tried.{Tried}
 use Rattle.weaver_workers.specs.declared.tried.Tried.TheVariants as tried
-use Rattle.weaver_workers.specs.ClientWork.{DoesCarry, DoesVisit, EndsAs, IsSameWalk, Stand, RunsRequestBelow}
+use Rattle.weaver_workers.specs.ClientWork.{DoesCarry, DoesVisit, WorkerEndsAs, RunsSameProgram, Stand, RunsRequestBelow}
 use Rattle.weaver_workers.specs.KeepLaws.{KeepLaws}
 use Rattle.weaver_workers.specs.Turning.{stand, IsEndOf, KeepsOn, ReadAs, RunsIn, TriedAs, ReadsNextVertex}
 use Rattle.weaver_workers.proofs.Carried.{carries-none, nothing-at-shard}
@@ -93,18 +94,18 @@ module _ (laws : KeepLaws) (shared : Shared) where
     abbrev after : Client
     after = record client { running = Some is }
 
-    walks-with : IsSameWalk (Some was) (Some is) → OnlyCarries old new → KeepsOn shared (stand old client) (stand new after)
+    walks-with : RunsSameProgram (Some was) (Some is) → OnlyCarries old new → KeepsOn shared (stand old client) (stand new after)
     walks-with same only = carries-keep-on (stand old client) (stand new after) is_hand (record {
       only = only;
       same = record { session = refl; log = refl; replies = refl };
-      running = subst (λ (o : Option Running). IsSameWalk o (Some is)) (sym running_is) same;
+      running = subst (λ (o : Option Running). RunsSameProgram o (Some is)) (sym running_is) same;
     })
 
     -- after a read, or none
     pub read-goes : (read : Read) → ReadsNextVertex (gate_count shared) (shard_count shared) old new was is read
         → KeepsOn shared (stand old client) (stand new after)
     read-goes Over did =
-        walks-with (subst (λ (r : Running). IsSameWalk (Some was) (Some r)) (sym did.0.1) (same-walk (Some was)))
+        walks-with (subst (λ (r : Running). RunsSameProgram (Some was) (Some r)) (sym did.0.1) (same-walk (Some was)))
         (subst (λ (h : Hand). OnlyCarries old h) (sym did.0.0) (carries-none old))
     read-goes More visits = λ script number upto keeps.
         let does : DoesVisit shared (stand old client) (stand new after) = record {
@@ -146,10 +147,10 @@ if-both (Err e) leads p q = tt
 
 -- a worker that ends after a try ends as the try answered
 pub ends-by : (shared : Shared) (script : Script) (upto : ℕ) (new : Stand) (try : Tried) (end : Option Ended) (last : Ended) → IsEndOf try end
-    → end ≡ Some last → TriedAs shared script upto new try → RunsRequestBelow upto new.client → EndsAs shared script upto new last
+    → end ≡ Some last → TriedAs shared script upto new try → RunsRequestBelow upto new.client → WorkerEndsAs shared script upto new last
 ends-by shared script upto new tried.Replied end last by is as_tried below = absurd (none-some last (sym by ∙ is))
 ends-by shared script upto new (tried.Busy gate) end last (inl none) is as_tried below = absurd (none-some last (sym none ∙ is))
 ends-by shared script upto new (tried.Busy gate) end last (inr by) is as_tried below =
-    subst (EndsAs shared script upto new) (same_Some (ended.Busy gate) last (sym by ∙ is)) as_tried
+    subst (WorkerEndsAs shared script upto new) (same_Some (ended.Busy gate) last (sym by ∙ is)) as_tried
 ends-by shared script upto new (tried.NotYet shard gate) end last by is as_tried below =
-    subst (EndsAs shared script upto new) (same_Some (ended.NotYet shard gate) last (sym by ∙ is)) (as_tried, below)
+    subst (WorkerEndsAs shared script upto new) (same_Some (ended.NotYet shard gate) last (sym by ∙ is)) (as_tried, below)

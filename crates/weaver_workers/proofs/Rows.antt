@@ -1,4 +1,5 @@
 -- Logs of gatekeepers of which one goes on, once or twice.
+-- Used by Answered, Kept, Transacted and crate workers_account.
 use Rattle.std.proofs.Common.{◌≡◌, ◌≢◌, ℕ, ◌<◌, List, [], ◌++◌, length, map, get_or, ◌∙◌, subst}
 use Rattle.std.proofs.lemmas.List.{get_or-set_other, get_or-set_same, length-map, length-set}
 use Rattle.std.proofs.lemmas.Option.{get_or_from_slice_get, slice_get_within}
@@ -28,7 +29,7 @@ pub still : (account : Account) (gate home : ℕ) (added : List GateEntry) → h
     → gate_log (with_gate_entries gate added account) home ≡ gate_log account home
 still account gate home added other = get_or-set_other account.gates gate home (gate_log account gate ++ added) [] other
 
--- as many
+-- the number of gatekeepers' logs is as before
 pub as-many : (account : Account) (gate : ℕ) (added : List GateEntry)
     → length (with_gate_entries gate added account).gates ≡ length account.gates
 as-many account gate added = length-set account.gates gate (gate_log account gate ++ added)

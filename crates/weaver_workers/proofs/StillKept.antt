@@ -1,4 +1,5 @@
 -- A hand goes on with the session for which it made a call.
+-- Used by `hands_go_on`.
 use Rattle.std.proofs.Common.{◌≡◌, inl, inr, ℕ, ◌<◌, List, [], ◌∷◌, ◌++◌, Some, sym, ap, ◌∙◌, subst}
 use Rattle.std.specs.Option.{ForSome}
 use Rattle.program_defs.specs.declared.script.Request.{Request}
@@ -12,7 +13,7 @@ use Rattle.weaver_locks.specs.declared.shared.Shared.{Shared}
 use Rattle.weaver_locks.specs.Hands.{IsHand}
 use Rattle.weaver_locks.specs.Locks.{gate_count}
 use Rattle.weaver_hands.specs.Programs.{IsRunning}
-use Rattle.weaver_workers.specs.ClientWork.{begun_entry, replied_entry, Does, Stand}
+use Rattle.weaver_workers.specs.ClientWork.{begun_entry, replied_entry, DoesOneCall, Stand}
 use Rattle.weaver_workers.specs.KeepLaws.{KeepLaws}
 use Rattle.weaver_workers.specs.Keeping.{AreLocksOf, KeepsClient}
 use Rattle.weaver_workers.proofs.Kept.{carry-keeps, change-keeps, finish-keeps, start-keeps, visit-keeps}
@@ -41,7 +42,7 @@ module _ (laws : KeepLaws) (shared : Shared) (script : Script) (s upto : ℕ) (w
       ∙ ap (λ (x : SessionState). session_after x second.deed) (laws.replay (requests_in old.client) (log_of old.client) first)
       ∙ ap (λ (x : SessionState). session_after (session_after x first.deed) second.deed) (sym keeps.at_end.state)
 
-  pub still-kept : Does shared script s upto old new → KeepsClient shared script s new.hand new.client
+  pub still-kept : DoesOneCall shared script s upto old new → KeepsClient shared script s new.hand new.client
   still-kept (inl change) =
       change-keeps laws shared script s old new keeps is_hand upto at_end change (gate-low change.r change.asked change.next.request_is)
       (after-two (begun_entry s change.r change.stamp) (replied_entry s change.r) change.requests change.log)

@@ -1,10 +1,11 @@
 -- Calls at one gatekeeper, or at one shard.
+-- Used by `apply_all`, `apply_channel`, `apply_head`, `apply_round`, `bring_all`, `bring_from` and 18 more.
 use Rattle.std.proofs.Common.{◌≡◌, ◌≢◌, ℕ, ◌+◌, ◌<◌, arith, inl, inr, true, false, List, [], ◌∷◌, ◌++◌, zero, suc, length, get_or, set, Result, Ok, Err, refl, sym, ap, ◌∙◌, subst}
 use Rattle.std.specs.Prelude.{◌⊎◌, Bool, Contains, OnOk, Option, Some, None}
 use Rattle.std.proofs.lemmas.Bool.{cases_lt}
 use Rattle.std.proofs.lemmas.List.{append-nil, get_or-set_other, get_or-set_same, length-map}
 use Rattle.std.proofs.lemmas.List.Elements.{Contains-append_left, Contains-append_right}
-use Rattle.proof_base.proofs.Members.{has_head}
+use Rattle.weave_data.proofs.Members.{has_head}
 use Rattle.vector_stamp.specs.declared.clock.Clock.{Clock}
 use Rattle.weave_entries.specs.declared.gate_log.GateEntry.{GateEntry}
 use Rattle.weave_entries.specs.declared.gate_log.GateDeed.TheVariants.{Heard}
@@ -24,7 +25,7 @@ use Rattle.weaver_hands.specs.Leaving.{MadeNone}
 use Rattle.weaver_hands.specs.Messages.{is_sent, AppliesAs, BringsAs, PullsAs}
 use Rattle.weaver_hands.specs.declared.messages.Pulled.{Pulled}
 use Rattle.weaver_hands.specs.declared.messages.Pulled.TheVariants.{Unsent, Known, New}
-use Rattle.weaver_hands.specs.Telling.{NopsAs, Tells, TellsAs}
+use Rattle.weaver_hands.specs.Telling.{NopsAs, TellsClock, TellsAs}
 use Rattle.weaver_workers.specs.Carrying.{is_telling, AreTold, CarriesAtGate, CarriesAtShard, HasHeard, HasSaid, HasTold, IsAtGate, IsAtNoOtherShard, IsAtShard, IsUpToDate, IsUpToDateBelow, OnlyCarries}
 use Rattle.seen_logs.proofs.Within.{onward}
 use Rattle.weaver_workers.proofs.Carried.{at-gate, nothing-at-gate, one-passes}
@@ -87,7 +88,7 @@ none-at-this-shard old new shard none = record {
 }
 
 -- one hold made nothing, and the next one's entry was added
-told-made : (shards : ℕ) (old new : Hand) (from to : ℕ) → (tells : Tells shards old new from to)
+told-made : (shards : ℕ) (old new : Hand) (from to : ℕ) → (tells : TellsClock shards old new from to)
     → made_by new ≡ with_gate_entries to (gate_entry_by tells.told (Heard tells.clock) ∷ []) (made_by old)
 told-made shards old new from to tells = tells.hears.made
     ∙ ap (with_gate_entries to (gate_entry_by tells.told (Heard tells.clock) ∷ [])) (none-at-gate old tells.told from tells.said tells.says).made
@@ -229,9 +230,9 @@ then-at-shard old mid new shard none there at other = there.shards at other ∙ 
 
 -- What was heard
 
--- a gatekeeper that is told has heard
+-- a gatekeeper that was told a clock has heard it
 pub heard-now : (shared : Shared) (shards : ℕ) (old new : Hand) (from to : ℕ) → IsHand shared old → to < gate_count shared
-    → Tells shards old new from to → HasHeard old new to from
+    → TellsClock shards old new from to → HasHeard old new to from
 heard-now shared shards old new from to is low tells =
     let made = told-made shards old new from to tells in
     let entry : GateEntry = gate_entry_by tells.told (Heard tells.clock) in
@@ -268,7 +269,7 @@ pub was-said : (shards : ℕ) (old new : Hand) (from : ℕ) (before : List GateE
 was-said shards old new from before clock was is =
     record { said = before; late = was.found; seen = ([], was.left); clock_is = is }
 
--- one in which a clock was heard, or no memory was left
+-- one in which a clock was heard, or memory ran out
 pub hears-there : {F : Type 0} (shared : Shared) (shards : ℕ) (old new : Hand) (to : ℕ) (before : List GateEntry) (clock : Clock)
     (result : Result (Unit {0}) F) → IsHand shared new
     → WasAtGate shards old new to before (gate_entries_of old (λ _. Heard clock) result) → CarriesAtGate shared to old new

@@ -1,4 +1,4 @@
--- What hands do that begin nothing: clocks are told, empty messages are sent, messages are brought and processed.
+-- What hands do that begin nothing: clocks are passed on, empty messages are sent, messages are brought and processed.
 use Rattle.std.specs.Prelude.{◌≡◌, ◌≢◌, ℕ, ◌<◌, Bool, true, false, List, ◌++◌, slice_index_or, Contains, IsTrue, Option, Some, None}
 use Rattle.vector_stamp.specs.declared.clock.Clock.{Clock}
 use Rattle.weave_entries.specs.declared.gate_log.GateEntry.{GateEntry}

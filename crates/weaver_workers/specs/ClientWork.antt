@@ -31,7 +31,7 @@ use Rattle.weaver_locks.specs.declared.hand.Hand.{Hand}
 use Rattle.weaver_locks.specs.declared.shared.Shared.{Shared}
 use Rattle.weaver_locks.specs.Hands.{seen_by}
 use Rattle.weaver_locks.specs.Locks.{gate_count, shard_count}
-use Rattle.weaver_hands.specs.Programs.{Finishes, ReadsNoMore, Visits}
+use Rattle.weaver_hands.specs.Programs.{HandFinishes, ReadsNoMore, Visits}
 use Rattle.weaver_hands.specs.Transactions.{Starts, Transacts}
 use Rattle.weaver_workers.specs.declared.ended.Ended.{Ended}
 use Rattle.weaver_workers.specs.declared.ended.Ended.TheVariants.{Done, Busy, NotYet}
@@ -54,7 +54,7 @@ replied_entry number r = record { author = number; deed = Replied r }
 abbrev pub reply_with : ℕ → Stamp → ReplyState → Reply
 reply_with r stamp state = record { request = r; stamp = Some stamp; state = state }
 
--- this request of the script is the session's next one, and stands before `upto`
+-- this request of the script is the session's next one, and is before `upto`
 pub record IsNextRequest (script : Script) (upto : ℕ) (client : Client) (r : ℕ) (asked : Request) : Type 0 where
   pub request_is : request_at script r ≡ Some asked
   pub turn : IsInTurn client.session r
@@ -117,7 +117,7 @@ pub record DoesFinish (shared : Shared) (number : ℕ) (old new : Stand) : Type 
   pub before : Running
   pub before_is : old.client.running ≡ Some before
   pub answer : Answer
-  pub finishes : Finishes (shard_count shared) old.hand new.hand before answer
+  pub finishes : HandFinishes (shard_count shared) old.hand new.hand before answer
   pub requests : requests_in new.client ≡ requests_in old.client
   pub log : log_of new.client ≡ log_of old.client ++ replied_entry number before.request ∷ []
   pub running : new.client.running ≡ None
@@ -125,20 +125,20 @@ pub record DoesFinish (shared : Shared) (number : ℕ) (old new : Stand) : Type 
       ≡ old.client.replies.items ++ reply_with before.request before.stamp (Finished answer) ∷ []
 
 -- the same program runs and has read the same, or none runs
-abbrev pub IsSameWalk : Option Running → Option Running → Type 0
-IsSameWalk None is = is ≡ None
-IsSameWalk (Some was) None = ⊥
-IsSameWalk (Some was) (Some is) = ReadsNoMore was is
+abbrev pub RunsSameProgram : Option Running → Option Running → Type 0
+RunsSameProgram None is = is ≡ None
+RunsSameProgram (Some was) None = ⊥
+RunsSameProgram (Some was) (Some is) = ReadsNoMore was is
 
--- The hand told clocks, sent empty messages, brought messages and had them processed, or did nothing.
+-- The hand passed on clocks, sent empty messages, brought messages and had them processed, or did nothing.
 pub record DoesCarry (old new : Stand) : Type 0 where
   pub only : OnlyCarries old.hand new.hand
   pub same : IsSameSession old.client new.client
-  pub running : IsSameWalk old.client.running new.client.running
+  pub running : RunsSameProgram old.client.running new.client.running
 
 -- one of these
-abbrev pub Does : Shared → Script → ℕ → ℕ → Stand → Stand → Type 0
-Does shared script number upto old new = DoesChange shared script number upto old new
+abbrev pub DoesOneCall : Shared → Script → ℕ → ℕ → Stand → Stand → Type 0
+DoesOneCall shared script number upto old new = DoesChange shared script number upto old new
     ⊎ (DoesStart shared script number upto old new
     ⊎ (DoesVisit shared old new
     ⊎ (DoesFinish shared number old new
@@ -146,16 +146,16 @@ Does shared script number upto old new = DoesChange shared script number upto ol
 
 -- One after another
 
--- These stands lead from one to another: each comes from the one before by one thing done, and the last is the other.
+-- These stands lead from `old` to `new`: each comes from the one before by one thing done, and the last is `new`.
 -- With none they are the same.
 abbrev pub Goes : Shared → Script → ℕ → ℕ → Stand → List Stand → Stand → Type 0
 Goes shared script number upto old [] new = old ≡ new
 Goes shared script number upto old (next ∷ path) new =
-    (Does shared script number upto old next × KeepsClient shared script number next.hand next.client)
+    (DoesOneCall shared script number upto old next × KeepsClient shared script number next.hand next.client)
     × Goes shared script number upto next path new
 
 -- A worker went on with its session: all that it did to the logs and to its client is this, and it can go on.
-pub record GoesOn (shared : Shared) (script : Script) (number upto : ℕ) (old new : Stand) : Type 0 where
+pub record WorkerGoesOn (shared : Shared) (script : Script) (number upto : ℕ) (old new : Stand) : Type 0 where
   pub path : List Stand
   pub went : Goes shared script number upto old path new
   pub keeps : KeepsClient shared script number new.hand new.client
@@ -176,8 +176,8 @@ pub record FoundGateBusy (script : Script) (upto : ℕ) (new : Stand) (gate : �
   pub gate_is : asked.gate ≡ gate
   pub busy : IsTrue (is_some (flight_of (gate_log (seen_by new.hand) gate)))
 
--- The session's program is running, and the shard of its next vertex was not ready for it, as the hand has seen: this is
--- the least gatekeeper for which it was not.
+-- The session's program is running, and the shard of its next vertex was not ready for it, as the hand has seen: this
+-- is the least gatekeeper for which it was not.
 pub record FoundUnready (shared : Shared) (new : Stand) (shard gate : ℕ) : Type 0 where
   pub running : Running
   pub running_is : new.client.running ≡ Some running
@@ -191,7 +191,8 @@ abbrev pub RunsRequestBelow : ℕ → Client → Type 0
 RunsRequestBelow upto client = ForSome client.running (λ (running : Running). running.request < upto)
 
 -- how a client's worker ends
-abbrev pub EndsAs : Shared → Script → ℕ → Stand → Ended → Type 0
-EndsAs shared script upto new Done = HasReplies upto new.client
-EndsAs shared script upto new (Busy gate) = FoundGateBusy script upto new gate
-EndsAs shared script upto new (NotYet shard gate) = FoundUnready shared new shard gate × RunsRequestBelow upto new.client
+abbrev pub WorkerEndsAs : Shared → Script → ℕ → Stand → Ended → Type 0
+WorkerEndsAs shared script upto new Done = HasReplies upto new.client
+WorkerEndsAs shared script upto new (Busy gate) = FoundGateBusy script upto new gate
+WorkerEndsAs shared script upto new (NotYet shard gate) = FoundUnready shared new shard gate
+    × RunsRequestBelow upto new.client

@@ -1,4 +1,4 @@
--- The laws of the crates below that a client's worker stands on, in one. No public contract cites this.
+-- The laws of the crates below that a client's worker relies on, in one record. No public contract cites this.
 use Rattle.std.specs.Prelude.{◌≡◌, ◌≢◌, ◌↔◌, ℕ, ◌<◌, List, [], ◌∷◌, ◌++◌, take, Contains, IsTrue, Option}
 use Rattle.graph_ops.specs.declared.op.Op.{Op}
 use Rattle.program_defs.specs.declared.program.Answer.{Answer}
@@ -17,7 +17,7 @@ use Rattle.weaver_locks.specs.Following.{HasNotBegun}
 use Rattle.weaver_locks.specs.Hands.{made_by, with_gate_entries, IsHand}
 use Rattle.weaver_locks.specs.Locks.{gate_count, shard_count}
 use Rattle.weaver_hands.specs.Leaving.{LeavesAlone, MakesNoVisit}
-use Rattle.weaver_hands.specs.Programs.{own_reads, Finishes, IsRunning, Visits}
+use Rattle.weaver_hands.specs.Programs.{own_reads, HandFinishes, IsRunning, Visits}
 use Rattle.weaver_hands.specs.Transactions.{Starts, Transacts}
 
 pub record KeepLaws : Type 0 where
@@ -42,7 +42,7 @@ pub record KeepLaws : Type 0 where
   pub visit : (gates shards : ℕ) (old new : Hand) (was is : Running) → Visits gates shards old new was is → (r : ℕ)
       → r ≢ was.request → LeavesAlone old new r
   pub finish : (shards : ℕ) (old new : Hand) (running : Running) (answer : Answer)
-      → Finishes shards old new running answer → (r : ℕ) → MakesNoVisit old new r
+      → HandFinishes shards old new running answer → (r : ℕ) → MakesNoVisit old new r
   -- Programs that were begun
   pub begun : (shared : Shared) (old new : Hand) (gate request : ℕ) (last : Option Stamp) (stamp : Stamp)
       (walk : AnyProgram) → IsHand shared old → IsHand shared new → gate < gate_count shared

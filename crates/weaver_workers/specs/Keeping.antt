@@ -44,8 +44,8 @@ pub record IsRunningFor (shared : Shared) (script : Script) (hand : Hand) (sessi
 
 -- A hand goes on with the session of this number. No transaction of it is in flight. The client has the session's
 -- requests, and is at the end of its log. If the last begun one waits for its reply, it is a program, which is running;
--- else none is. The hand has begun no request that the session has still to begin, and may let a gatekeeper hear the
--- stamp of the last one.
+-- otherwise none is. The hand has begun no request that the session has still to begin, and may let a gatekeeper hear
+-- the stamp of the last one.
 pub record KeepsClient (shared : Shared) (script : Script) (number : ℕ) (hand : Hand) (client : Client) : Type 0 where
   pub is_hand : IsHand shared hand
   pub landed : HasLanded hand

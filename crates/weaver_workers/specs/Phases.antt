@@ -18,6 +18,6 @@ phase_start script phase = if phase == 0 then 0 else phase_end script (phase - 1
 abbrev pub is_program : Script → ℕ → Bool
 is_program script r = is_some_and (λ (request : Request). is_look request.work) (request_at script r)
 
--- how many programs there are among so many requests from this one on
+-- how many programs there are among the `count` requests from this one on
 abbrev pub programs_in : Script → ℕ → ℕ → ℕ
 programs_in script from count = length (filter (is_program script) (range_with_len from count))

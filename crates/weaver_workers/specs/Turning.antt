@@ -1,4 +1,4 @@
--- What a turn of a client's worker answers, and what it leaves. No public contract cites this but for `stand`.
+-- What a turn of a client's worker answers, and what it leaves. No public contract cites this except for `stand`.
 use Rattle.std.specs.Prelude.{◌≡◌, ◌⊎◌, ℕ, nat_lt, if◌then◌else◌, ◌∷◌, ◌++◌, [], Bool, true, false, Option, None, Some, ⊤}
 use Rattle.std.specs.Option.{option_and_then}
 use Rattle.program_defs.specs.declared.script.Script.{Script}
@@ -20,7 +20,7 @@ use Rattle.weaver_workers.specs.declared.reading.Read.{Read}
 use Rattle.weaver_workers.specs.declared.reading.Read.TheVariants as read
 use Rattle.weaver_workers.specs.declared.tried.Tried.{Tried}
 use Rattle.weaver_workers.specs.declared.tried.Tried.TheVariants as tried
-use Rattle.weaver_workers.specs.ClientWork.{begun_entry, replied_entry, reply_with, FoundGateBusy, FoundUnready, GoesOn, Stand}
+use Rattle.weaver_workers.specs.ClientWork.{begun_entry, replied_entry, reply_with, FoundGateBusy, FoundUnready, WorkerGoesOn, Stand}
 use Rattle.weaver_workers.specs.Keeping.{KeepsClient}
 
 -- a hand and its client
@@ -38,7 +38,7 @@ pub record RunsIn (shared : Shared) (at : Stand) : Type 0 where
 -- whichever the session is, the worker went on with it
 abbrev pub KeepsOn : Shared → Stand → Stand → Type 0
 KeepsOn shared old new = (script : Script) (number upto : ℕ) → KeepsClient shared script number old.hand old.client
-    → GoesOn shared script number upto old new
+    → WorkerGoesOn shared script number upto old new
 
 -- what came of a read by its refusal, if it was one of a shard that was not ready
 abbrev pub read_of : HandFault → Option Read
@@ -52,7 +52,8 @@ read_of fault.Memory = None
 abbrev pub ReadsNextVertex : ℕ → ℕ → Hand → Hand → Running → Running → Read → Type 0
 ReadsNextVertex gates shards old new was is read.Over = ((new ≡ old) × (is ≡ was)) × (next_read is.walk ≡ None)
 ReadsNextVertex gates shards old new was is read.More = Visits gates shards old new was is
-ReadsNextVertex gates shards old new was is (read.NotYet shard gate) = FoundNotReady gates shards old new was is shard gate
+ReadsNextVertex gates shards old new was is (read.NotYet shard gate) =
+    FoundNotReady gates shards old new was is shard gate
 
 -- the running program has read all that it visits
 pub record HasReadAll (at : Stand) : Type 0 where
@@ -80,7 +81,7 @@ unready_in (read.NotYet shard gate) = Some shard
 
 -- Tries
 
--- the try ended where a shard was not ready
+-- the try ended, since a shard was not ready
 abbrev pub tried_by : Read → Option Tried
 tried_by read.Over = None
 tried_by read.More = None
@@ -103,7 +104,7 @@ pub record GainsReply (number : ℕ) (old new : Client) (r : ℕ) (stamp : Stamp
   pub running : new.running ≡ None
   pub replies : new.replies.items ≡ old.replies.items ++ reply_with r stamp state ∷ []
 
--- what is so after a try of a request, by what came of it
+-- what holds after a try of a request, by its outcome
 abbrev pub TriedAs : Shared → Script → ℕ → Stand → Tried → Type 0
 TriedAs shared script upto new tried.Replied = ⊤
 TriedAs shared script upto new (tried.Busy gate) = FoundGateBusy script upto new gate
@@ -111,7 +112,7 @@ TriedAs shared script upto new (tried.NotYet shard gate) = FoundUnready shared n
 
 -- a request was tried, and the worker went on with its session's requests before `upto`
 pub record Tries (shared : Shared) (script : Script) (number upto : ℕ) (old new : Stand) (answer : Tried) : Type 0 where
-  pub goes : GoesOn shared script number upto old new
+  pub goes : WorkerGoesOn shared script number upto old new
   pub answered : TriedAs shared script upto new answer
 
 -- the session's first request without a reply, if it comes before `upto`

@@ -10,7 +10,7 @@ use Rattle.weaver_workers.specs.declared.ended.Ended.TheVariants.{Done}
 use Rattle.weaver_workers.specs.declared.worker.Worker.{Worker}
 use Rattle.weaver_workers.specs.declared.worker.Worker.TheVariants.{ClientWork, GateWork, ShardWork}
 use Rattle.weaver_workers.specs.Carrying.{CarriesAtGate, CarriesAtShard}
-use Rattle.weaver_workers.specs.ClientWork.{EndsAs, GoesOn, HasReplies, Stand}
+use Rattle.weaver_workers.specs.ClientWork.{WorkerEndsAs, WorkerGoesOn, HasReplies, Stand}
 use Rattle.weaver_workers.specs.Keeping.{HasLanded, KeepsClient}
 use Rattle.weaver_workers.specs.Phases.{phase_end, phase_start}
 use Rattle.weaver_workers.specs.Turning.{stand}
@@ -33,16 +33,16 @@ pub record IsReadyClient (shared : Shared) (script : Script) (phase : ℕ) (hand
   pub earlier : HasReplies (phase_start script phase) client
 
 -- a worker may do its part of the phase
-abbrev pub IsReady : Shared → Script → ℕ → Worker → Type 0
-IsReady shared script phase (ClientWork hand client) = IsReadyClient shared script phase hand client
-IsReady shared script phase (GateWork hand gate) = IsIdleHand shared hand × (gate < script.gates)
-IsReady shared script phase (ShardWork hand shard) = IsIdleHand shared hand × (shard < script.shards)
+abbrev pub IsReadyForPhase : Shared → Script → ℕ → Worker → Type 0
+IsReadyForPhase shared script phase (ClientWork hand client) = IsReadyClient shared script phase hand client
+IsReadyForPhase shared script phase (GateWork hand gate) = IsIdleHand shared hand × (gate < script.gates)
+IsReadyForPhase shared script phase (ShardWork hand shard) = IsIdleHand shared hand × (shard < script.shards)
 
 -- a client's worker went on with its session, with the requests before `upto`, and ended so
 pub record ClientWorks (shared : Shared) (script : Script) (number upto : ℕ) (old new : Stand) (ended : Ended)
     : Type 0 where
-  pub goes : GoesOn shared script number upto old new
-  pub ends : EndsAs shared script upto new ended
+  pub goes : WorkerGoesOn shared script number upto old new
+  pub ends : WorkerEndsAs shared script upto new ended
 
 -- the worker of a gatekeeper only carried, there alone
 pub record GateWorks (shared : Shared) (gate : ℕ) (old new : Hand) (ended : Ended) : Type 0 where

@@ -9,7 +9,7 @@ use std::sync::Wait;
 use weaver_hands::{HandFault, Pulled, apply, bring, pull};
 use weaver_locks::{Hand, Shared};
 
-/// Up to which message each channel was brought so far, where that is known.
+/// Up to which message each channel was brought so far, if that is known.
 #[derive(Drop)]
 pub struct Brought {
     numbers: Vec<Option<u64>>,
@@ -115,7 +115,7 @@ fn known_to<R: Wait>(
     }
 }
 
-// Searches for the number of a message that had arrived before, where the next one had not; 0 if the first one had not.
+// Searches for the number of a message that had arrived before and whose next one had not; 0 if the first one had not.
 // It costs a logarithm of that number. Messages that it looks at arrive, so another hand that searches meanwhile may
 // leave those between to this one.
 fn search<R: Wait>(

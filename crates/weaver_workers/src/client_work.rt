@@ -2,7 +2,7 @@
 ghost use Rattle.std.specs.Prelude.{◌≡◌, ℕ, ◌<◌, length, IfOk, Some};
 ghost use Rattle.program_defs.specs.Limits.{IsWithinLimits};
 ghost use Rattle.weaver_core.specs.Clients.{log_of, requests_in, unanswered_in, IsAClient};
-ghost use Rattle.weaver_workers.specs.ClientWork.{EndsAs, GoesOn};
+ghost use Rattle.weaver_workers.specs.ClientWork.{WorkerEndsAs, WorkerGoesOn};
 ghost use Rattle.weaver_workers.specs.Keeping.{AreLocksOf, KeepsClient};
 ghost use Rattle.weaver_workers.specs.Turning.{below_in, stand, IsEndOf, Tries};
 
@@ -19,11 +19,11 @@ use std::sync::Wait;
 use weaver_core::Client;
 use weaver_locks::{Hand, Shared};
 
-/// In so many turns one after another a client finds its gatekeeper busy before it stops.
+/// A client stops when it has found its gatekeeper busy in this many turns one after another.
 const MOST_BUSY: u32 = 16;
 
-/// Goes through the session's requests before `upto`, one try of one request a turn. It stops where a transaction was
-/// in flight at its request's gatekeeper in 16 turns one after another, or where a shard was not ready after a nudge.
+/// Goes through the session's requests before `upto`, one try of one request a turn. It stops if a transaction was
+/// in flight at its request's gatekeeper in 16 turns one after another, or if a shard was not ready after a nudge.
 /// It may wait. The one error is out of memory.
 pub(crate) fn go_session<R: Wait, P: Pace>(
     rt: &R,
@@ -39,9 +39,9 @@ pub(crate) fn go_session<R: Wait, P: Pace>(
     requires limits { IsWithinLimits script.now }
     requires locks { AreLocksOf script.now shared.now }
     requires keeps { KeepsClient shared.now script.now number hand.old client.old }
-    ensures goes { IfOk result (λ ended. GoesOn shared.now script.now number upto (stand hand.old client.old)
+    ensures goes { IfOk result (λ ended. WorkerGoesOn shared.now script.now number upto (stand hand.old client.old)
         (stand hand.new client.new)) }
-    ensures ends { IfOk result (EndsAs shared.now script.now upto (stand hand.new client.new)) }
+    ensures ends { IfOk result (WorkerEndsAs shared.now script.now upto (stand hand.new client.new)) }
 {
     workers_keep_their_laws();
     let mut brought = Brought::new(alloc)?;

@@ -6,7 +6,7 @@ use weave_entries::laws::{begun_and_replied_are_decided, sessions_go_in_turn};
 use weaver_hands::laws::{begun_programs_run, calls_leave_others_alone, programs_left_alone_go_on};
 use weaver_locks::laws::what_was_not_begun_stays;
 
-/// The laws of the crates below that a client's worker stands on.
+/// The laws of the crates below that a client's worker relies on.
 pub(crate) fn workers_keep_their_laws()
     ensures { KeepLaws }
 {

@@ -15,7 +15,7 @@ ghost use Rattle.weaver_hands.specs.Programs.{FoundNotReady, IsRunning};
 ghost use Rattle.weaver_hands.specs.Telling.{NopsAs, TellsAs};
 ghost use Rattle.weaver_hands.specs.Transactions.{FoundBusy};
 ghost use Rattle.weaver_workers.specs.Carrying.{OnlyCarries};
-ghost use Rattle.weaver_workers.specs.ClientWork.{Does, Stand};
+ghost use Rattle.weaver_workers.specs.ClientWork.{DoesOneCall, Stand};
 ghost use Rattle.weaver_workers.specs.Keeping.{AreLocksOf, HasLanded, KeepsClient};
 
 use crate::keeping::workers_keep_their_laws;
@@ -26,14 +26,14 @@ pub fn hands_go_on()
     ensures client { (shared : Shared) (script : Script) (number upto : ℕ) (old new : Stand) → IsWithinLimits script
         → AreLocksOf script shared → KeepsClient shared script number old.hand old.client → IsHand shared new.hand
         → ForSome new.client.running (IsRunning shared new.hand)
-        → IsClientOf number new.client.session (log_of new.client) → Does shared script number upto old new
+        → IsClientOf number new.client.session (log_of new.client) → DoesOneCall shared script number upto old new
         → KeepsClient shared script number new.hand new.client }
     ensures landed { (old new : Hand) → OnlyCarries old new → HasLanded old → HasLanded new }
 {
     workers_keep_their_laws();
 }
 
-/// A hand only carries in a call that tells a clock, sends an empty message, brings a message or has one processed,
+/// A hand only carries in a call that passes on a clock, sends an empty message, brings a message or has one processed,
 /// whatever it answers. So it does in a transaction that found its gatekeeper busy, in a visit of a shard that was not
 /// ready, and in a call that made nothing.
 pub fn other_calls_only_carry()

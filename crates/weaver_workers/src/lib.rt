@@ -2,18 +2,20 @@
 //!
 //! `Worker::go` does a worker's part of a phase. A client goes through its session's requests, one try of one request a
 //! turn: a transaction is begun, judged and sent; a program is begun, reads vertex by vertex and is finished. It stops
-//! where its gatekeeper was busy in 16 turns one after another, or where a shard was not ready after a nudge (`nudge`). A
+//! if its gatekeeper was busy in 16 turns one after another, or if a shard was not ready after a nudge (`nudge`). A
 //! gatekeeper's worker takes four turns for each request of the phase. In each it hears the other gatekeepers, and in
 //! the first ones, four for each program of the phase, it sends an empty message to each shard (`turn_gate`). A shard's
-//! worker takes as many turns. In each all that was sent to the shard is to arrive there, and, if there is any that the
-//! worker had not found before, to be processed as far as it can be (`turn_shard`).
+//! worker takes the same number of turns. In each all that was sent to the shard is to arrive there and, if any is new
+//! to the worker, to be processed as far as it can be (`turn_shard`).
 //!
 //! The contract gives the whole list of what a client's worker did to the logs and to its client, one thing after
 //! another, each as the hand's call says it (`GoesOn`), and how it ended (`EndsAs`). The other workers only carry
 //! (`Carries`): the entries that their hands make are clocks that gatekeepers heard, empty messages, and messages that
 //! arrived at shards or were processed there, and all of these are at the worker's own gatekeeper (`CarriesAtGate`) or
-//! shard (`CarriesAtShard`). After a turn that answers Ok the gatekeeper has heard each other one, now or, if that one's
-//! clock is still the same, before (`IsUpToDate`). That a shard's turn brings and processes all there is, no clause says.
+//! shard (`CarriesAtShard`). After a turn that answers Ok the gatekeeper has heard each other one, now or, if that
+//! one's
+//! clock is still the same, before (`IsUpToDate`). That a shard's turn brings and processes all there is, no clause
+//! says.
 #![tactic(auto)]
 
 mod bounds;

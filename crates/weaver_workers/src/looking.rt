@@ -5,7 +5,7 @@ ghost use Rattle.program_defs.specs.declared.script.Request.{Request};
 ghost use Rattle.program_defs.specs.declared.script.Work.TheVariants as work;
 ghost use Rattle.report_rules.specs.Lookups.{request_at};
 ghost use Rattle.weaver_core.specs.Clients.{IsInTurn};
-ghost use Rattle.weaver_workers.specs.ClientWork.{GoesOn};
+ghost use Rattle.weaver_workers.specs.ClientWork.{WorkerGoesOn};
 ghost use Rattle.weaver_workers.specs.Keeping.{AreLocksOf, KeepsClient};
 ghost use Rattle.weaver_workers.specs.Turning.{stand, tried_by, HasReadAll, RunsIn, Tries};
 
@@ -42,7 +42,7 @@ pub(crate) fn start_look<R: Wait>(
     requires work { (asked : Request) → request_at script.now request ≡ Some asked
         → asked.work ≡ work.Look program.now }
     ensures goes { IfOk result (λ done. (upto : ℕ) → request < upto
-        → GoesOn shared.now script.now number upto (stand hand.old client.old) (stand hand.new client.new)) }
+        → WorkerGoesOn shared.now script.now number upto (stand hand.old client.old) (stand hand.new client.new)) }
     ensures runs { IfOk result (λ done. RunsIn shared.now (stand hand.new client.new)) }
 {
     workers_keep_their_laws();
@@ -90,7 +90,7 @@ pub(crate) fn look_on<R: Wait>(
     finish_look(rt, alloc, hand, client, shared, script, number)
 }
 
-// The try ended where a shard was not ready.
+// The try ended, since a shard was not ready.
 fn tried_so(read: Read) -> Option<Tried>
     ensures { result ≡ tried_by read }
 {

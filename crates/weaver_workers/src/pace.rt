@@ -1,4 +1,4 @@
-//! What is called round each turn of a worker.
+//! What is called before and after each turn of a worker.
 
 /// The kinds of workers of a run on threads.
 #[derive(Clone, Copy, PartialEq, Eq, Debug)]
@@ -11,7 +11,7 @@ pub enum WorkKind {
     Shard,
 }
 
-/// Is called round each turn of each worker. It tells nothing of what the worker does.
+/// Is called before and after each turn of each worker. It gets only the worker's kind and index and the turn's number.
 pub trait Pace: Sync {
     /// Before a turn of the worker of this kind, whose session, gatekeeper or shard is number `index`.
     fn before(&self, kind: WorkKind, index: u32, turn: u32);

@@ -4,7 +4,7 @@ ghost use Rattle.program_defs.specs.Limits.{IsWithinLimits};
 ghost use Rattle.weaver_workers.specs.Keeping.{AreLocksOf, KeepsClient};
 ghost use Rattle.weaver_workers.specs.Phases.{phase_end};
 ghost use Rattle.weaver_workers.specs.Turning.{stand};
-ghost use Rattle.weaver_workers.specs.Workers.{ClientWorks, GateWorks, HasPhase, IsIdleHand, IsReady, IsReadyClient, ShardWorks, Works};
+ghost use Rattle.weaver_workers.specs.Workers.{ClientWorks, GateWorks, HasPhase, IsIdleHand, IsReadyForPhase, IsReadyClient, ShardWorks, Works};
 
 use crate::bounds::{end_of_phase, program_turns, start_of_phase, turns_of};
 use crate::bringing::{Brought, turn_shard};
@@ -36,8 +36,9 @@ impl Worker {
     ///
     /// A client goes through its session's requests up to the end of the phase. A gatekeeper takes four turns for each
     /// request of the phase, in which it hears the others, and in the first four for each program sends empty messages
-    /// too. A shard takes as many turns, in which it takes in what was sent, and processes it if there is any that is new.
-    /// `pace` is called before and after each turn that isn't out of memory. It may wait. The one error is out of memory;
+    /// too. A shard takes as many turns as that, takes in in each what was sent, and processes it if any of it is new.
+    /// `pace` is called before and after each turn that isn't out of memory. It may wait. The one error is out of
+    /// memory;
     /// then the entries that it made stay, and nothing is promised of the worker.
     pub fn go<R: Wait, P: Pace>(
         &mut self,
@@ -51,7 +52,7 @@ impl Worker {
         requires limits { IsWithinLimits script.now }
         requires phase { HasPhase script.now phase }
         requires locks { AreLocksOf script.now shared.now }
-        requires ready { IsReady shared.now script.now phase self.old }
+        requires ready { IsReadyForPhase shared.now script.now phase self.old }
         ensures { IfOk result (Works shared.now script.now phase self.old self.new) }
     {
         match self {

@@ -1,741 +1,467 @@
 //! Each clause at each kind of place that it has, with later clauses broken too.
 
-use crate::cases::{Asked, Do, Line, Read, Told};
-use crate::judge_tests::{AFTER, APART, BEGUN, KEYED, MADE, MISSING, READER, THREE, TWO, UNBEGUN};
-use crate::tables::{Row, assert_rows};
-use graph_ops::Reason;
-use order_witness::Clause;
+use crate::judge_tests::{READER, THREE, TWO};
+use crate::tables::assert_rows;
 
-const WRONG: Line = (1, 1, 0, [0, 1, 0], Told::Commit(9, &[(7, Read::Set)]));
-
-const REPLIES: [Row; 11] = [
+// A reply or the listing is wrong; pairs, the replay or numbers are too.
+const REPLIES: [(&str, &str); 10] = [
+    // The replies are the other way round.
     (
-        &[KEYED, MADE],
-        &[(b'w', 1, 1)],
-        &[1, 1],
-        Some((Clause::I, 1)),
+        "report 1\ntx t1 0:1:0,1 committed 2\ntx t0 0:0:1,0 committed 1\nsettled w t1 t1\norder t1 t1\nend\n",
+        "no i 1",
     ),
+    // The stamp of t1 is of the other gatekeeper.
     (
-        &[MADE, (1, 0, 0, [2, 0, 0], Told::Begun)],
-        &[(b'w', 1, 1)],
-        &[1],
-        Some((Clause::I, 2)),
+        "report 1\ntx t0 0:0:1,0 committed 1\ntx t1 0:0:2,0 begun\nsettled w t1 t1\norder t1\nend\n",
+        "no i 2",
     ),
+    // The stamp of t0 is of the other gatekeeper, and t1 has the same one.
     (
-        &[(0, 1, 0, [0, 1, 0], Told::Begun), WRONG],
-        &[],
-        &[1, 1],
-        Some((Clause::I, 1)),
+        "report 1\ntx t0 0:1:0,1 begun\ntx t1 0:1:0,1 committed 9\norder t1 t1\nend\n",
+        "no i 1",
     ),
-    (&[MADE], &[(b'w', 1, 1)], &[1], Some((Clause::I, 2))),
-    (&[], &[(b'w', 1, 1)], &[1], Some((Clause::I, 1))),
+    // The last reply is missing.
     (
-        &[MADE, WRONG, WRONG],
-        &[(b'w', 1, 1)],
-        &[1],
-        Some((Clause::I, 3)),
+        "report 1\ntx t0 0:0:1,0 committed 1\nsettled w t1 t1\norder t1\nend\n",
+        "no i 2",
     ),
+    // All replies are missing.
+    ("report 1\nsettled w t1 t1\norder t1\nend\n", "no i 1"),
+    // There is a reply too many.
     (
-        &[MADE, WRONG],
-        &[(b'w', 1, 1)],
-        &[1, 0, 1],
-        Some((Clause::Ii, 3)),
+        "report 1\ntx t0 0:0:1,0 committed 1\ntx t1 0:1:0,1 committed 9\ntx t1 0:1:0,1 committed 9\nsettled w t1 t1\norder t1\nend\n",
+        "no i 3",
     ),
+    // t1 is listed twice.
     (
-        &[(0, 0, 0, [1, 0, 0], Told::Unbegun), WRONG],
-        &[(b'w', 1, 1)],
-        &[0, 1],
-        Some((Clause::Ii, 1)),
+        "report 1\ntx t0 0:0:1,0 committed 1\ntx t1 0:1:0,1 committed 9\nsettled w t1 t1\norder t1 t0 t1\nend\n",
+        "no ii 3",
     ),
-    (&[MADE, WRONG], &[(b'w', 1, 1)], &[1], Some((Clause::Ii, 2))),
-    (&[MADE, WRONG], &[(b'w', 1, 1)], &[5], Some((Clause::Ii, 1))),
-    (&[MADE, WRONG], &[(b'w', 1, 1)], &[], Some((Clause::Ii, 1))),
+    // t0 has not begun, and is listed.
+    (
+        "report 1\ntx t0 unbegun\ntx t1 0:1:0,1 committed 9\nsettled w t1 t1\norder t0 t1\nend\n",
+        "no ii 1",
+    ),
+    // t0 is committed, and is not listed.
+    (
+        "report 1\ntx t0 0:0:1,0 committed 1\ntx t1 0:1:0,1 committed 9\nsettled w t1 t1\norder t1\nend\n",
+        "no ii 2",
+    ),
+    // Nothing is listed.
+    (
+        "report 1\ntx t0 0:0:1,0 committed 1\ntx t1 0:1:0,1 committed 9\nsettled w t1 t1\norder\nend\n",
+        "no ii 1",
+    ),
 ];
 
 #[test]
 fn replies_and_listing_break_first(rt: HostRuntime) {
-    assert_rows(&rt, rt.alloc(), 2, &TWO, &REPLIES);
+    assert_rows(&rt, rt.alloc(), TWO, &REPLIES);
 }
 
-const FIRST_OF_ONE: Line = (0, 0, 0, [1, 0, 0], Told::Commit(1, &[]));
-
-const TURNS: [Row; 4] = [
+// A session begins its requests in order, and they are listed so; the replay breaks too.
+const TURNS: [(&str, &str); 4] = [
+    // t1 has begun before t0.
     (
-        &[
-            (0, 0, 0, [1, 0, 0], Told::Unbegun),
-            (1, 0, 0, [2, 0, 0], Told::Begun),
-        ],
-        &[],
-        &[1],
-        Some((Clause::I, 2)),
+        "report 1\ntx t0 unbegun\ntx t1 0:0:2 begun\norder t1\nend\n",
+        "no i 2",
     ),
+    // Both have one stamp.
     (
-        &[FIRST_OF_ONE, (1, 0, 0, [1, 0, 0], Told::Commit(9, &[]))],
-        &[],
-        &[1],
-        Some((Clause::I, 2)),
+        "report 1\ntx t0 0:0:1 committed 1\ntx t1 0:0:1 committed 9\ngot 1 record\norder t1\nend\n",
+        "no i 2",
     ),
+    // The pair puts t1 before itself, so the first place breaks it already.
     (
-        &[FIRST_OF_ONE, (1, 0, 0, [2, 0, 0], Told::Commit(9, &[]))],
-        &[(b'w', 1, 1)],
-        &[1, 0],
-        Some((Clause::Iii, 1)),
+        "report 1\ntx t0 0:0:1 committed 1\ntx t1 0:0:2 committed 9\ngot 1 record\nsettled w t1 t1\norder t1 t0\nend\n",
+        "no iii 1",
     ),
+    // t0 is listed after t1.
     (
-        &[FIRST_OF_ONE, (1, 0, 0, [2, 0, 0], Told::Commit(9, &[]))],
-        &[],
-        &[1, 0],
-        Some((Clause::Iii, 2)),
+        "report 1\ntx t0 0:0:1 committed 1\ntx t1 0:0:2 committed 9\ngot 1 record\norder t1 t0\nend\n",
+        "no iii 2",
     ),
 ];
 
 #[test]
 fn a_session_takes_turns(rt: HostRuntime) {
-    assert_rows(&rt, rt.alloc(), 1, &READER, &TURNS);
+    assert_rows(&rt, rt.alloc(), READER, &TURNS);
 }
 
-const MORE: Line = (1, 1, 0, [0, 1, 0], Told::Commit(9, &[(1, Read::Set)]));
-
-const TWICE: Line = (1, 1, 0, [0, 1, 0], Told::Commit(1, &[]));
-
-const ORDER: [Row; 9] = [
+// Replay and pairs; but for the last row a refusal or a number is wrong too.
+const ORDER: [(&str, &str); 5] = [
+    // t1 is listed first, and sets a key of no vertex.
     (
-        &[MADE, MORE],
-        &[(b'v', 0, 0), (b'w', 0, 1)],
-        &[0, 1],
-        Some((Clause::Iii, 1)),
+        "report 1\ntx t0 0:0:1,0 committed 1\ntx t1 0:1:0,1 committed 9\nsettled w t1 t0\norder t1 t0\nend\n",
+        "no iv 1",
     ),
+    // The second pair is at a vertex that neither names.
     (
-        &[MADE, MORE],
-        &[(b'v', 0, 1), (b'v', 1, 0)],
-        &[0, 1],
-        Some((Clause::Iii, 1)),
+        "report 1\ntx t0 0:0:1,0 committed 1\ntx t1 0:1:0,1 committed 1\nsettled v t0 t1\nsettled w t0 t1\norder t0 t1\nend\n",
+        "no v 2",
     ),
+    // The stamps are ordered.
     (
-        &[MADE, MORE],
-        &[(b'v', 1, 0)],
-        &[0, 1],
-        Some((Clause::Iii, 2)),
+        "report 1\ntx t0 0:0:1,0 committed 1\ntx t1 0:1:1,1 committed 1\nsettled v t0 t1\norder t0 t1\nend\n",
+        "no v 1",
     ),
+    // The second of the pair is refused.
     (
-        &[MADE, MORE],
-        &[(b'w', 1, 0)],
-        &[1, 0],
-        Some((Clause::Iv, 1)),
+        "report 1\ntx t0 0:0:1,0 committed 1\ntx t1 0:1:0,1 refused 1 full at 0\nsettled v t0 t1\norder t0\nend\n",
+        "no v 1",
     ),
+    // The second of the pair has not begun.
     (
-        &[MADE, MORE],
-        &[(b'w', 0, 1)],
-        &[0, 1],
-        Some((Clause::Iv, 2)),
-    ),
-    (
-        &[MADE, TWICE],
-        &[(b'v', 0, 1), (b'w', 0, 1)],
-        &[0, 1],
-        Some((Clause::V, 2)),
-    ),
-    (
-        &[MADE, (1, 1, 0, [1, 1, 0], Told::Commit(1, &[]))],
-        &[(b'v', 0, 1)],
-        &[0, 1],
-        Some((Clause::V, 1)),
-    ),
-    (
-        &[
-            MADE,
-            (1, 1, 0, [0, 1, 0], Told::Refused(1, Reason::Full, 0)),
-        ],
-        &[(b'v', 0, 1)],
-        &[0],
-        Some((Clause::V, 1)),
-    ),
-    (
-        &[MADE, (1, 1, 0, [0, 1, 0], Told::Unbegun)],
-        &[(b'v', 0, 1)],
-        &[0],
-        Some((Clause::V, 1)),
+        "report 1\ntx t0 0:0:1,0 committed 1\ntx t1 unbegun\nsettled v t0 t1\norder t0\nend\n",
+        "no v 1",
     ),
 ];
 
 #[test]
-fn order_replay_and_pairs_break_next(rt: HostRuntime) {
-    assert_rows(&rt, rt.alloc(), 2, &TWO, &ORDER);
+fn replay_and_pairs_break_next(rt: HostRuntime) {
+    assert_rows(&rt, rt.alloc(), TWO, &ORDER);
 }
 
-const ABORTED: [Asked; 3] = [
-    (0, 0, &[Do::Create(b'v')]),
-    (1, 1, &[Do::Set(b'v'), Do::Create(b'w')]),
-    (1, 1, &[Do::Delete(b'v'), Do::Delete(b'u')]),
-];
+// The first session makes v; the second one has a transaction that sets a key of v and makes w, and one that deletes v
+// and u.
+const ABORTED: &str =
+    "weaver 1 2 1\ntx t0 0 0\ncreate v\nend\ntx t1 1 1\nset v k x\ncreate w\nend\ntx t2 1 1\ndelete v\ndelete u\nend\n";
 
-const FAR: Line = (0, 0, 0, [1, 9, 0], Told::Commit(7, &[]));
-
-const NEWER: Line = (0, 0, 0, [1, 9, 0], Told::Commit(1, &[]));
-
-const AT_V: Line = (1, 1, 0, [0, 1, 0], Told::Conflict(b'v', 0));
-
-const AT_1: Line = (2, 1, 0, [0, 2, 0], Told::Refused(2, Reason::Missing, 1));
-
-const AT_2: Line = (2, 1, 0, [0, 2, 0], Told::Refused(2, Reason::Missing, 2));
-
-const AT_3: Line = (2, 1, 0, [0, 2, 0], Told::Refused(2, Reason::Missing, 3));
-
-const LAST: [Row; 13] = [
+// A conflict, a refusal or a number is wrong. If t0 is commit 7, later clauses break too.
+const LAST: [(&str, &str); 13] = [
+    // t0 does not name w.
     (
-        &[FAR, (1, 1, 0, [0, 1, 0], Told::Conflict(b'w', 0)), AT_3],
-        &[],
-        &[0],
-        Some((Clause::Vi, 2)),
+        "report 1\ntx t0 0:0:1,9 committed 7\ntx t1 0:1:0,1 conflict w t0\ntx t2 0:1:0,2 refused 2 missing at 3\norder t0\nend\n",
+        "no vi 2",
+    ),
+    // A conflict with the next request of the session, which is not committed.
+    (
+        "report 1\ntx t0 0:0:1,9 committed 7\ntx t1 0:1:0,1 conflict v t2\ntx t2 0:1:0,2 refused 2 missing at 3\norder t0\nend\n",
+        "no vi 2",
+    ),
+    // A conflict with itself.
+    (
+        "report 1\ntx t0 0:0:1,9 committed 7\ntx t1 0:1:0,1 conflict v t1\ntx t2 0:1:0,2 refused 2 missing at 3\norder t0\nend\n",
+        "no vi 2",
+    ),
+    // t1 does not precede t0.
+    (
+        "report 1\ntx t0 0:0:1,0 committed 7\ntx t1 0:1:0,1 conflict v t0\ntx t2 0:1:0,2 refused 2 missing at 3\norder t0\nend\n",
+        "no vi 2",
+    ),
+    // After commit 1 t2 deletes v, and finds no u.
+    (
+        "report 1\ntx t0 0:0:1,9 committed 1\ntx t1 0:1:0,1 conflict v t0\ntx t2 0:1:0,2 refused 2 missing at 1\norder t0\nend\n",
+        "yes",
+    ),
+    // There are no three commits.
+    (
+        "report 1\ntx t0 0:0:1,9 committed 7\ntx t1 0:1:0,1 conflict v t0\ntx t2 0:1:0,2 refused 2 missing at 3\norder t0\nend\n",
+        "no vii 3",
+    ),
+    // Before commit 1 t2 finds no v.
+    (
+        "report 1\ntx t0 0:0:1,9 committed 1\ntx t1 0:1:0,1 conflict v t0\ntx t2 0:1:0,2 refused 1 missing at 0\norder t0\nend\n",
+        "yes",
+    ),
+    // After commit 1 t2 finds v.
+    (
+        "report 1\ntx t0 0:0:1,9 committed 1\ntx t1 0:1:0,1 conflict v t0\ntx t2 0:1:0,2 refused 1 missing at 1\norder t0\nend\n",
+        "no vii 3",
+    ),
+    // The reason is not the right one.
+    (
+        "report 1\ntx t0 0:0:1,9 committed 1\ntx t1 0:1:0,1 refused 1 missing at 0\ntx t2 0:1:0,2 refused 2 no_key at 1\norder t0\nend\n",
+        "no vii 3",
+    ),
+    // t1, the request before t2 in its session, is commit 2.
+    (
+        "report 1\ntx t0 0:0:1,0 committed 1\ntx t1 0:1:0,1 committed 2\ntx t2 0:1:0,2 refused 2 missing at 1\norder t0 t1\nend\n",
+        "no vii 3",
     ),
     (
-        &[FAR, (1, 1, 0, [0, 1, 0], Told::Conflict(b'v', 2)), AT_3],
-        &[],
-        &[0],
-        Some((Clause::Vi, 2)),
+        "report 1\ntx t0 0:0:1,0 committed 1\ntx t1 0:1:0,1 committed 2\ntx t2 0:1:0,2 refused 2 missing at 2\norder t0 t1\nend\n",
+        "yes",
     ),
+    // w is not there yet, so t1 may make it.
     (
-        &[FAR, (1, 1, 0, [0, 1, 0], Told::Conflict(b'v', 1)), AT_3],
-        &[],
-        &[0],
-        Some((Clause::Vi, 2)),
+        "report 1\ntx t0 0:0:1,0 committed 1\ntx t1 0:1:0,1 refused 2 exists at 1\ntx t2 0:1:0,2 refused 2 missing at 1\norder t0\nend\n",
+        "no vii 2",
     ),
+    // There is no commit 0.
     (
-        &[(0, 0, 0, [1, 0, 0], Told::Commit(7, &[])), AT_V, AT_3],
-        &[],
-        &[0],
-        Some((Clause::Vi, 2)),
-    ),
-    (&[NEWER, AT_V, AT_1], &[], &[0], None),
-    (&[FAR, AT_V, AT_3], &[], &[0], Some((Clause::Vii, 3))),
-    (
-        &[
-            NEWER,
-            AT_V,
-            (2, 1, 0, [0, 2, 0], Told::Refused(1, Reason::Missing, 0)),
-        ],
-        &[],
-        &[0],
-        None,
-    ),
-    (
-        &[
-            NEWER,
-            AT_V,
-            (2, 1, 0, [0, 2, 0], Told::Refused(1, Reason::Missing, 1)),
-        ],
-        &[],
-        &[0],
-        Some((Clause::Vii, 3)),
-    ),
-    (
-        &[
-            NEWER,
-            MISSING,
-            (2, 1, 0, [0, 2, 0], Told::Refused(2, Reason::NoKey, 1)),
-        ],
-        &[],
-        &[0],
-        Some((Clause::Vii, 3)),
-    ),
-    (&[MADE, KEYED, AT_1], &[], &[0, 1], Some((Clause::Vii, 3))),
-    (&[MADE, KEYED, AT_2], &[], &[0, 1], None),
-    (
-        &[
-            MADE,
-            (1, 1, 0, [0, 1, 0], Told::Refused(2, Reason::Exists, 1)),
-            AT_1,
-        ],
-        &[],
-        &[0],
-        Some((Clause::Vii, 2)),
-    ),
-    (
-        &[
-            (0, 0, 0, [1, 0, 0], Told::Commit(0, &[])),
-            KEYED,
-            (2, 1, 0, [0, 0, 0], Told::Unbegun),
-        ],
-        &[],
-        &[0, 1],
-        Some((Clause::Viii, 1)),
+        "report 1\ntx t0 0:0:1,0 committed 0\ntx t1 0:1:0,1 committed 2\ntx t2 unbegun\norder t0 t1\nend\n",
+        "no viii 1",
     ),
 ];
 
 #[test]
 fn conflicts_refusals_and_numbers_break_last(rt: HostRuntime) {
-    assert_rows(&rt, rt.alloc(), 2, &ABORTED, &LAST);
+    assert_rows(&rt, rt.alloc(), ABORTED, &LAST);
 }
 
-// Two sessions at one gatekeeper, and a session at two of them.
-const SHARED: [Asked; 3] = [
-    (0, 0, &[Do::Create(b'v')]),
-    (1, 0, &[Do::Set(b'v')]),
-    (0, 1, &[Do::Get(b'v')]),
-];
+// Two sessions at one gatekeeper, of which the first is at another one too.
+const SHARED: &str =
+    "weaver 1 2 1\ntx t0 0 0\ncreate v\nend\ntx t1 1 0\nset v k x\nend\ntx t2 0 1\nget v\nend\n";
 
-const LAST_READ: Line = (2, 1, 0, [1, 1, 0], Told::Commit(3, &[(1, Read::Set)]));
-
-const LAST_BEGUN: Line = (2, 1, 0, [1, 1, 0], Told::Begun);
-
-const STAMPED: [Row; 12] = [
+// Stamps of one gatekeeper are ordered as their own counts, and those of one session as its requests.
+const STAMPED: [(&str, &str); 12] = [
     (
-        &[MADE, (1, 0, 0, [2, 0, 0], Told::Commit(2, &[])), LAST_READ],
-        &[],
-        &[0, 1, 2],
-        None,
+        "report 1\ntx t0 0:0:1,0 committed 1\ntx t1 0:0:2,0 committed 2\ntx t2 0:1:1,1 committed 3\ngot 1 record k=x\norder t0 t1 t2\nend\n",
+        "yes",
     ),
-    // One id.
+    // t0 and t1 have one stamp.
     (
-        &[MADE, (1, 0, 0, [1, 0, 0], Told::Commit(9, &[])), LAST_BEGUN],
-        &[(b'w', 1, 1)],
-        &[1, 1],
-        Some((Clause::I, 2)),
+        "report 1\ntx t0 0:0:1,0 committed 1\ntx t1 0:0:1,0 committed 9\ntx t2 0:1:1,1 begun\nsettled w t1 t1\norder t1 t1\nend\n",
+        "no i 2",
     ),
+    // They have one own count.
     (
-        &[MADE, (1, 0, 0, [1, 1, 0], Told::Commit(9, &[])), LAST_BEGUN],
-        &[(b'w', 1, 1)],
-        &[1, 1],
-        Some((Clause::I, 2)),
+        "report 1\ntx t0 0:0:1,0 committed 1\ntx t1 0:0:1,1 committed 9\ntx t2 0:1:1,1 begun\nsettled w t1 t1\norder t1 t1\nend\n",
+        "no i 2",
     ),
-    // Of one home, and unordered.
+    // Their stamps are unordered.
     (
-        &[
-            (0, 0, 0, [1, 1, 0], Told::Commit(1, &[])),
-            (1, 0, 0, [2, 0, 0], Told::Commit(9, &[])),
-            LAST_BEGUN,
-        ],
-        &[(b'w', 1, 1)],
-        &[1, 1],
-        Some((Clause::I, 2)),
+        "report 1\ntx t0 0:0:1,1 committed 1\ntx t1 0:0:2,0 committed 9\ntx t2 0:1:1,1 begun\nsettled w t1 t1\norder t1 t1\nend\n",
+        "no i 2",
     ),
-    // Another session may be earlier at the same gatekeeper.
+    // Of two sessions at one gatekeeper the later request may begin first; here its replay breaks.
     (
-        &[
-            (0, 0, 0, [2, 0, 0], Told::Commit(1, &[])),
-            (1, 0, 0, [1, 0, 0], Told::Commit(9, &[])),
-            (2, 1, 0, [2, 1, 0], Told::Begun),
-        ],
-        &[],
-        &[1, 0],
-        Some((Clause::Iv, 1)),
+        "report 1\ntx t0 0:0:2,0 committed 1\ntx t1 0:0:1,0 committed 9\ntx t2 0:1:2,1 begun\norder t1 t0\nend\n",
+        "no iv 1",
     ),
-    // By epochs first.
+    // An epoch comes before any count: t1 precedes t0.
     (
-        &[
-            (0, 0, 1, [1, 0, 0], Told::Commit(1, &[])),
-            (1, 0, 0, [2, 0, 0], Told::Commit(9, &[])),
-            (2, 1, 2, [0, 0, 0], Told::Begun),
-        ],
-        &[],
-        &[0, 1],
-        Some((Clause::Iii, 2)),
+        "report 1\ntx t0 1:0:1,0 committed 1\ntx t1 0:0:2,0 committed 9\ntx t2 2:1:0,0 begun\norder t0 t1\nend\n",
+        "no iii 2",
     ),
+    // t1 is of a later epoch, so t2 may be listed before it.
     (
-        &[
-            MADE,
-            (1, 0, 1, [0, 0, 0], Told::Commit(2, &[])),
-            (2, 1, 0, [1, 1, 0], Told::Commit(3, &[(1, Read::Empty)])),
-        ],
-        &[],
-        &[0, 2, 1],
-        None,
+        "report 1\ntx t0 0:0:1,0 committed 1\ntx t1 1:0:0,0 committed 2\ntx t2 0:1:1,1 committed 3\ngot 1 record\norder t0 t2 t1\nend\n",
+        "yes",
+    ),
+    // t2 is of an earlier epoch than t0.
+    (
+        "report 1\ntx t0 1:0:1,0 committed 9\ntx t1 1:0:2,0 begun\ntx t2 0:1:2,1 begun\norder t1\nend\n",
+        "no i 3",
+    ),
+    // The stamps of t0 and t2 are unordered.
+    (
+        "report 1\ntx t0 0:0:1,0 committed 1\ntx t1 0:0:2,0 begun\ntx t2 0:1:0,1 begun\nsettled w t1 t1\norder t1\nend\n",
+        "no i 3",
+    ),
+    // t2 has begun before t0.
+    (
+        "report 1\ntx t0 unbegun\ntx t1 0:0:2,0 begun\ntx t2 0:1:1,1 begun\nsettled w t1 t1\norder t1\nend\n",
+        "no i 3",
+    ),
+    // The stamp of t2 is of the other gatekeeper.
+    (
+        "report 1\ntx t0 0:0:1,0 committed 1\ntx t1 0:0:2,0 begun\ntx t2 0:0:3,0 begun\nsettled w t1 t1\norder t1\nend\n",
+        "no i 3",
     ),
     (
-        &[
-            (0, 0, 1, [1, 0, 0], Told::Commit(9, &[])),
-            (1, 0, 1, [2, 0, 0], Told::Begun),
-            (2, 1, 0, [2, 1, 0], Told::Begun),
-        ],
-        &[],
-        &[1],
-        Some((Clause::I, 3)),
-    ),
-    // A session at two gatekeepers.
-    (
-        &[
-            MADE,
-            (1, 0, 0, [2, 0, 0], Told::Begun),
-            (2, 1, 0, [0, 1, 0], Told::Begun),
-        ],
-        &[(b'w', 1, 1)],
-        &[1],
-        Some((Clause::I, 3)),
-    ),
-    (
-        &[UNBEGUN, (1, 0, 0, [2, 0, 0], Told::Begun), LAST_BEGUN],
-        &[(b'w', 1, 1)],
-        &[1],
-        Some((Clause::I, 3)),
-    ),
-    (
-        &[
-            MADE,
-            (1, 0, 0, [2, 0, 0], Told::Begun),
-            (2, 0, 0, [3, 0, 0], Told::Begun),
-        ],
-        &[(b'w', 1, 1)],
-        &[1],
-        Some((Clause::I, 3)),
-    ),
-    (
-        &[
-            (0, 0, 0, [1, 0, 0], Told::Begun),
-            (1, 0, 0, [2, 0, 0], Told::Begun),
-            (2, 1, 0, [0, 0, 0], Told::Unbegun),
-        ],
-        &[],
-        &[],
-        None,
+        "report 1\ntx t0 0:0:1,0 begun\ntx t1 0:0:2,0 begun\ntx t2 unbegun\norder\nend\n",
+        "yes",
     ),
 ];
 
 #[test]
 fn stamps_of_homes_and_sessions(rt: HostRuntime) {
-    assert_rows(&rt, rt.alloc(), 2, &SHARED, &STAMPED);
+    assert_rows(&rt, rt.alloc(), SHARED, &STAMPED);
 }
 
-const UNLISTED: [Row; 4] = [
-    // Neither an aborted transaction nor a begun one is listed.
+// An aborted transaction is listed, or one without a verdict; the pair is wrong too.
+const UNLISTED: [(&str, &str); 4] = [
     (
-        &[MADE, (1, 1, 0, [0, 1, 0], Told::Conflict(b'w', 0))],
-        &[(b'w', 0, 0)],
-        &[0, 1],
-        Some((Clause::Ii, 2)),
+        "report 1\ntx t0 0:0:1,0 committed 1\ntx t1 0:1:0,1 conflict w t0\nsettled w t0 t0\norder t0 t1\nend\n",
+        "no ii 2",
     ),
     (
-        &[MADE, (1, 1, 0, [0, 1, 0], Told::Begun)],
-        &[(b'w', 0, 0)],
-        &[0, 1],
-        Some((Clause::Ii, 2)),
+        "report 1\ntx t0 0:0:1,0 committed 1\ntx t1 0:1:0,1 begun\nsettled w t0 t0\norder t0 t1\nend\n",
+        "no ii 2",
     ),
     (
-        &[MADE, (1, 1, 0, [0, 1, 0], Told::Begun)],
-        &[(b'w', 0, 0)],
-        &[1, 0],
-        Some((Clause::Ii, 1)),
+        "report 1\ntx t0 0:0:1,0 committed 1\ntx t1 0:1:0,1 begun\nsettled w t0 t0\norder t1 t0\nend\n",
+        "no ii 1",
     ),
     (
-        &[(0, 0, 0, [1, 0, 0], Told::Commit(9, &[])), MISSING],
-        &[(b'w', 0, 0)],
-        &[1],
-        Some((Clause::Ii, 1)),
+        "report 1\ntx t0 0:0:1,0 committed 9\ntx t1 0:1:0,1 refused 1 missing at 0\nsettled w t0 t0\norder t1\nend\n",
+        "no ii 1",
     ),
 ];
 
 #[test]
 fn only_what_is_committed_is_listed(rt: HostRuntime) {
-    assert_rows(&rt, rt.alloc(), 2, &TWO, &UNLISTED);
+    assert_rows(&rt, rt.alloc(), TWO, &UNLISTED);
 }
 
-const BEHIND: [Row; 2] = [
+// t1 precedes t0 through t2, which is not listed: by the pair, and then by stamps.
+const THROUGH_UNLISTED: [(&str, &str); 2] = [
     (
-        &[AFTER, APART, BEGUN],
-        &[(b'b', 1, 2)],
-        &[0, 1],
-        Some((Clause::Iii, 2)),
+        "report 1\ntx t0 0:0:1,1,0 committed 1\ntx t1 0:2:0,0,1 committed 2\ntx t2 0:1:0,1,0 begun\nsettled b t1 t2\norder t0 t1\nend\n",
+        "no iii 2",
     ),
+    // No pair may have a transaction that is not committed.
     (
-        &[AFTER, APART, BEGUN],
-        &[(b'b', 1, 2)],
-        &[1, 0],
-        Some((Clause::V, 1)),
+        "report 1\ntx t0 0:0:1,1,0 committed 1\ntx t1 0:2:0,0,1 committed 2\ntx t2 0:1:0,1,0 begun\nsettled b t1 t2\norder t1 t0\nend\n",
+        "no v 1",
     ),
 ];
 
-// By a pair to a request that isn't listed, and from there by stamps.
 #[test]
 fn order_through_an_unlisted_request(rt: HostRuntime) {
-    assert_rows(&rt, rt.alloc(), 3, &THREE, &BEHIND);
+    assert_rows(&rt, rt.alloc(), THREE, &THROUGH_UNLISTED);
 }
 
-const ANSWERS: [Row; 5] = [
-    (
-        &[MADE, (1, 0, 0, [2, 0, 0], Told::Commit(9, &[]))],
-        &[(b'w', 0, 1)],
-        &[0, 1],
-        Some((Clause::Iv, 2)),
-    ),
-    (
-        &[
-            MADE,
-            (1, 0, 0, [2, 0, 0], Told::Commit(9, &[(2, Read::Set)])),
-        ],
-        &[(b'w', 0, 1)],
-        &[0, 1],
-        Some((Clause::Iv, 2)),
-    ),
-    (
-        &[
-            MADE,
-            (1, 0, 0, [2, 0, 0], Told::Commit(9, &[(1, Read::Empty)])),
-        ],
-        &[(b'w', 0, 1)],
-        &[0, 1],
-        Some((Clause::Iv, 2)),
-    ),
-    (
-        &[
-            MADE,
-            (
-                1,
-                0,
-                0,
-                [2, 0, 0],
-                Told::Commit(9, &[(1, Read::Set), (1, Read::Set)]),
-            ),
-        ],
-        &[(b'w', 0, 1)],
-        &[0, 1],
-        Some((Clause::Iv, 2)),
-    ),
-    (
-        &[
-            (0, 0, 0, [1, 0, 0], Told::Commit(9, &[(1, Read::Empty)])),
-            (1, 0, 0, [2, 0, 0], Told::Commit(9, &[])),
-        ],
-        &[(b'w', 0, 1)],
-        &[0, 1],
-        Some((Clause::Iv, 1)),
-    ),
-];
+/// Three sessions: the first makes v, the second makes w, the third reads v.
+pub const MEETING: &str =
+    "weaver 1 3 1\ntx t0 0 0\ncreate v\nend\ntx t1 1 1\ncreate w\nend\ntx t2 2 2\nget v\nend\n";
 
-#[test]
-fn answers_of_the_replay(rt: HostRuntime) {
-    assert_rows(&rt, rt.alloc(), 1, &READER, &ANSWERS);
-}
-
-// Two make a vertex each, and a third one reads the one.
-const MEETING: [Asked; 3] = [
-    (0, 0, &[Do::Create(b'v')]),
-    (1, 1, &[Do::Create(b'w')]),
-    (2, 2, &[Do::Get(b'v')]),
-];
-
-const SECOND: Line = (1, 1, 0, [0, 1, 0], Told::Commit(2, &[]));
-
-const THIRD: Line = (2, 2, 0, [0, 0, 1], Told::Commit(9, &[(1, Read::Empty)]));
-
-const THIRD_BEGUN: Line = (2, 2, 0, [0, 0, 1], Told::Begun);
-
-const AT_W: Line = (2, 2, 0, [0, 0, 1], Told::Conflict(b'w', 1));
-
-const MET: [Row; 9] = [
-    // Only the one names the vertex.
+// Both of a pair are committed and name its vertex; the number of t2 or its conflict is wrong too.
+const MET: [(&str, &str); 7] = [
+    // t1 does not name v.
     (
-        &[MADE, SECOND, THIRD],
-        &[(b'v', 0, 1)],
-        &[0, 1, 2],
-        Some((Clause::V, 1)),
+        "report 1\ntx t0 0:0:1,0,0 committed 1\ntx t1 0:1:0,1,0 committed 2\ntx t2 0:2:0,0,1 committed 9\ngot 1 record\nsettled v t0 t1\norder t0 t1 t2\nend\n",
+        "no v 1",
+    ),
+    // The same, with t1 first.
+    (
+        "report 1\ntx t0 0:0:1,0,0 committed 1\ntx t1 0:1:0,1,0 committed 2\ntx t2 0:2:0,0,1 committed 9\ngot 1 record\nsettled v t1 t0\norder t1 t0 t2\nend\n",
+        "no v 1",
+    ),
+    // t0 does not name w: the second pair is wrong.
+    (
+        "report 1\ntx t0 0:0:1,0,0 committed 1\ntx t1 0:1:0,1,0 committed 2\ntx t2 0:2:0,0,1 committed 9\ngot 1 record\nsettled v t0 t2\nsettled w t0 t1\norder t0 t1 t2\nend\n",
+        "no v 2",
+    ),
+    // The pair is right; the number is not.
+    (
+        "report 1\ntx t0 0:0:1,0,0 committed 1\ntx t1 0:1:0,1,0 committed 2\ntx t2 0:2:0,0,1 committed 9\ngot 1 record\nsettled v t0 t2\norder t0 t1 t2\nend\n",
+        "no viii 3",
+    ),
+    // t2 is aborted.
+    (
+        "report 1\ntx t0 0:0:1,0,0 committed 1\ntx t1 0:1:0,1,0 committed 2\ntx t2 0:2:0,0,1 conflict w t1\nsettled v t2 t0\norder t0 t1\nend\n",
+        "no v 1",
     ),
     (
-        &[MADE, SECOND, THIRD],
-        &[(b'v', 1, 0)],
-        &[1, 0, 2],
-        Some((Clause::V, 1)),
+        "report 1\ntx t0 0:0:1,0,0 committed 1\ntx t1 0:1:0,1,0 committed 2\ntx t2 0:2:0,0,1 conflict w t1\nsettled v t0 t2\norder t0 t1\nend\n",
+        "no v 1",
     ),
+    // t2 has no verdict.
     (
-        &[MADE, SECOND, THIRD],
-        &[(b'v', 0, 2), (b'w', 0, 1)],
-        &[0, 1, 2],
-        Some((Clause::V, 2)),
-    ),
-    (
-        &[MADE, SECOND, THIRD],
-        &[(b'v', 0, 2)],
-        &[0, 1, 2],
-        Some((Clause::Viii, 3)),
-    ),
-    // The newer request is not committed, or is not in the script.
-    (
-        &[MADE, SECOND, AT_W],
-        &[(b'v', 2, 0)],
-        &[0, 1],
-        Some((Clause::V, 1)),
-    ),
-    (
-        &[MADE, SECOND, AT_W],
-        &[(b'v', 0, 2)],
-        &[0, 1],
-        Some((Clause::V, 1)),
-    ),
-    (
-        &[MADE, SECOND, THIRD_BEGUN],
-        &[(b'v', 0, 2)],
-        &[0, 1],
-        Some((Clause::V, 1)),
-    ),
-    (
-        &[MADE, SECOND, THIRD],
-        &[(b'v', 0, 7)],
-        &[0, 1, 2],
-        Some((Clause::V, 1)),
-    ),
-    (
-        &[MADE, SECOND, THIRD],
-        &[(b'v', 7, 0)],
-        &[0, 1, 2],
-        Some((Clause::V, 1)),
+        "report 1\ntx t0 0:0:1,0,0 committed 1\ntx t1 0:1:0,1,0 committed 2\ntx t2 0:2:0,0,1 begun\nsettled v t0 t2\norder t0 t1\nend\n",
+        "no v 1",
     ),
 ];
 
 #[test]
 fn pairs_of_committed_transactions_that_meet(rt: HostRuntime) {
-    assert_rows(&rt, rt.alloc(), 3, &MEETING, &MET);
+    assert_rows(&rt, rt.alloc(), MEETING, &MET);
 }
 
-const READ_LATER: Line = (2, 2, 0, [0, 0, 1], Told::Refused(1, Reason::Missing, 9));
-
-const ABORTS: [Row; 5] = [
-    // The aborted one doesn't name the vertex.
+// A conflict is with a commit that names the vertex, as the aborted one does; a refusal or a number is wrong too.
+const ABORTS: [(&str, &str); 4] = [
+    // t1 does not name v.
     (
-        &[
-            (0, 0, 0, [1, 1, 0], Told::Commit(9, &[])),
-            (1, 1, 0, [0, 1, 0], Told::Conflict(b'v', 0)),
-            READ_LATER,
-        ],
-        &[],
-        &[0],
-        Some((Clause::Vi, 2)),
+        "report 1\ntx t0 0:0:1,1,0 committed 9\ntx t1 0:1:0,1,0 conflict v t0\ntx t2 0:2:0,0,1 refused 1 missing at 9\norder t0\nend\n",
+        "no vi 2",
     ),
-    // The newer one isn't committed, or is none of the script's.
+    // t0 has no verdict.
     (
-        &[
-            (0, 0, 0, [1, 0, 1], Told::Begun),
-            (1, 1, 0, [0, 1, 0], Told::Refused(1, Reason::Full, 0)),
-            (2, 2, 0, [0, 0, 1], Told::Conflict(b'v', 0)),
-        ],
-        &[],
-        &[],
-        Some((Clause::Vi, 3)),
+        "report 1\ntx t0 0:0:1,0,1 begun\ntx t1 0:1:0,1,0 refused 1 full at 0\ntx t2 0:2:0,0,1 conflict v t0\norder\nend\n",
+        "no vi 3",
     ),
+    // t0 is refused.
     (
-        &[
-            (0, 0, 0, [1, 0, 1], Told::Refused(1, Reason::Full, 0)),
-            (1, 1, 0, [0, 1, 0], Told::Commit(9, &[])),
-            (2, 2, 0, [0, 0, 1], Told::Conflict(b'v', 0)),
-        ],
-        &[],
-        &[1],
-        Some((Clause::Vi, 3)),
+        "report 1\ntx t0 0:0:1,0,1 refused 1 full at 0\ntx t1 0:1:0,1,0 committed 9\ntx t2 0:2:0,0,1 conflict v t0\norder t1\nend\n",
+        "no vi 3",
     ),
+    // Both conflicts are wrong, and the first is reported.
     (
-        &[
-            (0, 0, 0, [1, 0, 1], Told::Refused(1, Reason::Full, 0)),
-            (1, 1, 0, [0, 1, 0], Told::Commit(9, &[])),
-            (2, 2, 0, [0, 0, 1], Told::Conflict(b'v', 7)),
-        ],
-        &[],
-        &[1],
-        Some((Clause::Vi, 3)),
-    ),
-    // Two break it: the first is told.
-    (
-        &[
-            (0, 0, 0, [1, 0, 0], Told::Commit(9, &[])),
-            (1, 1, 0, [0, 1, 0], Told::Conflict(b'w', 0)),
-            (2, 2, 0, [0, 0, 1], Told::Conflict(b'v', 0)),
-        ],
-        &[],
-        &[0],
-        Some((Clause::Vi, 2)),
+        "report 1\ntx t0 0:0:1,0,0 committed 9\ntx t1 0:1:0,1,0 conflict w t0\ntx t2 0:2:0,0,1 conflict v t0\norder t0\nend\n",
+        "no vi 2",
     ),
 ];
 
 #[test]
 fn conflicts_with_a_later_commit(rt: HostRuntime) {
-    assert_rows(&rt, rt.alloc(), 3, &MEETING, &ABORTS);
+    assert_rows(&rt, rt.alloc(), MEETING, &ABORTS);
 }
 
-const ONE: Line = (1, 1, 0, [0, 1, 0], Told::Commit(1, &[]));
-
-const AT_K_0: Line = (2, 1, 0, [0, 2, 0], Told::Refused(0, Reason::Missing, 1));
-
-const AT_K_3: Line = (2, 1, 0, [0, 2, 0], Told::Refused(3, Reason::Missing, 1));
-
-const REFUSED: [Row; 6] = [
-    // Its commits aren't there, stand twice, or don't pass in the order of their numbers.
-    (&[FAR, AT_V, AT_1], &[], &[0], Some((Clause::Vii, 3))),
-    (&[MADE, ONE, AT_1], &[], &[0, 1], Some((Clause::Vii, 3))),
+// A refusal is of the operation that fails first after the commits before it.
+const REFUSED: [(&str, &str); 6] = [
+    // There is no commit 1.
     (
-        &[(0, 0, 0, [1, 0, 0], Told::Commit(2, &[])), ONE, AT_2],
-        &[],
-        &[0, 1],
-        Some((Clause::Vii, 3)),
+        "report 1\ntx t0 0:0:1,9 committed 7\ntx t1 0:1:0,1 conflict v t0\ntx t2 0:1:0,2 refused 2 missing at 1\norder t0\nend\n",
+        "no vii 3",
     ),
-    // There is no such operation.
-    (&[NEWER, AT_V, AT_K_0], &[], &[0], Some((Clause::Vii, 3))),
-    (&[NEWER, AT_V, AT_K_3], &[], &[0], Some((Clause::Vii, 3))),
-    // Another operation is refused first.
+    // Two are commit 1.
     (
-        &[
-            NEWER,
-            AT_V,
-            (2, 1, 0, [0, 2, 0], Told::Refused(2, Reason::Missing, 0)),
-        ],
-        &[],
-        &[0],
-        Some((Clause::Vii, 3)),
+        "report 1\ntx t0 0:0:1,0 committed 1\ntx t1 0:1:0,1 committed 1\ntx t2 0:1:0,2 refused 2 missing at 1\norder t0 t1\nend\n",
+        "no vii 3",
+    ),
+    // Commit 1 sets a key of v, which commit 2 makes.
+    (
+        "report 1\ntx t0 0:0:1,0 committed 2\ntx t1 0:1:0,1 committed 1\ntx t2 0:1:0,2 refused 2 missing at 2\norder t0 t1\nend\n",
+        "no vii 3",
+    ),
+    // There is no operation 0.
+    (
+        "report 1\ntx t0 0:0:1,9 committed 1\ntx t1 0:1:0,1 conflict v t0\ntx t2 0:1:0,2 refused 0 missing at 1\norder t0\nend\n",
+        "no vii 3",
+    ),
+    // Nor an operation 3.
+    (
+        "report 1\ntx t0 0:0:1,9 committed 1\ntx t1 0:1:0,1 conflict v t0\ntx t2 0:1:0,2 refused 3 missing at 1\norder t0\nend\n",
+        "no vii 3",
+    ),
+    // Before commit 1 there is no v: operation 1 is refused.
+    (
+        "report 1\ntx t0 0:0:1,9 committed 1\ntx t1 0:1:0,1 conflict v t0\ntx t2 0:1:0,2 refused 2 missing at 0\norder t0\nend\n",
+        "no vii 3",
     ),
 ];
 
 #[test]
 fn refusals_after_their_commits(rt: HostRuntime) {
-    assert_rows(&rt, rt.alloc(), 2, &ABORTED, &REFUSED);
+    assert_rows(&rt, rt.alloc(), ABORTED, &REFUSED);
 }
 
 // One session makes a vertex; another one would make it too, and then reads it.
-const AGAIN: [Asked; 3] = [
-    (0, 0, &[Do::Create(b'v')]),
-    (1, 1, &[Do::Create(b'v')]),
-    (1, 1, &[Do::Get(b'v')]),
-];
+const AGAIN: &str =
+    "weaver 1 2 1\ntx t0 0 0\ncreate v\nend\ntx t1 1 1\ncreate v\nend\ntx t2 1 1\nget v\nend\n";
 
-const EXISTS_AT_0: Line = (1, 1, 0, [0, 1, 0], Told::Refused(1, Reason::Exists, 0));
-
-const EXISTS_AT_1: Line = (1, 1, 0, [0, 1, 0], Told::Refused(1, Reason::Exists, 1));
-
-const EXISTS_AT_2: Line = (1, 1, 0, [0, 1, 0], Told::Refused(1, Reason::Exists, 2));
-
-const READ_2: Line = (2, 1, 0, [0, 2, 0], Told::Commit(2, &[(1, Read::Empty)]));
-
-const READ_3: Line = (2, 1, 0, [0, 2, 0], Told::Commit(3, &[(1, Read::Empty)]));
-
-const BETWEEN: [Row; 5] = [
-    (&[MADE, EXISTS_AT_1, READ_2], &[], &[0, 2], None),
-    // After too few commits, and after a later one of its session.
+// A refusal is after the commits of its session before it, and before those after it; numbers are 1 to the count.
+const BETWEEN: [(&str, &str); 5] = [
     (
-        &[MADE, EXISTS_AT_0, READ_3],
-        &[],
-        &[0, 2],
-        Some((Clause::Vii, 2)),
+        "report 1\ntx t0 0:0:1,0 committed 1\ntx t1 0:1:0,1 refused 1 exists at 1\ntx t2 0:1:0,2 committed 2\ngot 1 record\norder t0 t2\nend\n",
+        "yes",
     ),
+    // Before commit 1 the vertex may be made.
     (
-        &[MADE, EXISTS_AT_2, READ_2],
-        &[],
-        &[0, 2],
-        Some((Clause::Vii, 2)),
+        "report 1\ntx t0 0:0:1,0 committed 1\ntx t1 0:1:0,1 refused 1 exists at 0\ntx t2 0:1:0,2 committed 3\ngot 1 record\norder t0 t2\nend\n",
+        "no vii 2",
     ),
-    // A number above the count.
+    // Commit 2 is the next request of the session.
     (
-        &[MADE, EXISTS_AT_1, READ_3],
-        &[],
-        &[0, 2],
-        Some((Clause::Viii, 3)),
+        "report 1\ntx t0 0:0:1,0 committed 1\ntx t1 0:1:0,1 refused 1 exists at 2\ntx t2 0:1:0,2 committed 2\ngot 1 record\norder t0 t2\nend\n",
+        "no vii 2",
     ),
+    // There are no three commits.
     (
-        &[
-            (0, 0, 0, [1, 0, 0], Told::Commit(2, &[])),
-            (1, 1, 0, [0, 1, 0], Told::Begun),
-            (2, 1, 0, [0, 2, 0], Told::Commit(2, &[(1, Read::Empty)])),
-        ],
-        &[],
-        &[0, 2],
-        Some((Clause::Viii, 3)),
+        "report 1\ntx t0 0:0:1,0 committed 1\ntx t1 0:1:0,1 refused 1 exists at 1\ntx t2 0:1:0,2 committed 3\ngot 1 record\norder t0 t2\nend\n",
+        "no viii 3",
+    ),
+    // Both are commit 2.
+    (
+        "report 1\ntx t0 0:0:1,0 committed 2\ntx t1 0:1:0,1 begun\ntx t2 0:1:0,2 committed 2\ngot 1 record\norder t0 t2\nend\n",
+        "no viii 3",
     ),
 ];
 
 #[test]
 fn refusals_and_numbers_in_a_session(rt: HostRuntime) {
-    assert_rows(&rt, rt.alloc(), 2, &AGAIN, &BETWEEN);
+    assert_rows(&rt, rt.alloc(), AGAIN, &BETWEEN);
 }

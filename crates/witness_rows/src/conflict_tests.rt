@@ -2,12 +2,12 @@
 //!
 //! Requests at eight gatekeepers in rounds, whose stamps leave each two of different gatekeepers open. A pair joins
 //! each two commits that follow one another at different gatekeepers. Of every second round all but the last are
-//! aborted for
-//! a conflict: each precedes the next request of its gatekeeper by its stamp, and that one the newer request by a pair.
+//! aborted for a conflict: each precedes the next request of its gatekeeper by its stamp, and that one the newer
+//! request by a pair.
 ghost use Rattle.std.specs.Prelude.{◌<◌};
 
-use crate::cases::{Asked, Do, Line, Read, Told, letter, reply_state, request, script_of};
-use crate::tables::{Row, assert_rows, judge};
+use crate::cases::{Do, Told, letter, reply_state, request, script_of};
+use crate::tables::judge;
 use order_witness::{Clause, Judged};
 use program_defs::Script;
 use report_rules::{Pair, Reply, Report};
@@ -141,27 +141,4 @@ fn a_wrong_conflict_among_pairs(rt: HostRuntime) {
             place: 151,
         }
     );
-}
-
-// Gatekeeper 8 is none of the eight whose chains the graph keeps, so precedence is closed over all requests.
-const FAR: [Asked; 3] = [
-    (0, 8, &[Do::Create(b'w')]),
-    (1, 1, &[Do::Get(b'w'), Do::Create(b'v')]),
-    (2, 2, &[Do::Get(b'v')]),
-];
-
-const X: Line = (0, 8, 0, [1, 0, 1], Told::Commit(1, &[]));
-
-const Y: Line = (1, 1, 0, [0, 1, 0], Told::Commit(2, &[(1, Read::Empty)]));
-
-const Z: Line = (2, 2, 0, [0, 0, 1], Told::Conflict(b'v', 1));
-
-const CLOSED: [Row; 2] = [
-    (&[X, Y, Z], &[(b'w', 0, 1)], &[0, 1], None),
-    (&[X, Y, Z], &[], &[0, 1], Some((Clause::Vi, 3))),
-];
-
-#[test]
-fn conflicts_past_the_eighth_gatekeeper(rt: HostRuntime) {
-    assert_rows(&rt, rt.alloc(), 9, &FAR, &CLOSED);
 }

@@ -1,8 +1,10 @@
-use crate::cases::{Asked, Do, Line, Read, Told, letter, report, request, script, script_of};
+//! Small reports of a few kinds, the slow judge on many, a long chain, and printed orders.
+
+use crate::cases::{letter, script_of};
 use crate::slow::slow_judge;
-use crate::tables::{Row, assert_rows, judge};
-use graph_ops::{Op, Reason};
-use order_witness::{Clause, Judged, has_order, order_of};
+use crate::tables::{assert_rows, judge, read};
+use graph_ops::Op;
+use order_witness::{Judged, has_order, order_of};
 use program_defs::{Program, Request, Script, Work};
 use report_rules::{Pair, Reply, ReplyState, Report};
 use std::alloc::Global;
@@ -10,233 +12,227 @@ use std::process::Abort;
 use vector_stamp::{Clock, Stamp};
 use weave_data::Items;
 
-/// One session at each of two gatekeepers: the one makes a vertex, the other one sets a key of it.
-pub const TWO: [Asked; 2] = [(0, 0, &[Do::Create(b'v')]), (1, 1, &[Do::Set(b'v')])];
+/// Two sessions, each at a gatekeeper of its own: the first makes a vertex, the second sets a key of it.
+pub const TWO: &str = "weaver 1 2 1\ntx t0 0 0\ncreate v\nend\ntx t1 1 1\nset v k x\nend\n";
 
-/// The vertex is made by commit 1.
-pub const MADE: Line = (0, 0, 0, [1, 0, 0], Told::Commit(1, &[]));
-
-const MADE_LATER: Line = (0, 0, 0, [1, 1, 0], Told::Commit(1, &[]));
-
-/// Its key is set by commit 2, and the stamps are unordered.
-pub const KEYED: Line = (1, 1, 0, [0, 1, 0], Told::Commit(2, &[]));
-
-/// It is not there before the first commit.
-pub const MISSING: Line = (1, 1, 0, [0, 1, 0], Told::Refused(1, Reason::Missing, 0));
-
-const UNORDERED: [Row; 10] = [
-    (&[MADE, KEYED], &[(b'v', 0, 1)], &[0, 1], None),
+// Two writers: their stamps are unordered, or that of t1 is before that of t0.
+const UNORDERED: [(&str, &str); 10] = [
     (
-        &[MADE, KEYED],
-        &[(b'v', 0, 1)],
-        &[1, 0],
-        Some((Clause::Iii, 2)),
+        "report 1\ntx t0 0:0:1,0 committed 1\ntx t1 0:1:0,1 committed 2\nsettled v t0 t1\norder t0 t1\nend\n",
+        "yes",
+    ),
+    // The order is against the pair.
+    (
+        "report 1\ntx t0 0:0:1,0 committed 1\ntx t1 0:1:0,1 committed 2\nsettled v t0 t1\norder t1 t0\nend\n",
+        "no iii 2",
+    ),
+    // Neither names w.
+    (
+        "report 1\ntx t0 0:0:1,0 committed 1\ntx t1 0:1:0,1 committed 2\nsettled w t0 t1\norder t0 t1\nend\n",
+        "no v 1",
+    ),
+    // The stamp of t1 is of the other gatekeeper.
+    (
+        "report 1\ntx t0 0:0:1,0 committed 1\ntx t1 0:0:0,1 committed 2\nsettled v t0 t1\norder t0 t1\nend\n",
+        "no i 2",
+    ),
+    // Both are commit 1.
+    (
+        "report 1\ntx t0 0:0:1,0 committed 1\ntx t1 0:1:0,1 committed 1\nsettled v t0 t1\norder t0 t1\nend\n",
+        "no viii 2",
+    ),
+    // No pair is needed.
+    (
+        "report 1\ntx t0 0:0:1,0 committed 1\ntx t1 0:1:0,1 committed 2\norder t0 t1\nend\n",
+        "yes",
+    ),
+    // A refused transaction is listed.
+    (
+        "report 1\ntx t0 0:0:1,0 committed 1\ntx t1 0:1:0,1 refused 1 missing at 0\norder t0 t1\nend\n",
+        "no ii 2",
     ),
     (
-        &[MADE, KEYED],
-        &[(b'w', 0, 1)],
-        &[0, 1],
-        Some((Clause::V, 1)),
+        "report 1\ntx t0 0:0:1,0 committed 1\ntx t1 0:1:0,1 refused 1 missing at 0\norder t0\nend\n",
+        "yes",
+    ),
+    // A conflict with itself.
+    (
+        "report 1\ntx t0 0:0:1,1 committed 1\ntx t1 0:1:0,1 conflict v t1\norder t0\nend\n",
+        "no vi 2",
     ),
     (
-        &[MADE, (1, 0, 0, [0, 1, 0], Told::Commit(2, &[]))],
-        &[(b'v', 0, 1)],
-        &[0, 1],
-        Some((Clause::I, 2)),
-    ),
-    (
-        &[MADE, (1, 1, 0, [0, 1, 0], Told::Commit(1, &[]))],
-        &[(b'v', 0, 1)],
-        &[0, 1],
-        Some((Clause::Viii, 2)),
-    ),
-    (&[MADE, KEYED], &[], &[0, 1], None),
-    (&[MADE, MISSING], &[], &[0, 1], Some((Clause::Ii, 2))),
-    (&[MADE, MISSING], &[], &[0], None),
-    (
-        &[MADE_LATER, (1, 1, 0, [0, 1, 0], Told::Conflict(b'v', 1))],
-        &[],
-        &[0],
-        Some((Clause::Vi, 2)),
-    ),
-    (
-        &[MADE_LATER, (1, 1, 0, [0, 1, 0], Told::Conflict(b'v', 0))],
-        &[],
-        &[0],
-        None,
+        "report 1\ntx t0 0:0:1,1 committed 1\ntx t1 0:1:0,1 conflict v t0\norder t0\nend\n",
+        "yes",
     ),
 ];
 
 #[test]
 fn unordered_writers(rt: HostRuntime) {
-    assert_rows(&rt, rt.alloc(), 2, &TWO, &UNORDERED);
+    assert_rows(&rt, rt.alloc(), TWO, &UNORDERED);
 }
 
 /// One session makes a vertex with a key, and then reads it.
-pub const READER: [Asked; 2] = [
-    (0, 0, &[Do::Create(b'v'), Do::Set(b'v')]),
-    (0, 0, &[Do::Get(b'v')]),
-];
+pub const READER: &str =
+    "weaver 1 1 1\ntx t0 0 0\ncreate v\nset v k x\nend\ntx t1 0 0\nget v\nend\n";
 
-const READ: Line = (1, 0, 0, [2, 0, 0], Told::Commit(2, &[(1, Read::Set)]));
-
-const SESSION: [Row; 4] = [
-    (&[MADE, READ], &[], &[0, 1], None),
+// One session, whose second transaction reads what the first wrote.
+const SESSION: [(&str, &str); 5] = [
     (
-        &[
-            MADE,
-            (1, 0, 0, [2, 0, 0], Told::Commit(2, &[(1, Read::Absent)])),
-        ],
-        &[],
-        &[0, 1],
-        Some((Clause::Iv, 2)),
+        "report 1\ntx t0 0:0:1 committed 1\ntx t1 0:0:2 committed 2\ngot 1 record k=x\norder t0 t1\nend\n",
+        "yes",
     ),
+    // It reads that the vertex is absent.
     (
-        &[
-            (0, 0, 0, [2, 0, 0], Told::Commit(1, &[])),
-            (1, 0, 0, [1, 0, 0], Told::Commit(2, &[(1, Read::Set)])),
-        ],
-        &[],
-        &[0, 1],
-        Some((Clause::I, 2)),
+        "report 1\ntx t0 0:0:1 committed 1\ntx t1 0:0:2 committed 2\ngot 1 absent\norder t0 t1\nend\n",
+        "no iv 2",
     ),
+    // It reads the vertex without the key; later clauses break too.
     (
-        &[
-            (0, 0, 0, [1, 0, 0], Told::Conflict(b'v', 1)),
-            (1, 0, 0, [2, 0, 0], Told::Commit(1, &[(1, Read::Absent)])),
-        ],
-        &[],
-        &[1],
-        Some((Clause::Vi, 1)),
+        "report 1\ntx t0 0:0:1 committed 1\ntx t1 0:0:2 committed 9\ngot 1 record\nsettled w t0 t1\norder t0 t1\nend\n",
+        "no iv 2",
+    ),
+    // The stamps are the other way round.
+    (
+        "report 1\ntx t0 0:0:2 committed 1\ntx t1 0:0:1 committed 2\ngot 1 record k=x\norder t0 t1\nend\n",
+        "no i 2",
+    ),
+    // A conflict with a request of the same session.
+    (
+        "report 1\ntx t0 0:0:1 conflict v t1\ntx t1 0:0:2 committed 1\ngot 1 absent\norder t1\nend\n",
+        "no vi 1",
     ),
 ];
 
 #[test]
 fn one_session(rt: HostRuntime) {
-    assert_rows(&rt, rt.alloc(), 1, &READER, &SESSION);
+    assert_rows(&rt, rt.alloc(), READER, &SESSION);
 }
 
-const PATH: [Asked; 3] = [
-    (0, 0, &[Do::Create(b'w')]),
-    (1, 1, &[Do::Get(b'w'), Do::Create(b'v')]),
-    (2, 2, &[Do::Get(b'v')]),
+/// Three sessions: the first makes w, the second reads it and makes v, the third reads v.
+pub const PATH: &str =
+    "weaver 1 3 1\ntx t0 0 0\ncreate w\nend\ntx t1 1 1\nget w\ncreate v\nend\ntx t2 2 2\nget v\nend\n";
+
+// The conflict is with t1, which t2 precedes through t0: by stamps t2 precedes t0, and by the pair t0 precedes t1.
+const THROUGH: [(&str, &str); 3] = [
+    (
+        "report 1\ntx t0 0:0:1,0,1 committed 1\ntx t1 0:1:0,1,0 committed 2\ngot 1 record\ntx t2 0:2:0,0,1 conflict v t1\nsettled w t0 t1\norder t0 t1\nend\n",
+        "yes",
+    ),
+    (
+        "report 1\ntx t0 0:0:1,0,1 committed 1\ntx t1 0:1:0,1,0 committed 2\ngot 1 record\ntx t2 0:2:0,0,1 conflict v t1\norder t0 t1\nend\n",
+        "no vi 3",
+    ),
+    // The order is against the pair.
+    (
+        "report 1\ntx t0 0:0:1,0,1 committed 1\ntx t1 0:1:0,1,0 committed 2\ngot 1 record\ntx t2 0:2:0,0,1 conflict v t1\nsettled w t1 t0\norder t0 t1\nend\n",
+        "no iii 2",
+    ),
 ];
 
-const X: Line = (0, 0, 0, [1, 0, 1], Told::Commit(1, &[]));
-
-const Y: Line = (1, 1, 0, [0, 1, 0], Told::Commit(2, &[(1, Read::Empty)]));
-
-const Z: Line = (2, 2, 0, [0, 0, 1], Told::Conflict(b'v', 1));
-
-const THROUGH: [Row; 3] = [
-    (&[X, Y, Z], &[(b'w', 0, 1)], &[0, 1], None),
-    (&[X, Y, Z], &[], &[0, 1], Some((Clause::Vi, 3))),
-    (&[X, Y, Z], &[(b'w', 1, 0)], &[0, 1], Some((Clause::Iii, 2))),
-];
-
-// The conflict comes by stamps to a commit, and from it by a pair.
 #[test]
 fn conflict_through_a_path(rt: HostRuntime) {
-    assert_rows(&rt, rt.alloc(), 3, &PATH, &THROUGH);
+    assert_rows(&rt, rt.alloc(), PATH, &THROUGH);
 }
 
-/// Three sessions, of which the last one reads what the second one makes.
-pub const THREE: [Asked; 3] = [
-    (0, 0, &[Do::Create(b'a')]),
-    (1, 2, &[Do::Create(b'b')]),
-    (2, 1, &[Do::Get(b'b')]),
-];
+/// Three sessions: the first makes a, the second makes b, the third reads b.
+pub const THREE: &str =
+    "weaver 1 3 1\ntx t0 0 0\ncreate a\nend\ntx t1 1 2\ncreate b\nend\ntx t2 2 1\nget b\nend\n";
 
-/// Its stamp is after that of the third request.
-pub const AFTER: Line = (0, 0, 0, [1, 1, 0], Told::Commit(1, &[]));
-
-/// Its stamp is unordered with those of the others.
-pub const APART: Line = (1, 2, 0, [0, 0, 1], Told::Commit(2, &[]));
-
-const EARLY: Line = (2, 1, 0, [0, 1, 0], Told::Commit(3, &[(1, Read::Empty)]));
-
-const AGAINST: [Row; 3] = [
-    (&[AFTER, APART, EARLY], &[(b'b', 1, 2)], &[1, 2, 0], None),
+// By the pair t1 precedes t2, and by stamps t2 precedes t0: the order is not that of the commits' numbers.
+const AGAINST: [(&str, &str); 3] = [
     (
-        &[AFTER, APART, EARLY],
-        &[(b'b', 1, 2)],
-        &[0, 1, 2],
-        Some((Clause::Iii, 2)),
+        "report 1\ntx t0 0:0:1,1,0 committed 1\ntx t1 0:2:0,0,1 committed 2\ntx t2 0:1:0,1,0 committed 3\ngot 1 record\nsettled b t1 t2\norder t1 t2 t0\nend\n",
+        "yes",
     ),
+    // Already t1 is too late: it precedes t0 through t2.
     (
-        &[AFTER, APART, EARLY],
-        &[],
-        &[1, 0, 2],
-        Some((Clause::Iii, 3)),
+        "report 1\ntx t0 0:0:1,1,0 committed 1\ntx t1 0:2:0,0,1 committed 2\ntx t2 0:1:0,1,0 committed 3\ngot 1 record\nsettled b t1 t2\norder t0 t1 t2\nend\n",
+        "no iii 2",
+    ),
+    // Without the pair only t2 is too late.
+    (
+        "report 1\ntx t0 0:0:1,1,0 committed 1\ntx t1 0:2:0,0,1 committed 2\ntx t2 0:1:0,1,0 committed 3\ngot 1 record\norder t1 t0 t2\nend\n",
+        "no iii 3",
     ),
 ];
 
-// A pair, and then stamps from its later end to a request that was answered first.
 #[test]
 fn order_against_answers(rt: HostRuntime) {
-    assert_rows(&rt, rt.alloc(), 3, &THREE, &AGAINST);
+    assert_rows(&rt, rt.alloc(), THREE, &AGAINST);
 }
 
 // Each reply of two, with each of some stamps, pairs and orders: the slow judge agrees.
-const TOLD: [Told; 9] = [
-    Told::Unbegun,
-    Told::Begun,
-    Told::Commit(0, &[]),
-    Told::Commit(1, &[]),
-    Told::Commit(2, &[]),
-    Told::Conflict(b'v', 0),
-    Told::Conflict(b'v', 1),
-    Told::Refused(1, Reason::Missing, 0),
-    Told::Refused(1, Reason::Exists, 1),
+const TOLD: [&str; 9] = [
+    "unbegun",
+    "begun",
+    "committed 0",
+    "committed 1",
+    "committed 2",
+    "conflict v t0",
+    "conflict v t1",
+    "refused 1 missing at 0",
+    "refused 1 exists at 1",
 ];
 
-const STAMPS: [([u64; 3], [u64; 3]); 3] = [
-    ([1, 0, 0], [0, 1, 0]),
-    ([1, 1, 0], [0, 1, 0]),
-    ([1, 0, 0], [1, 1, 0]),
+const STAMPS: [(&str, &str); 3] = [
+    ("0:0:1,0", "0:1:0,1"),
+    ("0:0:1,1", "0:1:0,1"),
+    ("0:0:1,0", "0:1:1,1"),
 ];
 
-const PAIRS: [&[(u8, u32, u32)]; 4] = [
-    &[],
-    &[(b'v', 0, 1)],
-    &[(b'v', 1, 0)],
-    &[(b'w', 0, 1), (b'v', 0, 0)],
+const PAIRS: [&str; 4] = [
+    "",
+    "settled v t0 t1\n",
+    "settled v t1 t0\n",
+    "settled w t0 t1\nsettled v t0 t0\n",
 ];
 
-const ORDERS: [&[u32]; 5] = [&[], &[0], &[1], &[0, 1], &[1, 0]];
+const ORDERS: [&str; 5] = [
+    "order",
+    "order t0",
+    "order t1",
+    "order t0 t1",
+    "order t1 t0",
+];
 
-fn assert_agree(rt: &impl Abort, alloc: Global, script: &Script, report: &Report) {
-    let slowly = slow_judge(rt, alloc, script, report);
-    assert_eq!(rt; judge(rt, alloc, script, report), slowly);
+fn assert_agree(rt: &impl Abort, alloc: Global, text: &str) {
+    let (script, report) = read(rt, alloc, TWO, text);
+    let slowly = slow_judge(rt, alloc, &script, &report);
+    assert_eq!(rt; judge(rt, alloc, &script, &report), slowly, "{text}");
 }
 
-fn assert_agree_on(rt: &impl Abort, alloc: Global, script: &Script, lines: &[Line]) {
+fn assert_agree_on(rt: &impl Abort, alloc: Global, first: &str, second: &str) {
     for pairs in PAIRS {
         for order in ORDERS {
-            let report = report(rt, alloc, &*lines, pairs, order);
-            assert_agree(rt, alloc, script, &report);
+            let text = format!(in alloc; "report 1\n{first}{second}{pairs}{order}\nend\n");
+            assert_agree(rt, alloc, text.expect(rt, "memory").as_str());
         }
     }
 }
 
-fn assert_agree_told(rt: &impl Abort, alloc: Global, script: &Script, first: Told, second: Told) {
+// The line of a reply. One that has not begun has no stamp.
+fn reply_line(rt: &impl Abort, alloc: Global, name: &str, stamp: &str, told: &str) -> String {
+    let line = if told == "unbegun" {
+        format!(in alloc; "tx {name} {told}\n")
+    } else {
+        format!(in alloc; "tx {name} {stamp} {told}\n")
+    };
+    line.expect(rt, "memory")
+}
+
+fn assert_agree_told(rt: &impl Abort, alloc: Global, first: &str, second: &str) {
     for (a, b) in STAMPS {
-        assert_agree_on(
-            rt,
-            alloc,
-            script,
-            &[(0, 0, 0, a, first), (1, 1, 0, b, second)],
-        );
+        let first = reply_line(rt, alloc, "t0", a, first);
+        let second = reply_line(rt, alloc, "t1", b, second);
+        assert_agree_on(rt, alloc, first.as_str(), second.as_str());
     }
 }
 
 #[test]
 fn the_slow_judge_agrees(rt: HostRuntime) {
-    let alloc = rt.alloc();
-    let script = script(&rt, alloc, 2, &TWO);
     for first in TOLD {
         for second in TOLD {
-            assert_agree_told(&rt, alloc, &script, first, second);
+            assert_agree_told(&rt, rt.alloc(), first, second);
         }
     }
 }
@@ -363,111 +359,90 @@ fn a_long_order_is_printed(rt: HostRuntime) {
     assert_eq!(rt; order.as_slice(), report.order.as_slice());
 }
 
-/// The third request has no verdict.
-pub const BEGUN: Line = (2, 1, 0, [0, 1, 0], Told::Begun);
+// Reports with their printed orders: of the requests that may be next it takes the one of the least home, and it leaves
+// out what is not committed.
+const PRINTED: [&str; 4] = [
+    // By the pair t1 precedes t2, and by stamps t2 precedes t0.
+    "report 1\ntx t0 0:0:1,1,0 committed 1\ntx t1 0:2:0,0,1 committed 2\ntx t2 0:1:0,1,0 committed 3\ngot 1 record\nsettled b t1 t2\norder t1 t2 t0\nend\n",
+    // Stamps alone: of t1 and t2, which may both be first, t2 has the least home.
+    "report 1\ntx t0 0:0:1,1,0 committed 1\ntx t1 0:2:0,0,1 committed 2\ntx t2 0:1:0,1,0 committed 3\ngot 1 record\norder t2 t0 t1\nend\n",
+    // t2 has no verdict.
+    "report 1\ntx t0 0:0:1,1,0 committed 1\ntx t1 0:2:0,0,1 committed 2\ntx t2 0:1:0,1,0 begun\norder t0 t1\nend\n",
+    // t0 has not begun.
+    "report 1\ntx t0 unbegun\ntx t1 0:2:0,0,1 committed 2\ntx t2 0:1:0,1,0 committed 3\ngot 1 record\norder t2 t1\nend\n",
+];
 
-/// The first request has no stamp.
-pub const UNBEGUN: Line = (0, 0, 0, [0, 0, 0], Told::Unbegun);
-
-// The printed order takes the least home first, and leaves out what is aborted.
 #[test]
 fn printed_orders(rt: HostRuntime) {
-    let alloc = rt.alloc();
-    let script = script(&rt, alloc, 3, &THREE);
-    let pair = [(b'b', 1, 2)];
-    assert_ordered(
-        &rt,
-        alloc,
-        &script,
-        &[AFTER, APART, EARLY],
-        &pair,
-        &[1, 2, 0],
-    );
-    assert_ordered(&rt, alloc, &script, &[AFTER, APART, EARLY], &[], &[2, 0, 1]);
-    assert_ordered(&rt, alloc, &script, &[AFTER, APART, BEGUN], &[], &[0, 1]);
-    assert_ordered(&rt, alloc, &script, &[UNBEGUN, APART, EARLY], &[], &[2, 1]);
+    assert_ordered(&rt, rt.alloc(), THREE, &PRINTED);
 }
-
-// The first write of a session, which makes a vertex.
-const FIRST_WRITE: Line = (0, 1, 0, [0, 1, 0], Told::Commit(1, &[]));
-
-// A program of another session is finished. Its stamp and that of the first write are unordered.
-const FINISHED: Line = (1, 0, 0, [1, 0, 0], Told::Shown(Read::Empty));
-
-// It is running.
-const RUNNING: Line = (1, 0, 0, [1, 0, 0], Told::Begun);
-
-// The second write of the session is after the program.
-const SECOND_WRITE: Line = (2, 1, 0, [1, 2, 0], Told::Commit(2, &[]));
 
 // Two writes of a session at the second gatekeeper, and between them a program at the first one.
-fn between_writes(rt: &impl Abort, alloc: Global) -> Script {
-    let program = Request {
-        name: letter(rt, b'p'),
-        session: 1,
-        gate: 0,
-        work: Work::Look(Program::Show {
-            v: letter(rt, b'v'),
-        }),
-    };
-    let first = request(rt, alloc, (0, 1, &[Do::Create(b'v')]));
-    let second = request(rt, alloc, (0, 1, &[Do::Set(b'v')]));
-    let mut requests = Items::new(alloc);
-    requests.push(first).expect(rt, "memory");
-    requests.push(program).expect(rt, "memory");
-    requests.push(second).expect(rt, "memory");
-    script_of(alloc, 2, requests)
-}
+const BETWEEN_WRITES: &str =
+    "weaver 1 2 1\ntx t0 0 1\ncreate v\nend\nprog p 1 0 show v\ntx t1 0 1\nset v k x\nend\n";
 
 // A pair puts the program after the first write. It is listed once it is finished.
+const WITH_A_PROGRAM: [&str; 2] = [
+    "report 1\ntx t0 0:1:0,1 committed 1\nprog p 0:0:1,0 done record\ntx t1 0:1:1,2 committed 2\nsettled v t0 p\norder t0 p t1\nend\n",
+    "report 1\ntx t0 0:1:0,1 committed 1\nprog p 0:0:1,0 running\ntx t1 0:1:1,2 committed 2\nsettled v t0 p\norder t0 t1\nend\n",
+];
+
 #[test]
 fn printed_orders_with_a_program(rt: HostRuntime) {
-    let alloc = rt.alloc();
-    let script = between_writes(&rt, alloc);
-    let pair = [(b'v', 0, 1)];
-    assert_ordered(
-        &rt,
-        alloc,
-        &script,
-        &[FIRST_WRITE, FINISHED, SECOND_WRITE],
-        &pair,
-        &[0, 1, 2],
-    );
-    assert_ordered(
-        &rt,
-        alloc,
-        &script,
-        &[FIRST_WRITE, RUNNING, SECOND_WRITE],
-        &pair,
-        &[0, 2],
-    );
+    assert_ordered(&rt, rt.alloc(), BETWEEN_WRITES, &WITH_A_PROGRAM);
 }
 
-fn assert_ordered(
-    rt: &impl Abort,
-    alloc: Global,
-    script: &Script,
-    lines: &[Line],
-    pairs: &[(u8, u32, u32)],
-    want: &[u32],
-) {
-    let report = &report(rt, alloc, lines, pairs, &[]);
-    assert!(rt; has_order(alloc, script, report).expect(rt, "memory"));
-    let order = order_of(alloc, script, report).expect(rt, "memory");
-    assert_eq!(rt; order.as_slice(), want);
+// The order of each text is the printed one. It is found without the text's order.
+fn assert_ordered(rt: &impl Abort, alloc: Global, script: &str, texts: &[&str]) {
+    for text in texts {
+        let (script, report) = read(rt, alloc, script, text);
+        let (unordered, wanted) = without_order(alloc, report);
+        assert!(rt;
+            has_order(alloc, &script, &unordered).expect(rt, "memory"),
+            "{text}"
+        );
+        let order = order_of(alloc, &script, &unordered).expect(rt, "memory");
+        assert_eq!(rt; order.as_slice(), wanted.as_slice(), "{text}");
+    }
 }
 
-fn assert_no_order(rt: &impl Abort, alloc: Global, lines: &[Line], pairs: &[(u8, u32, u32)]) {
-    let script = script(rt, alloc, 2, &TWO);
-    let report = report(rt, alloc, lines, pairs, &[]);
-    assert!(rt; !has_order(alloc, &script, &report).expect(rt, "memory"));
+fn without_order(alloc: Global, report: Report) -> (Report, Items<u32>) {
+    let Report {
+        replies,
+        pairs,
+        order,
+        answers,
+    } = report;
+    let unordered = Report {
+        replies,
+        pairs,
+        order: Items::new(alloc),
+        answers,
+    };
+    (unordered, order)
 }
 
-// A pair either way makes a cycle; two replies stand the other way round; one is missing. There is no printed order.
+// Reports that have no printed order.
+const UNPRINTED: [&str; 3] = [
+    // The pairs make a cycle.
+    "report 1\ntx t0 0:0:1,0 committed 1\ntx t1 0:1:0,1 committed 2\nsettled v t0 t1\nsettled v t1 t0\norder\nend\n",
+    // The replies are the other way round.
+    "report 1\ntx t1 0:1:0,1 committed 2\ntx t0 0:0:1,0 committed 1\norder\nend\n",
+    // A reply is missing.
+    "report 1\ntx t0 0:0:1,0 committed 1\norder\nend\n",
+];
+
+fn assert_no_order(rt: &impl Abort, alloc: Global, script: &str, texts: &[&str]) {
+    for text in texts {
+        let (script, report) = read(rt, alloc, script, text);
+        assert!(rt;
+            !has_order(alloc, &script, &report).expect(rt, "memory"),
+            "{text}"
+        );
+    }
+}
+
 #[test]
 fn reports_without_a_printed_order(rt: HostRuntime) {
-    let alloc = rt.alloc();
-    assert_no_order(&rt, alloc, &[MADE, KEYED], &[(b'v', 0, 1), (b'v', 1, 0)]);
-    assert_no_order(&rt, alloc, &[KEYED, MADE], &[]);
-    assert_no_order(&rt, alloc, &[MADE], &[]);
+    assert_no_order(&rt, rt.alloc(), TWO, &UNPRINTED);
 }

@@ -1,5 +1,6 @@
-//! The tests of the judge of reports and of the printed order: tables of small reports, each with what the judge says of
-//! it and what a plain, slow judge says; long reports; programs. There is nothing but tests here.
+//! The tests of the judge of reports and of the printed order: tables of small reports as texts, each with the line
+//! that `check` writes of it, which a plain, slow judge has to agree with; long reports; programs. There is nothing but
+//! tests here.
 #![tactic(auto)]
 
 #[cfg(test)]
@@ -18,5 +19,7 @@ mod program_tests;
 mod slow;
 #[cfg(test)]
 mod tables;
+#[cfg(test)]
+mod value_tests;
 #[cfg(test)]
 mod walk_tests;

@@ -1,7 +1,7 @@
 //! Long reports: right ones, and ones that break a clause at one place near their end.
 ghost use Rattle.std.specs.Prelude.{◌<◌};
 
-use crate::cases::{Do, Read, Told, letter, reply_state, request, script_of};
+use crate::cases::{Do, Told, letter, reply_state, request, script_of};
 use crate::tables::judge;
 use graph_ops::Reason;
 use order_witness::{Clause, Judged};
@@ -20,7 +20,7 @@ enum Flaw {
     Stamp,
     /// The order repeats its last request.
     Listed,
-    /// The last two of the order stand the other way round.
+    /// The last two of the order are the other way round.
     Order,
     /// The last commit has an answer that nothing asked for.
     Answer,
@@ -103,13 +103,13 @@ fn commit_of(left: u32, number: u64, flaw: Flaw) -> Told<'static> {
         return Told::Commit(next, &[]);
     }
     match flaw {
-        Flaw::Answer => Told::Commit(next, &[(1, Read::Absent)]),
+        Flaw::Answer => Told::Commit(next, &[1]),
         Flaw::Number => Told::Commit(0, &[]),
         _ => Told::Commit(next, &[]),
     }
 }
 
-// What is told of request i, at this distance from the end, after this number of commits.
+// What is reported of request i, at this distance from the end, after this number of commits.
 fn told_of(i: u32, left: u32, number: u64, flaw: Flaw) -> Told<'static> {
     if i % 4 == 3 {
         refusal_of(left, number, flaw)

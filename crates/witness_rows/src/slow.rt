@@ -31,7 +31,7 @@ pub fn slow_judge(rt: &impl Abort, alloc: Global, script: &Script, report: &Repo
     Judged::Yes
 }
 
-// The first place that breaks, 0 where none does.
+// The first place that breaks, 0 if none does.
 fn first_place(
     rt: &impl Abort,
     alloc: Global,
@@ -244,7 +244,7 @@ fn is_order_right(script: &Script, report: &Report, place: usize) -> bool {
     !precedes(report, *request, *request, 5)
 }
 
-// Runs a request's transaction, where it is one: what it reads, or where it stops.
+// Runs a request's transaction, if it is one: what it reads, or where it stops.
 fn run(
     rt: &impl Abort,
     alloc: Global,

@@ -1,18 +1,12 @@
-//! Tables of small reports, with what the judge is to say of each.
+//! Tables of small reports: each a text, with the line that `check` writes of it.
 
-use crate::cases::{Asked, Line, report, script};
 use crate::slow::slow_judge;
 use order_witness::{Clause, Judged, has_numbered_operations, judge_report};
 use program_defs::Script;
 use report_rules::Report;
 use std::alloc::Global;
 use std::process::Abort;
-
-/// What a row wants: the clause and its place, or none where the report is right.
-pub type Want = Option<(Clause, u64)>;
-
-/// Replies, pairs, order, and what is wanted.
-pub type Row<'a> = (&'a [Line<'a>], &'a [(u8, u32, u32)], &'a [u32], Want);
+use weave_script::read_check;
 
 /// What the judge says.
 pub fn judge(rt: &impl Abort, alloc: Global, script: &Script, report: &Report) -> Judged {
@@ -20,29 +14,59 @@ pub fn judge(rt: &impl Abort, alloc: Global, script: &Script, report: &Report) -
     judge_report(alloc, script, report).expect(rt, "memory")
 }
 
-fn wanted(want: Want) -> Judged {
-    match want {
-        None => Judged::Yes,
-        Some((clause, place)) => Judged::No { clause, place },
+/// The script and the report of their texts.
+pub fn read(rt: &impl Abort, alloc: Global, script: &str, report: &str) -> (Script, Report) {
+    let input = format!(in alloc; "{script}{report}").expect(rt, "memory");
+    match read_check(alloc, input.as_str().as_bytes()) {
+        Ok(both) => both,
+        Err(_) => panic!(rt; "no script and report: {report}"),
     }
 }
 
-// Judges a report, also by the slow judge.
-fn assert_row(rt: &impl Abort, alloc: Global, script: &Script, row: Row, at: usize) {
-    let (lines, pairs, order, want) = row;
-    let report = report(rt, alloc, lines, pairs, order);
-    assert_eq!(rt; judge(rt, alloc, script, &report), wanted(want), "at {at}");
-    assert_eq!(rt;
-        slow_judge(rt, alloc, script, &report),
-        wanted(want),
-        "slowly at {at}"
-    );
+fn clause_word(clause: Clause) -> &'static str {
+    match clause {
+        Clause::I => "i",
+        Clause::Ii => "ii",
+        Clause::Iii => "iii",
+        Clause::Iv => "iv",
+        Clause::V => "v",
+        Clause::Vi => "vi",
+        Clause::Vii => "vii",
+        Clause::Viii => "viii",
+    }
 }
 
-/// Each report of the rows, for one script, is judged as it says, also by the slow judge.
-pub fn assert_rows(rt: &impl Abort, alloc: Global, gates: u32, asked: &[Asked], rows: &[Row]) {
-    let script = script(rt, alloc, gates, asked);
-    for (at, row) in rows.iter().enumerate() {
-        assert_row(rt, alloc, &script, *row, at);
+// The line that `check` writes.
+fn line_of(rt: &impl Abort, alloc: Global, judged: Judged) -> String {
+    let line = match judged {
+        Judged::Yes => String::from_str(alloc, "yes"),
+        Judged::No { clause, place } => {
+            let word = clause_word(clause);
+            format!(in alloc; "no {word} {place}")
+        }
+    };
+    line.expect(rt, "memory")
+}
+
+/// The judge and the slow judge say this line of the report that the text shows.
+pub fn assert_judged(
+    rt: &impl Abort,
+    alloc: Global,
+    script: &Script,
+    report: &Report,
+    text: &str,
+    line: &str,
+) {
+    let judged = line_of(rt, alloc, judge(rt, alloc, script, report));
+    assert_eq!(rt; judged.as_str(), line, "{text}");
+    let slowly = line_of(rt, alloc, slow_judge(rt, alloc, script, report));
+    assert_eq!(rt; slowly.as_str(), line, "slowly: {text}");
+}
+
+/// Each report for this script, a text, is judged as its line says, also by the slow judge.
+pub fn assert_rows(rt: &impl Abort, alloc: Global, script: &str, rows: &[(&str, &str)]) {
+    for (text, line) in rows {
+        let (script, report) = read(rt, alloc, script, text);
+        assert_judged(rt, alloc, &script, &report, text, line);
     }
 }

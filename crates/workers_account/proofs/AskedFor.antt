@@ -1,11 +1,12 @@
 -- A client's worker asks the oracle for no requests but those that its hand began since the start.
+-- Used by `workers_follow_their_sessions`.
 use Rattle.std.proofs.Common.{◌≡◌, ℕ, List, [], ◌∷◌, ◌++◌, length, drop, map, Contains, Ok, Some, inl, inr, refl, sym, ap, subst, ◌∙◌, append_assoc}
 use Rattle.std.specs.List.{flat_map}
 use Rattle.std.proofs.lemmas.List.{append-nil, append_cancel_left}
 use Rattle.std.proofs.lemmas.List.Concat.{flat_map-append}
 use Rattle.std.proofs.lemmas.List.Elements.{Contains-append_cases, Contains-append_left, Contains-append_right}
 use Rattle.std.proofs.Math.Seq.{drop-append_seam}
-use Rattle.proof_base.proofs.Members.{flat_has, has_flat, has_head, has_none, map_has, only}
+use Rattle.weave_data.proofs.Members.{flat_has, has_flat, has_head, has_none, map_has, only}
 use Rattle.vector_stamp.specs.declared.clock.Stamp.{Stamp}
 use Rattle.vector_stamp.specs.Precedence.{Given}
 use Rattle.vector_stamp.specs.Settling.{SettledEntry, entries_of_call}
@@ -29,7 +30,7 @@ use Rattle.weaver_locks.specs.declared.shared.Shared.{Shared}
 use Rattle.weaver_locks.specs.GateHolds.{gate_entry_by}
 use Rattle.weaver_locks.specs.Hands.{hand_number, made_by, seen_by, IsHand}
 use Rattle.weaver_locks.specs.Locks.{start_of}
-use Rattle.weaver_workers.specs.ClientWork.{Does, DoesChange, DoesVisit, Goes, Stand}
+use Rattle.weaver_workers.specs.ClientWork.{DoesOneCall, DoesChange, DoesVisit, Goes, Stand}
 use Rattle.weaver_workers.specs.Keeping.{KeepsClient}
 use Rattle.workers_account.specs.Asked.{AsksForOwn, IsBegunSince}
 use Rattle.workers_account.proofs.Visited.{program-begun}
@@ -168,7 +169,7 @@ module _ (shared : Shared) where
               (begun-stays old.hand new.hand keeps.is_hand visits.was.number visits.was.more.gates one.stamp was);
         }
 
-    does-asks : Does shared script number upto old new → Asks old new
+    does-asks : DoesOneCall shared script number upto old new → Asks old new
     does-asks (inl change) = asks-change change
     does-asks (inr (inl start)) = asks-none old new start.starts.begins.number start.starts.begins.more.gates (ap (λ (a : Account). a.oracle) start.starts.begins.made)
     does-asks (inr (inr (inl visit))) = asks-visit visit

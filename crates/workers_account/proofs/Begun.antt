@@ -1,4 +1,5 @@
 -- What began at the gatekeepers of a phase's closed logs is what the sessions' logs say began, with the same stamps.
+-- Used by ByLog, Ended, Follows, Idle, OpenPairs, Programs, 2 more and crates sessions_account and weave_phase.
 use Rattle.std.proofs.Common.{◌≡◌, ◌≢◌, ℕ, ◌==◌, List, [], ◌∷◌, ◌++◌, length, map, get_or, Contains, IsTrue, Option, None, Some, ◌⊎◌, inl, inr, refl, sym, ap, subst, ◌∙◌, arith}
 use Rattle.std.specs.Prelude.{slice_get, IsSomeAnd}
 use Rattle.std.specs.List.{filter, find, range_with_len}
@@ -8,8 +9,8 @@ use Rattle.std.proofs.lemmas.List.{length-map}
 use Rattle.std.proofs.lemmas.List.Elements.{Contains-append_right}
 use Rattle.std.proofs.lemmas.List.FromFn.{length-range_with_len}
 use Rattle.std.proofs.lemmas.Option.{none-some, same_Some, slice_get-map, slice_get_past, unwrap_or-slice_get}
-use Rattle.proof_base.proofs.Members.{filter_has, find_has, find_lacks, flat_has, has_flat, has_none}
-use Rattle.proof_base.proofs.Ordered.{find_by_key}
+use Rattle.weave_data.proofs.Members.{filter_has, find_has, find_lacks, flat_has, has_flat, has_none}
+use Rattle.weave_data.proofs.Ordered.{find_by_key}
 use Rattle.vector_stamp.specs.declared.clock.Stamp.{Stamp}
 use Rattle.program_defs.specs.declared.script.Request.{Request}
 use Rattle.program_defs.specs.declared.script.Script.{Script}
@@ -26,7 +27,8 @@ use Rattle.weave_account.specs.Gatekeepers.{BeginEachOnce}
 use Rattle.weave_account.specs.GoesOn.{IsBeginningOf}
 use Rattle.weave_account.specs.Sessions.{requests_of_session}
 use Rattle.weave_account.proofs.Beginning.{all-in}
-use Rattle.hands_account.proofs.Places.{has-on, place-of}
+use Rattle.weave_account.proofs.Replying.{has-all}
+use Rattle.hands_account.proofs.Places.{has-on}
 use Rattle.weaver_core.specs.declared.client.Client.{Client}
 use Rattle.weaver_core.specs.Clients.{log_of, requests_in}
 use Rattle.weaver_locks.specs.declared.hand.Hand.{Hand}
@@ -40,7 +42,7 @@ use Rattle.workers_account.specs.PhaseLaws.{PhaseLaws}
 use Rattle.workers_account.proofs.Parts.{SessionPart, gate-entry, gates-on, part-of, session-part}
 use Rattle.workers_account.proofs.SessionLogs.{begins-cases, begins-later, begins-on, begun-here, log-at, stamp-from, stamp-there}
 
--- Deeds that are told begin nothing and end nothing
+-- Hearing a clock and sending an empty message begin nothing and end nothing
 
 told-begins : (author : ℕ) (deed : GateDeed) → IsTrue (is_telling deed) → begun_by author deed ≡ []
 told-begins author (Heard clock) tells = refl
@@ -77,13 +79,6 @@ none-ended gates tells home r h =
 -- what began at a gatekeeper is among all that began
 pub all-has : (account : Account) (home : ℕ) (begun : Begun) → Contains (begun_in (gate_log account home)) begun → Contains (all_begun account) begun
 all-has account home begun h = all-in account home begun h
-
--- and the other way round
-pub has-all : (account : Account) (begun : Begun) → Contains (all_begun account) begun → (home : ℕ) × Contains (begun_in (gate_log account home)) begun
-has-all account begun h =
-    let from = flat_has begun_in account.gates begun h in
-    let place = place-of account.gates from.0 from.1 in
-    (place.0, subst (λ (l : List GateEntry). Contains (begun_in l) begun) (sym place.1) from.2)
 
 -- a request that began has its stamp, if none began twice
 pub stamp-is : (account : Account) → BeginEachOnce account → (begun : Begun) → Contains (all_begun account) begun → stamp_of account begun.request ≡ Some begun.stamp

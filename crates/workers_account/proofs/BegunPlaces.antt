@@ -1,10 +1,11 @@
 -- Own entries of one log by their places, when the own ones that it has gained are known.
+-- Used by BegunHolds and crate sessions_account.
 use Rattle.std.proofs.Common.{◌≡◌, ℕ, ◌==◌, Bool, cond, List, [], ◌∷◌, ◌++◌, length, get_or, set, Contains, ◌⊎◌, inl, inr, refl, sym, ap, subst, ◌∙◌, append_assoc, arith}
 use Rattle.std.specs.List.{filter}
 use Rattle.std.proofs.lemmas.Bool.{cases_lt, eq-eqb}
 use Rattle.std.proofs.lemmas.List.{append-nil, append_cancel_right, get_or_past, get_or-set_same, length-set}
 use Rattle.std.proofs.lemmas.List.Elements.{filter-append}
-use Rattle.proof_base.proofs.Members.{has_cut, has_filter, has_last, has_none}
+use Rattle.weave_data.proofs.Members.{has_cut, has_filter, has_last, has_none}
 use Rattle.weave_account.specs.GoesOn.{IsBeginningOf}
 use Rattle.seen_logs.specs.Seen.{IsOwn}
 use Rattle.hands_account.proofs.Places.{in-back, in-front, less-or}

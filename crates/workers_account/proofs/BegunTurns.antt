@@ -1,11 +1,12 @@
 -- All that a client's worker began, it began in its session's turn.
+-- Used by `workers_follow_their_sessions`.
 use Rattle.std.proofs.Common.{◌≡◌, ℕ, ◌==◌, List, [], ◌∷◌, length, Contains, inl, inr, refl, sym, ap, subst, ◌∙◌, append_assoc}
 use Rattle.std.specs.Prelude.{IsTrue, Option, Some}
 use Rattle.std.specs.List.{range_with_len}
 use Rattle.std.proofs.lemmas.Bool.{eqb-true}
 use Rattle.std.proofs.lemmas.List.{append-nil}
 use Rattle.std.proofs.lemmas.Option.{get_or_from_slice_get, slice_get_within}
-use Rattle.proof_base.proofs.Members.{filter_has}
+use Rattle.weave_data.proofs.Members.{filter_has}
 use Rattle.program_defs.specs.declared.script.Request.{Request}
 use Rattle.program_defs.specs.declared.script.Script.{Script}
 use Rattle.program_defs.specs.declared.script.Work.{Work}
@@ -23,7 +24,7 @@ use Rattle.hands_account.proofs.Places.{onward, whole}
 use Rattle.weaver_core.specs.Clients.{log_of}
 use Rattle.weaver_locks.specs.declared.shared.Shared.{Shared}
 use Rattle.weaver_locks.specs.Hands.{hand_number, seen_by}
-use Rattle.weaver_workers.specs.ClientWork.{begun_entry, replied_entry, Does, DoesChange, DoesStart, Goes, Stand}
+use Rattle.weaver_workers.specs.ClientWork.{begun_entry, replied_entry, DoesOneCall, DoesChange, DoesStart, Goes, Stand}
 use Rattle.weaver_workers.specs.Keeping.{AreLocksOf, KeepsClient}
 use Rattle.workers_account.specs.Begins.{AreBegunInTurn, IsBegunInTurn}
 use Rattle.workers_account.specs.TurnLaws.{TurnLaws}
@@ -181,7 +182,7 @@ module _ (laws : TurnLaws) (shared : Shared) (script : Script) (number upto : �
     same-log same = ([], same ∙ sym (append-nil (log_of old.client)))
 
     -- one thing was done
-    went-one : Does shared script number upto old new → Went script number old new
+    went-one : DoesOneCall shared script number upto old new → Went script number old new
     went-one (inl change) = went-change change
     went-one (inr (inl start)) = went-start start
     went-one (inr (inr (inl visit))) =

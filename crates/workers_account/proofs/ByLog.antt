@@ -1,4 +1,5 @@
 -- The values of each session after a phase are those of its log in the closed logs.
+-- Used by OpenPairs and PhaseEnds.
 use Rattle.std.proofs.Common.{◌≡◌, ◌≢◌, ℕ, ◌-◌, ◌<◌, ◌≤◌, ◌==◌, Bool, true, false, cond, List, [], ◌∷◌, ◌++◌, length, map, Contains, AllPairs, IsTrue, Option, None, Some, ◌⊎◌, inl, inr, refl, sym, ap, subst, ◌∙◌, append_assoc, eq-eqb, arith}
 use Rattle.std.specs.Prelude.{is_some, slice_get, IsSomeAnd, if◌then◌else◌}
 use Rattle.std.specs.List.{filter, find, flat_map}
@@ -8,9 +9,9 @@ use Rattle.std.proofs.lemmas.List.{append-nil, append_cancel_left, length-append
 use Rattle.std.proofs.lemmas.List.Concat.{flat_map-append}
 use Rattle.std.proofs.lemmas.List.Elements.{Contains-append_cases, Contains-append_left, filter-append}
 use Rattle.std.proofs.lemmas.Option.{get_or_from_slice_get, none-some, same_Some, slice_get-get_or, slice_get_within}
-use Rattle.proof_base.proofs.Ends.{by_last}
-use Rattle.proof_base.proofs.Members.{cut_at, filter_has, flat_has, has_cut, has_flat, has_head, has_map, has_none, has_tail, map_has, only}
-use Rattle.proof_base.proofs.Ordered.{find_by_key}
+use Rattle.weave_data.proofs.Ends.{by_last}
+use Rattle.weave_data.proofs.Members.{cut_at, filter_has, flat_has, has_cut, has_flat, has_head, has_map, has_none, has_tail, map_has, only}
+use Rattle.weave_data.proofs.Ordered.{find_by_key}
 use Rattle.vector_stamp.specs.declared.clock.Stamp.{Stamp}
 use Rattle.graph_ops.specs.Operations.{State}
 use Rattle.weave_data.specs.declared.name.Name.{Name}
@@ -59,7 +60,6 @@ use Rattle.weaver_core.specs.Staying.{StayLaws}
 use Rattle.weaver_core.specs.Walks.{HasReadAll, IsLookAt}
 use Rattle.weaver_core.proofs.ProgramsStay.{StaysAt}
 use Rattle.weaver_core.proofs.Replied.{replied-ended}
-use Rattle.weaver_core.proofs.Turns.{one-more}
 use Rattle.weaver_core.proofs.ValuesStay.{replies-stay, values-stay}
 use Rattle.weaver_core.proofs.Waiting.{last-waits, none-waits, session-laws, waits-more, waits-open}
 use Rattle.weaver_locks.specs.declared.hand.Hand.{Hand}
@@ -77,6 +77,7 @@ use Rattle.workers_account.proofs.Visited.{BeganSince, all-own, since-part, visi
 use Rattle.workers_account.proofs.Follows.{begun-new}
 use Rattle.workers_account.proofs.Own.{since-is}
 use Rattle.workers_account.proofs.Programs.{ended-begun, replied-new}
+use Rattle.step_rules.proofs.SessionTurns.{one-more}
 
 -- no element passes
 none-pass : {A : Type 0} (p : A → Bool) (xs : List A) → ((x : A) → Contains xs x → IsTrue (p x) → ⊥) → filter p xs ≡ []
@@ -87,7 +88,7 @@ none-pass p (x ∷ xs) none =
       | inr fails ↦ ap (λ b. cond b (x ∷ filter p xs) (filter p xs)) fails ∙ none-pass p xs (λ y h. none y (has_tail x xs y h))
     ]
 
--- where one waits, its begin is the last entry
+-- if one waits, its begin is the last entry
 one-waits : (requests : List ℕ) (log : List SessionEntry) → (session_of requests log).waits ≡ true → (begun : ℕ × Stamp) × (waiting_in log ≡ Some begun)
 one-waits requests =
     by_last (λ log. (session_of requests log).waits ≡ true → (begun : ℕ × Stamp) × (waiting_in log ≡ Some begun))
@@ -145,7 +146,7 @@ module _ (laws : PhaseLaws) (stay : StayLaws) (shared : Shared) (script : Script
   -- a request that had its reply at the start was begun by no hand since
   pub replied-before : (t r : ℕ) → IsTrue (has_reply_in r (session_log start t)) → (begun : Begun) × Contains (all_begun start) begun × (begun.request ≡ r)
   replied-before t r replied =
-      let ended = all-ended start r (replied-ended stay script start run.at_start.is_account r t replied) in
+      let ended = all-ended start r (replied-ended script start run.at_start.is_account r t replied) in
       let log = gate_log start ended.0 in
       let from = flat_has (λ (e : GateEntry). ended_by e.deed) log r ended.1 in
       let cut = cut_at log from.0 from.1 in
@@ -341,7 +342,7 @@ module _ (laws : PhaseLaws) (stay : StayLaws) (shared : Shared) (script : Script
         let same = reads-are r stamp one.home one.program in
         let requests : by.look.request ≡ request = same_Some by.look.request request (sym by.look.request_is ∙ at) in
         let replied = (laws.has_reply r (session_log closed t)).1 (subst (λ (l : List SessionEntry). Contains (replied_in l) r) (sym left.is_log) by.replied) in
-        let ended = replied-ended stay script closed account r t replied in
+        let ended = replied-ended script closed account r t replied in
         subst (λ (work : Work). IsStateOf closed r (Some stamp) work reply.state) (sym by.look.work_is ∙ ap (λ (q : Request). q.work) requests)
         (subst (λ (state : ReplyState). IsStateOf closed r (Some stamp) (Look by.program) state) (sym by.state_is)
         (ended, subst (λ (reads : List (Name × State)). IsPlainAnswer (graph_read reads) by.program by.answer) same by.plain))

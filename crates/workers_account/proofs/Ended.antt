@@ -1,13 +1,14 @@
 -- What was ended at the gatekeepers of a phase's closed logs has its reply, if it is a program, and the other way round: so
 -- the sessions' logs are those of the closed gatekeepers.
+-- Used by ByLog, ClosedAccount, Follows, PhaseEnds, Programs and crate sessions_account.
 use Rattle.std.proofs.Common.{◌≡◌, ◌≢◌, ℕ, ◌<◌, ◌≤◌, ◌==◌, Bool, List, [], ◌∷◌, ◌++◌, length, map, take, get_or, Contains, AllPairs, IsTrue, Option, None, Some, ◌⊎◌, inl, inr, refl, sym, ap, subst, ◌∙◌, arith}
 use Rattle.std.specs.List.{flat_map}
 use Rattle.std.proofs.lemmas.List.Concat.{flat_map-append}
 use Rattle.std.proofs.lemmas.List.Elements.{Contains-append_cases, Contains-append_left, Contains-append_right}
 use Rattle.std.proofs.lemmas.Option.{same_Some}
-use Rattle.proof_base.proofs.Members.{cut_at, flat_has, has_cut, has_flat, has_none, only}
-use Rattle.proof_base.proofs.Numbers.{has-in, in-has}
-use Rattle.proof_base.proofs.Ordered.{pairs_across}
+use Rattle.weave_data.proofs.Members.{cut_at, flat_has, has_cut, has_flat, has_none, only}
+use Rattle.weave_data.proofs.Numbers.{has-in, in-has}
+use Rattle.weave_data.proofs.Ordered.{pairs_across}
 use Rattle.vector_stamp.specs.declared.clock.Stamp.{Stamp}
 use Rattle.program_defs.specs.declared.script.Request.{Request}
 use Rattle.program_defs.specs.declared.script.Script.{Script}

@@ -1,12 +1,12 @@
 -- A hand of a phase begins and judges what the script asks of its session, once and in turn.
-use Rattle.std.proofs.Common.{◌≡◌, ◌≢◌, ℕ, ◌<◌, ◌≤◌, ◌==◌, Bool, zero, suc, get_or, List, [], ◌∷◌, ◌++◌, length, fold, Contains, AllPairs, IsTrue, Option, None, Some, ◌⊎◌, inl, inr, refl, sym, ap, subst, ◌∙◌, arith}
+-- Used by ByLog, ClosedAccount, OpenPairs, Programs and Visited.
+use Rattle.std.proofs.Common.{◌≡◌, ◌≢◌, ℕ, ◌<◌, ◌≤◌, ◌==◌, Bool, List, [], ◌∷◌, ◌++◌, length, Contains, AllPairs, IsTrue, Option, None, Some, ◌⊎◌, inl, inr, refl, sym, ap, subst, ◌∙◌, arith}
 use Rattle.std.specs.Prelude.{◌&&◌, IsSomeAnd}
-use Rattle.std.specs.List.{flat_map}
 use Rattle.std.specs.Option.{ForSome}
 use Rattle.std.proofs.lemmas.Bool.{and_from, eq-eqb}
 use Rattle.std.proofs.lemmas.Option.{same_Some}
-use Rattle.proof_base.proofs.Members.{has_none}
-use Rattle.proof_base.proofs.Ordered.{pairs_front, pairs_none}
+use Rattle.weave_data.proofs.Members.{has_none}
+use Rattle.weave_data.proofs.Ordered.{pairs_none}
 use Rattle.vector_stamp.specs.declared.clock.Stamp.{Stamp}
 use Rattle.vector_stamp.specs.Clocks.{counts_no_more}
 use Rattle.program_defs.specs.declared.script.Request.{Request}
@@ -19,11 +19,9 @@ use Rattle.weave_entries.specs.declared.gate_log.GateEntry.{GateEntry}
 use Rattle.weave_entries.specs.declared.gate_log.GateDeed.{GateDeed}
 use Rattle.weave_entries.specs.declared.gate_log.GateDeed.TheVariants.{BeganTx, BeganProgram, Sent, Nop, Heard, Raised, Finished}
 use Rattle.weave_entries.specs.declared.session_log.SessionEntry.{SessionEntry}
-use Rattle.weave_entries.specs.declared.session_log.SessionDeed.{SessionDeed}
-use Rattle.weave_entries.specs.declared.session_log.SessionDeed.TheVariants as session
 use Rattle.weave_entries.specs.Logs.{AtEachEntry}
 use Rattle.weave_entries.specs.GateReplay.{Begun, begun_in, begun_stamp, clock_of}
-use Rattle.weave_entries.specs.SessionReplay.{SessionState, begins_in, next_request, session_after, session_of, session_start}
+use Rattle.weave_entries.specs.SessionReplay.{begins_in, next_request, session_of}
 use Rattle.weave_entries.specs.StoreReplay.{Judgement, judgements_of}
 use Rattle.weave_account.specs.declared.account.Account.{Account}
 use Rattle.weave_account.specs.Account.{all_begun, gate_log, session_log}
@@ -32,7 +30,7 @@ use Rattle.weave_account.specs.GoesOn.{IsBeginningOf}
 use Rattle.weave_account.specs.Sessions.{SessionsClause, requests_of_session}
 use Rattle.weave_account.specs.Store.{InTurn}
 use Rattle.hands_account.specs.Runs.{WasGiven, own_begun, own_judgements}
-use Rattle.hands_account.proofs.Places.{pairs-append, pairs-second}
+use Rattle.hands_account.proofs.Places.{pairs-append}
 use Rattle.seen_logs.specs.Seen.{IsOwn}
 use Rattle.weaver_core.specs.declared.client.Client.{Client}
 use Rattle.weaver_core.specs.Clients.{log_of}
@@ -48,29 +46,10 @@ use Rattle.workers_account.proofs.SessionLogs.{begins-later, begun-here, begins-
 use Rattle.workers_account.proofs.Begun.{BegunInPart, LeftLog, all-has, begun-in-part, gained-log, left-log, logs-right, none-begun, start-logged}
 use Rattle.workers_account.proofs.Ended.{sessions-kept}
 use Rattle.workers_account.proofs.Own.{own-begun-is, own-entry, own-judgements-are}
+use Rattle.hands_account.proofs.Needed.{list-within}
+use Rattle.weave_account.proofs.InSession.{last-any}
 
--- the last stamp doesn't depend on the session's requests
-last-by : (a b : SessionState) (log : List SessionEntry) → a.last ≡ b.last
-    → (fold (λ s (e : SessionEntry). session_after s e.deed) a log).last ≡ (fold (λ s (e : SessionEntry). session_after s e.deed) b log).last
-last-by a b [] same = same
-last-by a b (entry ∷ log) same = last-by (session_after a entry.deed) (session_after b entry.deed) log (after entry.deed)
-  where
-    after : (deed : SessionDeed) → (session_after a deed).last ≡ (session_after b deed).last
-    after (session.Begun r stamp) = refl
-    after (session.Replied r) = same
-
--- so it is that of the log alone
-pub last-free : (requests : List ℕ) (log : List SessionEntry) → (session_of requests log).last ≡ (session_of [] log).last
-last-free requests log = last-by (session_start requests) (session_start []) log refl
-
--- what is made of one of many lists has a relation among itself, if what is made of all has
-list-within : {A B : Type 0} (R : B → B → Type 0) (f : List A → List B) → f [] ≡ [] → (xss : List (List A)) → AllPairs R (flat_map f xss)
-    → (i : ℕ) → AllPairs R (f (get_or xss i []))
-list-within R f none [] pairs i = subst (AllPairs R) (sym none) (pairs_none R)
-list-within R f none (xs ∷ xss) pairs zero = pairs_front R (f xs) (flat_map f xss) pairs
-list-within R f none (xs ∷ xss) pairs (suc i) = list-within R f none xss (pairs-second R (f xs) (flat_map f xss) pairs) i
-
--- a deed that is told begins nothing
+-- a deed of hearing a clock or sending an empty message begins nothing
 told-begins-as : (script : Script) (account : Account) (home : ℕ) (before : List GateEntry) (deed : GateDeed) → IsTrue (is_telling deed) → BeginsAs script account home before deed
 told-begins-as script account home before (Heard clock) tells = tt
 told-begins-as script account home before (Nop shard number stamp low) tells = tt
@@ -97,7 +76,7 @@ module _ (laws : PhaseLaws) (shared : Shared) (script : Script) (upto : ℕ) (st
       let next = ap (λ (s : ℕ). next-of s) begun.session_is ∙ begun.next in
       let last : last_stamp script closed r ≡ begun.last =
       laws.last_is script closed kept r asked begun.request_is begun.then on next
-      ∙ sym (last-free (requests_of_session script t) begun.then) ∙ sym begun.last_is in
+      ∙ sym (last-any (requests_of_session script t) [] begun.then) ∙ sym begun.last_is in
       record {
         own = subst (λ (o : Option Request). IsTrue (is_some_and (λ (request : Request). (request.gate == home) && is_kind request.work) o)) (sym begun.request_is)
             (and_from (asked.gate == home) (is_kind asked.work) (eq-eqb asked.gate home begun.gate_is) begun.kind);

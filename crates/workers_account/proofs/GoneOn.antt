@@ -1,5 +1,6 @@
 -- What stays so while a client's worker does one thing after another: the hand's number, what it has seen, what is kept,
 -- and that what runs is of a request before `upto`.
+-- Used by `workers_follow_their_sessions`, InStep and crate weave_phase.
 use Rattle.std.proofs.Common.{◌≡◌, inl, inr, ℕ, ◌<◌, List, [], ◌∷◌, Option, None, Some, refl, sym, ◌∙◌, subst}
 use Rattle.std.specs.Option.{ForSome}
 use Rattle.std.proofs.lemmas.Option.{none-some, same_Some}
@@ -10,7 +11,7 @@ use Rattle.weaver_core.specs.declared.walks.Running.{Running}
 use Rattle.weaver_locks.specs.declared.hand.Hand.{Hand}
 use Rattle.weaver_locks.specs.declared.shared.Shared.{Shared}
 use Rattle.weaver_locks.specs.Hands.{hand_number, seen_by}
-use Rattle.weaver_workers.specs.ClientWork.{Does, Goes, IsSameWalk, Stand}
+use Rattle.weaver_workers.specs.ClientWork.{DoesOneCall, Goes, RunsSameProgram, Stand}
 use Rattle.weaver_workers.specs.Keeping.{KeepsClient}
 
 -- More is seen
@@ -37,7 +38,7 @@ one-below : (upto : ℕ) (running : Option Running) (one : Running) → running 
 one-below upto running one is low other at = subst (λ (r : Running). r.request < upto) (same_Some one other (sym is ∙ at)) low
 
 -- the same one goes on
-same-below : (upto : ℕ) (was is : Option Running) → IsSameWalk was is → Below upto was → Below upto is
+same-below : (upto : ℕ) (was is : Option Running) → RunsSameProgram was is → Below upto was → Below upto is
 same-below upto None is none below one at = absurd (none-some one (sym none ∙ at))
 same-below upto (Some was) None impossible below one at = absurd impossible
 same-below upto (Some was) (Some is) same below one at =
@@ -48,7 +49,7 @@ module _ (shared : Shared) (script : Script) (number upto : ℕ) where
   -- One thing done
 
   -- after one thing done the hand has its number, and has seen no less
-  pub does-see : (old new : Stand) → Does shared script number upto old new → SeesMore old.hand new.hand
+  pub does-see : (old new : Stand) → DoesOneCall shared script number upto old new → SeesMore old.hand new.hand
   does-see old new (inl change) =
       let did = change.transacts in
       sees-then old.hand did.judged new.hand
@@ -60,7 +61,7 @@ module _ (shared : Shared) (script : Script) (number upto : ℕ) where
   does-see old new (inr (inr (inr (inr carry)))) = (carry.only.number, carry.only.more)
 
   -- after one thing done what runs is of a request before `upto`
-  pub does-below : (old new : Stand) → Does shared script number upto old new → Below upto old.client.running → Below upto new.client.running
+  pub does-below : (old new : Stand) → DoesOneCall shared script number upto old new → Below upto old.client.running → Below upto new.client.running
   does-below old new (inl change) below = none-below upto new.client.running change.running
   does-below old new (inr (inl start)) below = one-below upto new.client.running _ start.running start.next.below
   does-below old new (inr (inr (inl visit))) below =

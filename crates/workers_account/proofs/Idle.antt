@@ -1,10 +1,11 @@
 -- At the start of a phase no transaction of a hand is in flight.
+-- Used by `split_clients_are_ready` and ReadyClients.
 use Rattle.std.proofs.Common.{◌≡◌, ◌≢◌, ℕ, ◌==◌, Bool, List, ◌∷◌, Contains, IsTrue, inl, inr, refl, sym, ap, subst, ◌∙◌, eq-eqb}
 use Rattle.std.specs.List.{filter}
 use Rattle.std.proofs.lemmas.Bool.{eqb-true}
 use Rattle.std.proofs.lemmas.List.Elements.{Contains-append_left}
-use Rattle.proof_base.proofs.Members.{any_from, cut_at, filter_has, flat_has, has_filter, has_flat}
-use Rattle.proof_base.proofs.Ordered.{pairs_cases}
+use Rattle.weave_data.proofs.Members.{any_from, cut_at, filter_has, flat_has, has_filter, has_flat}
+use Rattle.weave_data.proofs.Ordered.{pairs_cases}
 use Rattle.program_defs.specs.declared.script.Script.{Script}
 use Rattle.weave_entries.specs.declared.gate_log.GateEntry.{GateEntry}
 use Rattle.weave_entries.specs.GateReplay.{Begun, begun_by, begun_in, ended_by, ended_in, program_by, tx_by}

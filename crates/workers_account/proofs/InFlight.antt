@@ -1,10 +1,11 @@
 -- No transaction is in flight at the start of a phase, nor in its closed logs.
+-- Used by Idle and PhaseEnds.
 use Rattle.std.proofs.Common.{◌≡◌, ℕ, ◌==◌, List, Contains, IsTrue, Option, None, Some, inl, inr, refl, sym, ap, subst, ◌∙◌, eq-eqb}
 use Rattle.std.specs.List.{filter}
 use Rattle.std.proofs.lemmas.Bool.{cases_Bool, eqb-true, both_ways}
 use Rattle.std.proofs.lemmas.Option.{none-some}
 use Rattle.std.proofs.lemmas.List.Elements.{Contains-append_right}
-use Rattle.proof_base.proofs.Members.{any_from, any_has, filter_has, flat_has, has_flat}
+use Rattle.weave_data.proofs.Members.{any_from, any_has, filter_has, flat_has, has_flat}
 use Rattle.program_defs.specs.declared.script.Script.{Script}
 use Rattle.weave_entries.specs.declared.gate_log.GateEntry.{GateEntry}
 use Rattle.weave_entries.specs.GateReplay.{Begun, ended_by, ended_in, flight_of, has_ended_in, tx_by, txs_of}
@@ -22,7 +23,7 @@ use Rattle.workers_account.specs.Phase.{IsClosedBy, IsPhaseRun, IsPhaseStart}
 use Rattle.workers_account.specs.PhaseLaws.{PhaseLaws}
 use Rattle.workers_account.proofs.Parts.{gate-entry, gates-on, part-of}
 
--- what a log has ended is told by the test
+-- a request that a log has ended by the test is among those that it has ended
 ended-test : (log : List GateEntry) (r : ℕ) → IsTrue (has_ended_in r log) → Contains (ended_in log) r
 ended-test log r test =
     let has = any_has (λ ended. ended == r) (ended_in log) test in

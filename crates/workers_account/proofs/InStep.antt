@@ -1,4 +1,5 @@
 -- A client's worker's history keeps its hand and its session in step.
+-- Used by `workers_follow_their_sessions`.
 use Rattle.std.proofs.Common.{ℕ, List, [], ◌∷◌, subst}
 use Rattle.program_defs.specs.declared.script.Script.{Script}
 use Rattle.program_defs.specs.Limits.{IsWithinLimits}

@@ -1,12 +1,14 @@
--- Two parts of the work of a hand and its session, one after the other, are in step together.
+-- Two parts of the work of a hand and its session, one after the other, are in step together: the hand's begins, ends
+-- and judgements match the session's begins and replies.
+-- Used by InStep and crate sessions_account.
 use Rattle.std.proofs.Common.{◌≡◌, ◌⊎◌, inl, inr, ℕ, ◌<◌, List, ◌++◌, map, take, drop, AllPairs, Contains, Option, None, Some, sym, ap, ◌∙◌, subst, append_assoc}
 use Rattle.std.specs.Prelude.{IsSomeAnd}
 use Rattle.std.specs.List.{flat_map}
 use Rattle.std.proofs.lemmas.List.{map-append, take-append-drop}
 use Rattle.std.proofs.lemmas.List.Concat.{flat_map-append}
 use Rattle.std.proofs.lemmas.List.Elements.{Contains-append_cases, Contains-append_left, Contains-append_right}
-use Rattle.proof_base.proofs.Members.{has_map}
-use Rattle.proof_base.proofs.Ordered.{pairs_across, pairs_front}
+use Rattle.weave_data.proofs.Members.{has_map}
+use Rattle.weave_data.proofs.Ordered.{pairs_across, pairs_front}
 use Rattle.seen_logs.proofs.Placed.{pairs-append}
 use Rattle.vector_stamp.specs.declared.clock.Stamp.{Stamp}
 use Rattle.program_defs.specs.declared.script.Request.{Request}
@@ -31,19 +33,24 @@ use Rattle.workers_account.proofs.StepGains.{Rises}
 -- Lists that are made of other lists
 
 module _ {A B : Type 0} (f : A → List B) (xs ys : List A) where
-  split : (y : B) → Contains (flat_map f (xs ++ ys)) y → Contains (flat_map f xs) y ⊎ Contains (flat_map f ys) y
-  split y h = Contains-append_cases (flat_map f xs) (flat_map f ys) y (subst (λ (l : List B). Contains l y) (flat_map-append f xs ys) h)
+  -- what is made of the elements of two lists is made of those of the first, or of those of the second
+  pub either-made : (y : B) → Contains (flat_map f (xs ++ ys)) y → Contains (flat_map f xs) y ⊎ Contains (flat_map f ys) y
+  either-made y h = Contains-append_cases (flat_map f xs) (flat_map f ys) y (subst (λ (l : List B). Contains l y) (flat_map-append f xs ys) h)
 
-  in-first : (y : B) → Contains (flat_map f xs) y → Contains (flat_map f (xs ++ ys)) y
-  in-first y h = subst (λ (l : List B). Contains l y) (sym (flat_map-append f xs ys)) (Contains-append_left (flat_map f xs) (flat_map f ys) y h)
+  -- what is made of the first list is made of both
+  pub first-made : (y : B) → Contains (flat_map f xs) y → Contains (flat_map f (xs ++ ys)) y
+  first-made y h = subst (λ (l : List B). Contains l y) (sym (flat_map-append f xs ys)) (Contains-append_left (flat_map f xs) (flat_map f ys) y h)
 
-  in-second : (y : B) → Contains (flat_map f ys) y → Contains (flat_map f (xs ++ ys)) y
-  in-second y h = subst (λ (l : List B). Contains l y) (sym (flat_map-append f xs ys)) (Contains-append_right (flat_map f xs) (flat_map f ys) y h)
+  -- what is made of the second list is made of both
+  pub second-made : (y : B) → Contains (flat_map f ys) y → Contains (flat_map f (xs ++ ys)) y
+  second-made y h = subst (λ (l : List B). Contains l y) (sym (flat_map-append f xs ys)) (Contains-append_right (flat_map f xs) (flat_map f ys) y h)
 
-abbrev begun_of : GateEntry → List Begun
+-- what an entry begins
+abbrev pub begun_of : GateEntry → List Begun
 begun_of entry = begun_by entry.author entry.deed
 
-abbrev ended_of : GateEntry → List ℕ
+-- what an entry ends
+abbrev pub ended_of : GateEntry → List ℕ
 ended_of entry = ended_by entry.deed
 
 abbrev begin_of : SessionEntry → List (ℕ × Stamp)
@@ -52,13 +59,14 @@ begin_of entry = begin_by entry.deed
 abbrev reply_of : SessionEntry → List ℕ
 reply_of entry = reply_by entry.deed
 
-abbrev judgement_of : StoreEntry → Judgement
+-- what an entry judges
+abbrev pub judgement_of : StoreEntry → Judgement
 judgement_of entry = judged_by entry.author entry.deed
 
 -- what holds of a value that is there leads to what holds of it
-some-too : {A : Type 0} {P Q : A → Type 0} → (o : Option A) → ((x : A) → P x → Q x) → IsSomeAnd o P → IsSomeAnd o Q
-some-too None leads p = p
-some-too (Some x) leads p = leads x p
+pub where-there : {A : Type 0} {P Q : A → Type 0} → (o : Option A) → ((x : A) → P x → Q x) → IsSomeAnd o P → IsSomeAnd o Q
+where-there None leads p = p
+where-there (Some x) leads p = leads x p
 
 -- each request of the first log is before each of the second
 abbrev pub Precedes : List SessionEntry → List SessionEntry → Type 0
@@ -73,37 +81,37 @@ module _ (script : Script) (author upto : ℕ) (gates more_gates : ℕ → List 
   all_gates home = gates home ++ more_gates home
 
   judged-on : (judged : Judgement) → IsJudgedFor script log judged → IsJudgedFor script (log ++ more) judged
-  judged-on judged for = record { work = for.work; begun = in-first begin_of log more (judged.request, judged.stamp) for.begun }
+  judged-on judged for = record { work = for.work; begun = first-made begin_of log more (judged.request, judged.stamp) for.begun }
 
   judged-now : (judged : Judgement) → IsJudgedFor script more judged → IsJudgedFor script (log ++ more) judged
-  judged-now judged for = record { work = for.work; begun = in-second begin_of log more (judged.request, judged.stamp) for.begun }
+  judged-now judged for = record { work = for.work; begun = second-made begin_of log more (judged.request, judged.stamp) for.begun }
 
   -- both together are in step
   pub both-in-step : AreInStep script author upto all_gates (store ++ more_store) (log ++ more)
   both-in-step = record {
-    begun = λ home begun h. elim (split begun_of (gates home) (more_gates home) begun h) [
-      | inl was ↦ in-first begin_of log more (begun.request, begun.stamp) (first.begun home begun was)
-      | inr now ↦ in-second begin_of log more (begun.request, begun.stamp) (second.begun home begun now)
+    begun = λ home begun h. elim (either-made begun_of (gates home) (more_gates home) begun h) [
+      | inl was ↦ first-made begin_of log more (begun.request, begun.stamp) (first.begun home begun was)
+      | inr now ↦ second-made begin_of log more (begun.request, begun.stamp) (second.begun home begun now)
     ];
-    at_gate = λ r stamp h. elim (split begin_of log more (r, stamp) h) [
-      | inl was ↦ some-too (request_at script r)
-          (λ (request : Request) k. in-first begun_of (gates request.gate) (more_gates request.gate) (record { author = author; request = r; stamp = stamp }) k)
+    at_gate = λ r stamp h. elim (either-made begin_of log more (r, stamp) h) [
+      | inl was ↦ where-there (request_at script r)
+          (λ (request : Request) k. first-made begun_of (gates request.gate) (more_gates request.gate) (record { author = author; request = r; stamp = stamp }) k)
           (first.at_gate r stamp was)
-      | inr now ↦ some-too (request_at script r)
-          (λ (request : Request) k. in-second begun_of (gates request.gate) (more_gates request.gate) (record { author = author; request = r; stamp = stamp }) k)
+      | inr now ↦ where-there (request_at script r)
+          (λ (request : Request) k. second-made begun_of (gates request.gate) (more_gates request.gate) (record { author = author; request = r; stamp = stamp }) k)
           (second.at_gate r stamp now)
     ];
-    below = λ r stamp h. elim (split begin_of log more (r, stamp) h) [
+    below = λ r stamp h. elim (either-made begin_of log more (r, stamp) h) [
       | inl was ↦ first.below r stamp was
       | inr now ↦ second.below r stamp now
     ];
-    ended = λ home r h. elim (split ended_of (gates home) (more_gates home) r h) [
-      | inl was ↦ in-first reply_of log more r (first.ended home r was)
-      | inr now ↦ in-second reply_of log more r (second.ended home r now)
+    ended = λ home r h. elim (either-made ended_of (gates home) (more_gates home) r h) [
+      | inl was ↦ first-made reply_of log more r (first.ended home r was)
+      | inr now ↦ second-made reply_of log more r (second.ended home r now)
     ];
-    replied = λ r h. elim (split reply_of log more r h) [
-      | inl was ↦ (let at = first.replied r was in (at.0, in-first ended_of (gates at.0) (more_gates at.0) r at.1))
-      | inr now ↦ (let at = second.replied r now in (at.0, in-second ended_of (gates at.0) (more_gates at.0) r at.1))
+    replied = λ r h. elim (either-made reply_of log more r h) [
+      | inl was ↦ (let at = first.replied r was in (at.0, first-made ended_of (gates at.0) (more_gates at.0) r at.1))
+      | inr now ↦ (let at = second.replied r now in (at.0, second-made ended_of (gates at.0) (more_gates at.0) r at.1))
     ];
     judged = λ judged h. elim (Contains-append_cases (judgements_of store) (judgements_of more_store) judged
         (subst (λ (l : List Judgement). Contains l judged) (map-append judgement_of store more_store) h)) [
@@ -159,7 +167,7 @@ module _ (laws : InStepLaws) (number : ℕ) (client : Client) (at_end : IsClient
       pairs_across Less (numbers (old ++ first)) (numbers second) q r
       (subst (AllPairs Less) (ap numbers is ∙ ap (map (λ (begun : ℕ × Stamp). begun.0)) (flat_map-append begin_of (old ++ first) second)
       ∙ map-append (λ (begun : ℕ × Stamp). begun.0) (begins_in (old ++ first)) (begins_in second)) numbers-rise)
-      (has_map (λ (begun : ℕ × Stamp). begun.0) (begins_in (old ++ first)) (q, s) (in-second begin_of old first (q, s) h))
+      (has_map (λ (begun : ℕ × Stamp). begun.0) (begins_in (old ++ first)) (q, s) (second-made begin_of old first (q, s) h))
       (has_map (λ (begun : ℕ × Stamp). begun.0) (begins_in second) (r, t) k)
 
 -- Stands

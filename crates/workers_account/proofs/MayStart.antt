@@ -1,4 +1,5 @@
 -- Machines whose logs are an account may be put behind locks.
+-- Used by `split_machines_may_start`.
 use Rattle.std.proofs.Common.{◌≡◌, ℕ, List, length, sym, ap, subst, arith}
 use Rattle.program_defs.specs.declared.script.Script.{Script}
 use Rattle.program_defs.specs.Limits.{IsWithinLimits}

@@ -1,12 +1,13 @@
 -- What a client's worker began had no reply when the phase began, so it is of no earlier phase.
+-- Used by `begun_requests_are_of_the_phase`.
 use Rattle.std.proofs.Common.{◌≡◌, ◌↔◌, ℕ, ◌<◌, ◌≤◌, List, [], ◌∷◌, ◌++◌, Contains, IsTrue, inl, inr, refl, sym, ap, subst, ◌∙◌, arith, append_assoc}
 use Rattle.std.specs.List.{flat_map}
 use Rattle.std.proofs.lemmas.Bool.{cases_lt}
 use Rattle.std.proofs.lemmas.List.{append-nil, append_cancel_left}
 use Rattle.std.proofs.lemmas.List.Concat.{flat_map-append}
 use Rattle.std.proofs.lemmas.List.Elements.{Contains-append_cases}
-use Rattle.proof_base.proofs.Images.{get-has}
-use Rattle.proof_base.proofs.Members.{has_none, only}
+use Rattle.weave_data.proofs.Images.{get-has}
+use Rattle.weave_data.proofs.Members.{has_none, only}
 use Rattle.vector_stamp.specs.declared.clock.Stamp.{Stamp}
 use Rattle.program_defs.specs.declared.script.Script.{Script}
 use Rattle.weave_account.specs.GoesOn.{IsBeginningOf}
@@ -15,7 +16,7 @@ use Rattle.weave_entries.specs.SessionReplay.{begin_by, begins_in, has_reply_in,
 use Rattle.weaver_core.specs.declared.client.Client.{Client}
 use Rattle.weaver_core.specs.Clients.{log_of, requests_in, IsClientOf, IsInTurn}
 use Rattle.weaver_locks.specs.declared.shared.Shared.{Shared}
-use Rattle.weaver_workers.specs.ClientWork.{begun_entry, replied_entry, Does, Goes, HasReplies, Stand}
+use Rattle.weaver_workers.specs.ClientWork.{begun_entry, replied_entry, DoesOneCall, Goes, HasReplies, Stand}
 use Rattle.weaver_workers.specs.Keeping.{KeepsClient}
 use Rattle.workers_account.specs.ReadLaws.{ReadLaws}
 use Rattle.workers_account.proofs.SessionEnds.{next-unreplied, replied-on}
@@ -64,7 +65,7 @@ module _ (laws : ReadLaws) (decided : (r : ℕ) (log : List SessionEntry) → Is
 
   -- one thing done
   one-gains : (old new : Stand) → KeepsClient shared script number old.hand old.client → HasReplies start old.client
-      → Does shared script number upto old new → GainsWithin start upto old.client new.client
+      → DoesOneCall shared script number upto old new → GainsWithin start upto old.client new.client
   one-gains old new keeps has (inl change) = record {
     requests = change.requests;
     gained = begun_entry number change.r change.stamp ∷ replied_entry number change.r ∷ [];

@@ -1,4 +1,5 @@
 -- Logs of gatekeepers of which one has gained entries.
+-- Used by StepGains, StepsInStep and crate sessions_account.
 use Rattle.std.proofs.Common.{◌≡◌, ◌≢◌, inl, inr, ℕ, ◌<◌, ◌==◌, cond, List, [], ◌++◌, length, sym, ap, ◌∙◌, subst}
 use Rattle.std.proofs.lemmas.Bool.{cases_eq, eq-eqb, ne_eqb}
 use Rattle.std.proofs.lemmas.List.{append-nil, get_or-set_other, get_or-set_same, length-set}
@@ -42,7 +43,7 @@ module _ (old new : Account) (gate : ℕ) (added : List GateEntry) (made : new �
   log-elsewhere home other = ap (λ (a : Account). gate_log a home) made
       ∙ get_or-set_other old.gates gate home (gate_log old gate ++ added) [] other
 
-  -- as many
+  -- the number of gatekeepers' logs is as before
   pub as-many : length new.gates ≡ length old.gates
   as-many = ap (λ (a : Account). length a.gates) made ∙ length-set old.gates gate (gate_log old gate ++ added)
 

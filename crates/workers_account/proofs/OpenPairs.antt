@@ -1,4 +1,5 @@
 -- What a phase has added: begins of requests before its end, and pairs of requests that had no reply before.
+-- Used by PhaseEnds.
 use Rattle.std.proofs.Common.{◌≡◌, ◌≢◌, ℕ, ◌<◌, ◌≤◌, ◌==◌, Bool, true, false, cond, List, [], ◌∷◌, ◌++◌, length, Contains, IsTrue, Option, None, Some, ◌⊎◌, inl, inr, refl, sym, ap, subst, ◌∙◌, append_assoc, eq-eqb, arith}
 use Rattle.std.specs.Prelude.{slice_get}
 use Rattle.std.specs.List.{cons_option, filter, filter_map, flat_map}
@@ -7,7 +8,7 @@ use Rattle.std.proofs.lemmas.List.{append-nil, append_cancel_left, length-append
 use Rattle.std.proofs.lemmas.List.Concat.{flat_map-append}
 use Rattle.std.proofs.lemmas.List.Elements.{Contains-append_cases, filter-append}
 use Rattle.std.proofs.lemmas.Option.{none-some, same_Some}
-use Rattle.proof_base.proofs.Members.{cut_at, flat_has, has_cut, has_filter, has_flat, has_none, has_read}
+use Rattle.weave_data.proofs.Members.{cut_at, flat_has, has_cut, has_filter, has_flat, has_none, has_read}
 use Rattle.vector_stamp.specs.Precedence.{Given}
 use Rattle.vector_stamp.specs.Settling.{SettledEntry}
 use Rattle.vector_stamp.specs.declared.clock.Stamp.{Stamp}

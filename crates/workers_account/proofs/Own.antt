@@ -1,10 +1,11 @@
 -- What a hand of a phase began and judged since the start, as the definitions on runs by hands say it, is its part.
+-- Used by ByLog, Follows, OpenPairs, Programs and Visited.
 use Rattle.std.proofs.Common.{◌≡◌, ℕ, ◌≤◌, ◌==◌, Bool, true, false, cond, List, [], ◌∷◌, ◌++◌, length, drop, map, Contains, IsTrue, inl, inr, refl, sym, ap, subst, ◌∙◌}
 use Rattle.std.specs.List.{filter, flat_map}
 use Rattle.std.proofs.lemmas.Bool.{cases_Bool, eq-eqb}
 use Rattle.std.proofs.lemmas.List.Elements.{filter-append}
 use Rattle.std.proofs.Math.Seq.{drop-append_seam}
-use Rattle.proof_base.proofs.Members.{has_cut, has_filter}
+use Rattle.weave_data.proofs.Members.{has_cut, has_filter}
 use Rattle.vector_stamp.specs.declared.clock.Stamp.{Stamp}
 use Rattle.program_defs.specs.declared.script.Script.{Script}
 use Rattle.weave_entries.specs.declared.gate_log.GateEntry.{GateEntry}

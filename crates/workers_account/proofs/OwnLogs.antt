@@ -1,5 +1,6 @@
 -- What a hand made in each log is what has its number there, and what it began and judged since the start is what it has
 -- gained.
+-- Used by BegunHolds and BegunTurns.
 use Rattle.std.proofs.Common.{◌≡◌, ℕ, ◌==◌, List, ◌++◌, refl, sym, ap, ◌∙◌}
 use Rattle.std.specs.List.{filter}
 use Rattle.weave_entries.specs.declared.gate_log.GateEntry.{GateEntry}
@@ -21,7 +22,7 @@ abbrev pub OwnGates : Hand → Type 0
 OwnGates hand = (home : ℕ) → gate_log (made_by hand) home
     ≡ filter (λ (e : GateEntry). e.author == hand_number hand) (gate_log (seen_by hand) home)
 
--- so it is if what it made is what has its number in all that it has seen
+-- this holds if what it made is what has its number in all that it has seen
 pub own-gates : (hand : Hand) → HasSeenOwn hand → OwnGates hand
 own-gates hand own home =
     ap (λ (a : Account). gate_log a home) own

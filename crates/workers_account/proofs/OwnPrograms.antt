@@ -1,11 +1,12 @@
 -- Along a client's worker's history the hand's visits are of programs that it began itself.
+-- Used by `workers_follow_their_sessions`.
 use Rattle.std.proofs.Common.{inl, inr, ℕ, List, [], ◌∷◌, subst}
 use Rattle.program_defs.specs.declared.script.Script.{Script}
 use Rattle.weaver_locks.specs.declared.shared.Shared.{Shared}
 use Rattle.weaver_locks.specs.Following.{VisitsItsOwnPrograms}
 use Rattle.weaver_locks.specs.Hands.{IsHand}
 use Rattle.weaver_locks.specs.Locks.{shard_count}
-use Rattle.weaver_workers.specs.ClientWork.{Does, Goes, Stand}
+use Rattle.weaver_workers.specs.ClientWork.{DoesOneCall, Goes, Stand}
 use Rattle.weaver_workers.specs.Keeping.{KeepsClient}
 use Rattle.workers_account.specs.ReadLaws.{ReadLaws}
 use Rattle.workers_account.proofs.StepReads.{carry-unvisited}
@@ -13,7 +14,7 @@ use Rattle.workers_account.proofs.StepReads.{carry-unvisited}
 module _ (laws : ReadLaws) (shared : Shared) (script : Script) (number upto : ℕ) where
   -- after one thing done
   step-own : (old new : Stand) → KeepsClient shared script number old.hand old.client → IsHand shared new.hand
-      → Does shared script number upto old new → VisitsItsOwnPrograms shared old.hand → VisitsItsOwnPrograms shared new.hand
+      → DoesOneCall shared script number upto old new → VisitsItsOwnPrograms shared old.hand → VisitsItsOwnPrograms shared new.hand
   step-own old new keeps is (inl change) own =
       laws.none_visited shared old.hand new.hand keeps.is_hand is
       (λ r. laws.transact (shard_count shared) old.hand new.hand change.asked.gate change.r change.ops old.client.session.last

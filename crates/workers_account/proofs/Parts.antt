@@ -1,11 +1,12 @@
 -- What each hand of a phase made at gatekeepers and the store since its start, and that the closed logs have nothing else.
+-- Used by `hands_of_a_phase_visit_their_own`, Begun, ByLog, ClosedAccount, Ended, Follows, InFlight and 5 more.
 use Rattle.std.proofs.Common.{◌≡◌, ℕ, ◌<◌, ◌==◌, eq-eqb, Bool, List, [], ◌∷◌, ◌++◌, length, map, Contains, IsTrue, ◌⊎◌, inl, inr, refl, sym, ap, subst, ◌∙◌, arith}
 use Rattle.std.specs.Prelude.{slice_get}
 use Rattle.std.specs.List.{filter}
 use Rattle.std.proofs.lemmas.Bool.{eqb-true}
 use Rattle.std.proofs.lemmas.List.{append-nil, append_cancel_left}
 use Rattle.std.proofs.lemmas.List.Elements.{Contains-append_cases, filter-append}
-use Rattle.proof_base.proofs.Members.{cut_at, filter_has, has_filter, has_cut}
+use Rattle.weave_data.proofs.Members.{cut_at, filter_has, has_filter, has_cut}
 use Rattle.program_defs.specs.declared.script.Script.{Script}
 use Rattle.weave_entries.specs.declared.gate_log.GateEntry.{GateEntry}
 use Rattle.weave_entries.specs.declared.oracle_log.OracleEntry.{OracleEntry}
@@ -38,7 +39,7 @@ use Rattle.workers_account.proofs.StepReads.{carry-unvisited}
 abbrev pub at-hand : Hand → Client → Stand
 at-hand hand client = record { hand = hand; client = client }
 
--- the hand told clocks and empty messages at gatekeepers, and judged nothing
+-- the hand only passed on clocks and sent empty messages at gatekeepers, and judged nothing
 pub record OnlyTold (gates : ℕ → List GateEntry) (store : List StoreEntry) : Type 0 where
   pub tells : (home : ℕ) (entry : GateEntry) → Contains (gates home) entry → IsTrue (is_telling entry.deed)
   pub none : store ≡ []

@@ -1,4 +1,5 @@
 -- What the programs of a phase have read is in turn, and a hand finishes no others than its own.
+-- Used by ByLog, ClosedAccount and Idle.
 use Rattle.std.proofs.Common.{◌≡◌, ℕ, ◌-◌, ◌<◌, Bool, false, List, [], ◌∷◌, ◌++◌, length, drop, take, Contains, AllPairs, IsTrue, Option, None, Some, inl, inr, refl, sym, ap, subst, ◌∙◌, arith}
 use Rattle.std.specs.Prelude.{is_some, if◌then◌else◌}
 use Rattle.std.proofs.lemmas.List.{append-nil}
@@ -6,8 +7,8 @@ use Rattle.std.proofs.lemmas.List.Concat.{flat_map-append}
 use Rattle.std.proofs.lemmas.List.Elements.{Contains-append_cases, Contains-append_left}
 use Rattle.std.proofs.lemmas.Option.{same_Some}
 use Rattle.std.proofs.Math.Seq.{drop-append_seam}
-use Rattle.proof_base.proofs.Members.{cut_at, flat_has, has_flat, has_head, has_map, has_none, only}
-use Rattle.proof_base.proofs.Ordered.{pairs_across}
+use Rattle.weave_data.proofs.Members.{cut_at, flat_has, has_flat, has_head, has_map, has_none, only}
+use Rattle.weave_data.proofs.Ordered.{pairs_across}
 use Rattle.vector_stamp.specs.declared.clock.Stamp.{Stamp}
 use Rattle.program_defs.specs.declared.program.Program.{Program}
 use Rattle.program_defs.specs.declared.script.Request.{Request}

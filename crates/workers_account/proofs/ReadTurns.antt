@@ -1,9 +1,10 @@
 -- A program's reads in turn: none, the same, and one more.
-use Rattle.std.proofs.Common.{◌≡◌, ◌≢◌, Bool, true, false, not, List, [], ◌∷◌, ◌++◌, AllPairs, Contains, IsTrue, None, Some, ◌⊎◌, inl, inr, sym, ap, subst, ◌∙◌}
+-- Used by TurnsKept and crate sessions_account.
+use Rattle.std.proofs.Common.{◌≡◌, ◌≢◌, not, List, [], ◌++◌, AllPairs, Contains, IsTrue, None, Some, ◌⊎◌, inl, inr, sym, ap, subst, ◌∙◌}
 use Rattle.std.specs.Map.{keys_of}
-use Rattle.std.proofs.lemmas.List.Elements.{Contains-append_cases, Contains-append_left, Contains-append_right}
-use Rattle.proof_base.proofs.Members.{find_has, has_head, has_map, has_read, has_tail}
-use Rattle.proof_base.proofs.Ordered.{pairs_cons, pairs_head, pairs_none, pairs_tail}
+use Rattle.std.proofs.lemmas.List.Elements.{Contains-append_left, Contains-append_right}
+use Rattle.weave_data.proofs.Members.{find_has, has_map}
+use Rattle.weave_data.proofs.Ordered.{pairs_none}
 use Rattle.weave_data.specs.declared.name.Name.{Name}
 use Rattle.graph_ops.specs.Mentions.{is_among}
 use Rattle.graph_ops.specs.Operations.{State}
@@ -12,26 +13,8 @@ use Rattle.program_defs.specs.Visits.{next_visit, AreFirstVisits}
 use Rattle.weave_account.specs.Programs.{ReadsInTurn}
 use Rattle.weaver_hands.specs.Programs.{GainsRead}
 use Rattle.workers_account.specs.ReadLaws.{ReadLaws}
-
-not-both : (b : Bool) → IsTrue (not b) → IsTrue b → ⊥
-not-both true h g = cc
-not-both false h g = cc
-
--- one more element that stands in the relation to all
-pairs-into : {A : Type 0} (R : A → A → Type 0) (front : List A) (x : A) (back : List A) → AllPairs R (front ++ back)
-    → ((y : A) → Contains front y → R y x) → ((y : A) → Contains back y → R x y) → AllPairs R (front ++ x ∷ back)
-pairs-into R [] x back pairs before after = pairs_cons R x back after pairs
-pairs-into R (y ∷ front) x back pairs before after =
-    pairs_cons R y (front ++ x ∷ back) heads (pairs-into R front x back (pairs_tail R y (front ++ back) pairs) (λ z h. before z (has_tail y front z h)) after)
-  where
-    heads : (z : _) → Contains (front ++ x ∷ back) z → R y z
-    heads z h = elim (Contains-append_cases front (x ∷ back) z h) [
-      | inl there ↦ pairs_head R y (front ++ back) z pairs (Contains-append_left front back z there)
-      | inr here ↦ elim (has_read x back z here) [
-        | inl same ↦ subst (R y) same (before y (has_head y front))
-        | inr more ↦ pairs_head R y (front ++ back) z pairs (Contains-append_right front back z more)
-      ]
-    ]
+use Rattle.step_rules.proofs.FindLists.{pairs-into}
+use Rattle.step_rules.proofs.VisitStep.{not-both}
 
 -- no two reads are of one vertex
 abbrev OfTwo : Name × State → Name × State → Type 0

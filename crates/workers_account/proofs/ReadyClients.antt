@@ -1,4 +1,5 @@
 -- At the start of a phase a hand may go on with each session whose begun requests all have their replies.
+-- Used by `split_clients_are_ready`.
 use Rattle.std.proofs.Common.{◌≡◌, ◌≢◌, ℕ, ◌+◌, ◌<◌, ◌≤◌, Bool, true, false, List, [], ◌∷◌, length, map, take, get_or, Contains, AllPairs, IsTrue, Option, None, Some, inr, refl, sym, ap, subst, ◌∙◌, arith}
 use Rattle.std.specs.Prelude.{◌&&◌, if◌then◌else◌, is_some, not, slice_get}
 use Rattle.std.specs.List.{range_with_len}
@@ -6,9 +7,9 @@ use Rattle.std.specs.Option.{option_and_then, option_map}
 use Rattle.std.proofs.lemmas.List.{length-append, length-map}
 use Rattle.std.proofs.lemmas.List.FromFn.{get_or-map-range_with_len, length-range_with_len}
 use Rattle.std.proofs.lemmas.Option.{get_or_from_slice_get, none-some, slice_get-map, slice_get_within}
-use Rattle.proof_base.proofs.Ends.{by_last}
-use Rattle.proof_base.proofs.Images.{get-has}
-use Rattle.proof_base.proofs.Members.{has_map, map_has}
+use Rattle.weave_data.proofs.Ends.{by_last}
+use Rattle.weave_data.proofs.Images.{get-has}
+use Rattle.weave_data.proofs.Members.{has_map, map_has}
 use Rattle.vector_stamp.specs.declared.clock.Stamp.{Stamp}
 use Rattle.program_defs.specs.Works.{is_look}
 use Rattle.program_defs.specs.declared.script.Request.{Request}
@@ -28,7 +29,6 @@ use Rattle.weaver_core.specs.declared.walks.Running.{Running}
 use Rattle.weaver_core.specs.Clients.{log_of, requests_in}
 use Rattle.weaver_core.specs.Splitting.{IsClientByLog, begun_by, program_waiting, waiting_in}
 use Rattle.weaver_core.specs.Staying.{StayLaws}
-use Rattle.weaver_core.proofs.Turns.{one-more}
 use Rattle.weaver_core.proofs.Waiting.{session-laws, stamp-waits, waits-more, waits-open}
 use Rattle.weaver_locks.specs.declared.hand.Hand.{Hand}
 use Rattle.weaver_locks.specs.declared.shared.Shared.{Shared}
@@ -39,12 +39,14 @@ use Rattle.weaver_workers.specs.Keeping.{IsFresh, KeepsClient}
 use Rattle.workers_account.specs.Phase.{IsPhaseStart}
 use Rattle.workers_account.specs.PhaseLaws.{PhaseLaws}
 use Rattle.workers_account.specs.ReadyLaws.{ReadyLaws}
-use Rattle.workers_account.proofs.Begun.{all-has, has-all, stamp-is}
-use Rattle.workers_account.proofs.Follows.{last-free}
+use Rattle.workers_account.proofs.Begun.{all-has, stamp-is}
 use Rattle.workers_account.proofs.Idle.{begun-there, landed, seen-is}
 use Rattle.workers_account.proofs.SessionEnds.{front-less}
 use Rattle.workers_account.proofs.SessionLogs.{in-session, log-at, stamp-from}
 use Rattle.workers_account.proofs.Visited.{program-begun}
+use Rattle.step_rules.proofs.SessionTurns.{one-more}
+use Rattle.weave_account.proofs.InSession.{last-any}
+use Rattle.weave_account.proofs.Replying.{has-all}
 
 -- Sessions in which none waits
 
@@ -134,7 +136,7 @@ module _ (laws : PhaseLaws) (stay : StayLaws) (more : ReadyLaws) (script : Scrip
   may-hear : (stamp : Stamp) → client.session.last ≡ Some stamp → MayHear shared hand stamp
   may-hear stamp last =
       let alone : (session_of [] (session_log start session)).last ≡ Some stamp =
-      ap (λ (l : List SessionEntry). (session_of [] l).last) log-is ∙ sym (last-free (requests_in client) log)
+      ap (λ (l : List SessionEntry). (session_of [] l).last) log-is ∙ sym (last-any (requests_in client) [] log)
       ∙ ap (λ (state : SessionState). state.last) (sym by-log.session) ∙ last in
       let begun = map_has (λ (b : Begun). b.stamp) (all_begun start) stamp
       (more.last_begun script start at-start.limits at-start.is_account session stamp alone) in

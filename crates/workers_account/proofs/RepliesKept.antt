@@ -1,8 +1,9 @@
 -- Along a client's worker's history each reply is by a judgement of its hand, or by what the hand's visits have read.
+-- Used by `workers_follow_their_sessions`.
 use Rattle.std.proofs.Common.{◌≡◌, inl, inr, ℕ, List, [], ◌∷◌, ◌++◌, Contains, refl, sym, ap, ◌∙◌, subst, append_assoc}
 use Rattle.std.proofs.lemmas.List.{append-nil, append_cancel_left, map-append}
 use Rattle.std.proofs.lemmas.List.Elements.{Contains-append_cases, Contains-append_left, Contains-append_right}
-use Rattle.proof_base.proofs.Members.{has_head, has_none, only}
+use Rattle.weave_data.proofs.Members.{has_head, has_none, only}
 use Rattle.weave_data.specs.declared.name.Name.{Name}
 use Rattle.graph_ops.specs.Operations.{State}
 use Rattle.program_defs.specs.declared.script.Script.{Script}
@@ -19,7 +20,7 @@ use Rattle.weaver_core.specs.Clients.{log_of}
 use Rattle.weaver_locks.specs.declared.shared.Shared.{Shared}
 use Rattle.weaver_locks.specs.Hands.{made_by, IsHand}
 use Rattle.weaver_locks.specs.Locks.{shard_count}
-use Rattle.weaver_workers.specs.ClientWork.{reply_with, Does, DoesChange, DoesFinish, Goes, Stand}
+use Rattle.weaver_workers.specs.ClientWork.{reply_with, DoesOneCall, DoesChange, DoesFinish, Goes, Stand}
 use Rattle.weaver_workers.specs.Keeping.{KeepsClient}
 use Rattle.workers_account.specs.ReadLaws.{ReadLaws}
 use Rattle.workers_account.specs.Visits.{AreRepliesByHand, IsReplyByHand, IsReplyByJudgement, IsReplyByReads}
@@ -49,7 +50,7 @@ judged-last log entry =
 module _ (laws : ReadLaws) (shared : Shared) (script : Script) (number upto : ℕ) (old new : Stand)
     (keeps : KeepsClient shared script number old.hand old.client) (is : IsHand shared new.hand) where
   -- a reply stays so
-  step-reply : Does shared script number upto old new → (reply : Reply) → IsReplyByHand script old reply → IsReplyByHand script new reply
+  step-reply : DoesOneCall shared script number upto old new → (reply : Reply) → IsReplyByHand script old reply → IsReplyByHand script new reply
   step-reply does reply was = record {
     stamp = was.stamp;
     stamp_is = was.stamp_is;
@@ -154,7 +155,7 @@ module _ (laws : ReadLaws) (shared : Shared) (script : Script) (number upto : �
     by = λ other none. absurd (has_none other none);
   }
 
-  more-replies : Does shared script number upto old new → MoreReplies
+  more-replies : DoesOneCall shared script number upto old new → MoreReplies
   more-replies (inl change) = one-reply _ change.replies (change-reply change)
   more-replies (inr (inl start)) = no-reply start.replies
   more-replies (inr (inr (inl visit))) = no-reply visit.same.replies
@@ -172,7 +173,7 @@ record HaveReplies (script : Script) (from at : Stand) : Type 0 where
 module _ (laws : ReadLaws) (shared : Shared) (script : Script) (number upto : ℕ) where
   -- after one thing more
   replies-more : (from old new : Stand) → KeepsClient shared script number old.hand old.client → IsHand shared new.hand
-      → Does shared script number upto old new → HaveReplies script from old → HaveReplies script from new
+      → DoesOneCall shared script number upto old new → HaveReplies script from old → HaveReplies script from new
   replies-more from old new keeps is does so_far =
       let more = more-replies laws shared script number upto old new keeps is does in
       record {

@@ -1,23 +1,21 @@
 -- What a session at the end of its log says of that log: which requests have no reply there, and which was begun last.
-use Rattle.std.proofs.Common.{◌≡◌, ℕ, zero, suc, ◌-◌, ◌<◌, ◌≤◌, Bool, List, [], ◌∷◌, ◌++◌, take, AllPairs, Contains, Some, ◌⊎◌, inl, inr, refl, sym, ap, subst, ◌∙◌, arith}
+-- Used by OfPhase, ReadyClients, RepliesKept, StepReads and TurnsKept.
+use Rattle.std.proofs.Common.{◌≡◌, ℕ, zero, suc, ◌-◌, ◌<◌, ◌≤◌, Bool, List, [], ◌∷◌, take, AllPairs, Contains, Some, ◌⊎◌, inl, inr, sym, ap, subst, ◌∙◌, arith}
 use Rattle.std.specs.Prelude.{slice_get, if◌then◌else◌}
 use Rattle.std.proofs.lemmas.List.Concat.{flat_map-append}
 use Rattle.std.proofs.lemmas.List.Elements.{Contains-append_cases, Contains-append_left, Contains-append_right}
-use Rattle.std.proofs.lemmas.List.Sums.{fold-append}
 use Rattle.std.proofs.lemmas.Option.{none-some, same_Some}
-use Rattle.proof_base.proofs.Ends.{by_last, flat_push}
-use Rattle.proof_base.proofs.Entries.{each_before, each_last}
-use Rattle.proof_base.proofs.Images.{get-has}
-use Rattle.proof_base.proofs.Members.{has_last, has_none, has_read}
-use Rattle.proof_base.proofs.Ordered.{pairs_head, pairs_tail}
+use Rattle.weave_data.proofs.Images.{get-has}
+use Rattle.weave_data.proofs.Members.{has_none, has_read}
+use Rattle.weave_data.proofs.Ordered.{pairs_head, pairs_tail}
 use Rattle.vector_stamp.specs.declared.clock.Stamp.{Stamp}
 use Rattle.weave_entries.specs.declared.session_log.SessionEntry.{SessionEntry}
-use Rattle.weave_entries.specs.declared.session_log.SessionDeed.{SessionDeed}
-use Rattle.weave_entries.specs.declared.session_log.SessionDeed.TheVariants.{Begun, Replied}
-use Rattle.weave_entries.specs.SessionReplay.{FitsSession, IsSessionLog, RepliesToLast, SessionState, begin_by, begins_in, replied_count, replied_in, reply_by, session_after, session_of, session_start}
+use Rattle.weave_entries.specs.SessionReplay.{RepliesToLast, SessionState, begin_by, begins_in, replied_count, replied_in, reply_by}
 use Rattle.weave_account.specs.GoesOn.{IsBeginningOf}
 use Rattle.weaver_core.specs.Clients.{IsClientOf, IsInTurn}
 use Rattle.workers_account.specs.ReadLaws.{ReadLaws}
+use Rattle.hands_account.proofs.LastStamp.{IsAfter, last-begun}
+use Rattle.weave_account.proofs.InSession.{NoneBegun, SomeBegun}
 
 -- Logs that go on
 
@@ -97,64 +95,6 @@ module _ (laws : ReadLaws) (number : ℕ) (session : SessionState) (log : List S
       (ap (λ (b : Bool). if b then session.begun - 1 else session.begun) turn.waits) (omega arith) h
 
 -- What was begun last
-
--- nothing was begun
-record NoneBegun (state : SessionState) : Type 0 where
-  begun-is : state.begun ≡ 0
-
--- something was begun: at the last place so far, with the last stamp
-record SomeBegun (requests : List ℕ) (state : SessionState) (begins : List (ℕ × Stamp)) : Type 0 where
-  place : ℕ
-  request : ℕ
-  stamp : Stamp
-  begun-is : state.begun ≡ suc place
-  at : slice_get requests place ≡ Some request
-  last-is : state.last ≡ Some stamp
-  there : Contains begins (request, stamp)
-
-abbrev IsAfter : List ℕ → SessionState → List (ℕ × Stamp) → Type 0
-IsAfter requests state begins = (state.requests ≡ requests) × (NoneBegun state ⊎ SomeBegun requests state begins)
-
-last-step : (requests : List ℕ) (state : SessionState) (begins : List (ℕ × Stamp)) (deed : SessionDeed) → FitsSession state deed
-    → IsAfter requests state begins → IsAfter requests (session_after state deed) (begins ++ begin_by deed)
-last-step requests state begins (Begun r stamp) fits (same, so_far) = (
-  same,
-  inr (record {
-    place = state.begun;
-    request = r;
-    stamp = stamp;
-    begun-is = omega arith;
-    at = ap (λ (rs : List ℕ). slice_get rs state.begun) (sym same) ∙ fits.next;
-    last-is = refl;
-    there = has_last begins (r, stamp);
-  }),
-)
-last-step requests state begins (Replied r) fits (same, inl none) = (same, inl (record { begun-is = none.begun-is }))
-last-step requests state begins (Replied r) fits (same, inr some) = (
-  same,
-  inr (record {
-    place = some.place;
-    request = some.request;
-    stamp = some.stamp;
-    begun-is = some.begun-is;
-    at = some.at;
-    last-is = some.last-is;
-    there = Contains-append_left begins [] (some.request, some.stamp) some.there;
-  }),
-)
-
-last-begun : (number : ℕ) (requests : List ℕ) (log : List SessionEntry) → IsSessionLog number requests log
-    → IsAfter requests (session_of requests log) (begins_in log)
-last-begun number requests =
-    by_last (λ (log : List SessionEntry). IsSessionLog number requests log → IsAfter requests (session_of requests log) (begins_in log))
-    (λ each. (refl, inl (record { begun-is = refl })))
-    (λ log entry so_far each.
-    let rule = λ (before : List SessionEntry) (e : SessionEntry). (e.author ≡ number) × FitsSession (session_of requests before) e.deed in
-    let fits = each_last rule log entry each in
-    subst (λ (s : SessionState). IsAfter requests s (begins_in (log ++ entry ∷ [])))
-    (sym (fold-append (λ session (e : SessionEntry). session_after session e.deed) (session_start requests) log (entry ∷ [])))
-    (subst (IsAfter requests (session_after (session_of requests log) entry.deed)) (sym (flat_push (λ (e : SessionEntry). begin_by e.deed) log entry))
-    (last-step requests (session_of requests log) (begins_in log) entry.deed fits.1 (so_far (each_before rule log (entry ∷ []) each)))))
 
 -- the request that waits was begun with the session's last stamp
 pub last-there : (number : ℕ) (session : SessionState) (log : List SessionEntry) → IsClientOf number session log → (r : ℕ) (stamp : Stamp)

@@ -1,4 +1,5 @@
 -- What a session's log says of its requests: each is begun once, and their numbers rise.
+-- Used by Begun, ByLog, Ended, Follows, Programs, ReadyClients and crates sessions_account and weave_phase.
 use Rattle.std.proofs.Common.{◌≡◌, ◌≢◌, ℕ, ◌<◌, ◌==◌, List, [], ◌∷◌, ◌++◌, map, take, drop, get_or, Contains, AllPairs, Option, None, Some, ◌⊎◌, inl, inr, refl, sym, ap, subst, ◌∙◌, arith}
 use Rattle.std.specs.Prelude.{slice_get}
 use Rattle.std.specs.List.{find}
@@ -8,8 +9,8 @@ use Rattle.std.proofs.lemmas.List.{take-append-drop}
 use Rattle.std.proofs.lemmas.List.Concat.{flat_map-append}
 use Rattle.std.proofs.lemmas.List.Elements.{Contains-append_cases, Contains-append_left, Contains-append_right}
 use Rattle.std.proofs.lemmas.Option.{get_or_from_slice_get, none-some, same_Some, slice_get-map}
-use Rattle.proof_base.proofs.Members.{find_has, has_map}
-use Rattle.proof_base.proofs.Ordered.{find_by_key, pairs_across, pairs_cases, pairs_cons, pairs_front, pairs_head, pairs_none, pairs_tail}
+use Rattle.weave_data.proofs.Members.{find_has, has_map}
+use Rattle.weave_data.proofs.Ordered.{find_by_key, pairs_across, pairs_cases, pairs_cons, pairs_front, pairs_head, pairs_none, pairs_tail}
 use Rattle.vector_stamp.specs.declared.clock.Stamp.{Stamp}
 use Rattle.program_defs.specs.declared.script.Request.{Request}
 use Rattle.program_defs.specs.declared.script.Script.{Script}
@@ -21,9 +22,9 @@ use Rattle.weave_account.specs.Account.{session_log}
 use Rattle.weave_account.specs.Sessions.{requests_of_session}
 use Rattle.weaver_core.specs.declared.client.Client.{Client}
 use Rattle.weaver_core.specs.Clients.{log_of}
-use Rattle.weaver_core.proofs.CanVisit.{in-take}
 use Rattle.weaver_core.proofs.ValuesStay.{in-session as of-session}
 use Rattle.workers_account.specs.PhaseLaws.{PhaseLaws}
+use Rattle.step_rules.proofs.VisitLogs.{in-take}
 
 -- a relation between what is made of elements holds between the elements
 pub pairs-unmap : {A B : Type 0} (R : B → B → Type 0) (f : A → B) (xs : List A) → AllPairs R (map f xs) → AllPairs (λ (a b : A). R (f a) (f b)) xs

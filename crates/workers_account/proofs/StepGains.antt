@@ -1,9 +1,10 @@
 -- What one thing done adds to the logs of a hand and of its session is in step.
+-- Used by JoinGains and StepsInStep.
 use Rattle.std.proofs.Common.{◌≡◌, ◌≢◌, inl, inr, ℕ, ◌<◌, List, [], ◌∷◌, AllPairs, Contains, Option, Some, Result, Ok, refl, sym, subst}
 use Rattle.std.specs.Prelude.{IsSomeAnd, IsTrue}
 use Rattle.std.specs.declared.alloc.AllocError.{AllocError}
-use Rattle.proof_base.proofs.Members.{flat_has, has_head, has_none, has_read, only}
-use Rattle.proof_base.proofs.Ordered.{pairs_none}
+use Rattle.weave_data.proofs.Members.{flat_has, has_head, has_none, has_read, only}
+use Rattle.weave_data.proofs.Ordered.{pairs_none}
 use Rattle.seen_logs.proofs.Placed.{pairs-one}
 use Rattle.graph_ops.specs.declared.op.Op.{Op}
 use Rattle.vector_stamp.specs.declared.clock.Stamp.{Stamp}

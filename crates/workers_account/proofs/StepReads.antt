@@ -1,4 +1,5 @@
 -- What each thing that a client's worker does leaves of what its hand has read, of the store's entries and of the session's log.
+-- Used by OwnPrograms, Parts, RepliesKept, TurnsKept and crate sessions_account.
 use Rattle.std.proofs.Common.{◌≡◌, ◌≢◌, inl, inr, ℕ, List, [], ◌∷◌, ◌++◌, Contains, Some, sym, ap, ◌∙◌, subst, append_assoc}
 use Rattle.std.proofs.lemmas.List.{append-nil}
 use Rattle.program_defs.specs.declared.script.Script.{Script}
@@ -19,7 +20,7 @@ use Rattle.weaver_locks.specs.Locks.{gate_count, shard_count}
 use Rattle.weaver_hands.specs.Leaving.{MakesNoVisit}
 use Rattle.weaver_hands.specs.Programs.{own_reads}
 use Rattle.weaver_workers.specs.Carrying.{OnlyCarries}
-use Rattle.weaver_workers.specs.ClientWork.{begun_entry, replied_entry, Does, DoesChange, Stand}
+use Rattle.weaver_workers.specs.ClientWork.{begun_entry, replied_entry, DoesOneCall, DoesChange, Stand}
 use Rattle.weaver_workers.specs.Keeping.{KeepsClient}
 use Rattle.weaver_workers.proofs.OnlyCarried.{alone-still}
 use Rattle.workers_account.specs.ReadLaws.{ReadLaws}
@@ -39,7 +40,7 @@ RunsNot at r = (running : Running) → at.client.running ≡ Some running → r 
 
 module _ (shared : Shared) (script : Script) (number upto : ℕ) (old new : Stand) where
   -- no visit is made for a request that doesn't run
-  pub step-unvisited : ReadLaws → Does shared script number upto old new → (r : ℕ) → RunsNot old r → MakesNoVisit old.hand new.hand r
+  pub step-unvisited : ReadLaws → DoesOneCall shared script number upto old new → (r : ℕ) → RunsNot old r → MakesNoVisit old.hand new.hand r
   step-unvisited laws (inl change) r other =
       laws.transact (shard_count shared) old.hand new.hand change.asked.gate change.r change.ops old.client.session.last
       change.stamp change.verdict change.transacts r
@@ -53,7 +54,7 @@ module _ (shared : Shared) (script : Script) (number upto : ℕ) (old new : Stan
   step-unvisited laws (inr (inr (inr (inr carry)))) r other = carry-unvisited old.hand new.hand carry.only r
 
   -- so what was read for it stays
-  pub step-reads : ReadLaws → IsHand shared old.hand → IsHand shared new.hand → Does shared script number upto old new → (r : ℕ)
+  pub step-reads : ReadLaws → IsHand shared old.hand → IsHand shared new.hand → DoesOneCall shared script number upto old new → (r : ℕ)
       → RunsNot old r → own_reads new.hand r ≡ own_reads old.hand r
   step-reads laws was is does r other =
       laws.reads shared old.hand new.hand r was is (step-unvisited laws does r other)
@@ -75,7 +76,7 @@ module _ (shared : Shared) (script : Script) (number upto : ℕ) (old new : Stan
       ∙ ap (λ (a : Account). a.store ++ judged-entry change ∷ []) did.begins.made
 
   -- the store has what the hand had it judge before
-  pub step-store : Does shared script number upto old new → IsBeginningOf (made_by old.hand).store (made_by new.hand).store
+  pub step-store : DoesOneCall shared script number upto old new → IsBeginningOf (made_by old.hand).store (made_by new.hand).store
   step-store (inl change) = (judged-entry change ∷ [], change-store change)
   step-store (inr (inl start)) = ([], ap (λ (a : Account). a.store) start.starts.begins.made ∙ sym (append-nil (made_by old.hand).store))
   step-store (inr (inr (inl visit))) = ([], ap (λ (a : Account). a.store) visit.visits.visits.was.made ∙ sym (append-nil (made_by old.hand).store))
@@ -83,7 +84,7 @@ module _ (shared : Shared) (script : Script) (number upto : ℕ) (old new : Stan
   step-store (inr (inr (inr (inr carry)))) = ([], carry.only.store ∙ sym (append-nil (made_by old.hand).store))
 
   -- the session's entries of what was done
-  abbrev pub step-entries : Does shared script number upto old new → List SessionEntry
+  abbrev pub step-entries : DoesOneCall shared script number upto old new → List SessionEntry
   step-entries (inl change) = begun_entry number change.r change.stamp ∷ replied_entry number change.r ∷ []
   step-entries (inr (inl start)) = begun_entry number start.r start.stamp ∷ []
   step-entries (inr (inr (inl visit))) = []
@@ -91,7 +92,7 @@ module _ (shared : Shared) (script : Script) (number upto : ℕ) (old new : Stan
   step-entries (inr (inr (inr (inr carry)))) = []
 
   -- its log has these entries more
-  pub step-log : (does : Does shared script number upto old new) → log_of new.client ≡ log_of old.client ++ step-entries does
+  pub step-log : (does : DoesOneCall shared script number upto old new) → log_of new.client ≡ log_of old.client ++ step-entries does
   step-log (inl change) =
       change.log ∙ append_assoc (log_of old.client) (begun_entry number change.r change.stamp ∷ []) (replied_entry number change.r ∷ [])
   step-log (inr (inl start)) = start.log
@@ -100,7 +101,7 @@ module _ (shared : Shared) (script : Script) (number upto : ℕ) (old new : Stan
   step-log (inr (inr (inr (inr carry)))) = carry.same.log ∙ sym (append-nil (log_of old.client))
 
   -- so it goes on
-  abbrev pub step-on : Does shared script number upto old new → IsBeginningOf (log_of old.client) (log_of new.client)
+  abbrev pub step-on : DoesOneCall shared script number upto old new → IsBeginningOf (log_of old.client) (log_of new.client)
   step-on does = (step-entries does, step-log does)
 
 -- what has its reply doesn't run

@@ -1,9 +1,10 @@
 -- Each thing that a client's worker does leaves its hand and its session in step.
+-- Used by InStep.
 use Rattle.std.proofs.Common.{◌≡◌, ◌≢◌, inl, inr, ℕ, ◌<◌, List, [], ◌∷◌, ◌++◌, length, Result, Ok, refl, sym, ap, ◌∙◌, subst, append_assoc}
 use Rattle.std.specs.declared.alloc.AllocError.{AllocError}
 use Rattle.std.proofs.lemmas.List.{append-nil}
-use Rattle.proof_base.proofs.Members.{has_none}
-use Rattle.proof_base.proofs.Ordered.{pairs_none}
+use Rattle.weave_data.proofs.Members.{has_none}
+use Rattle.weave_data.proofs.Ordered.{pairs_none}
 use Rattle.program_defs.specs.declared.script.Script.{Script}
 use Rattle.program_defs.specs.Limits.{IsWithinLimits}
 use Rattle.report_rules.specs.declared.report.ReplyState.TheVariants.{Finished as finished_with}
@@ -25,7 +26,7 @@ use Rattle.weaver_locks.specs.GateHolds.{gate_entry_by}
 use Rattle.weaver_locks.specs.Hands.{hand_number, made_by}
 use Rattle.weaver_locks.specs.Locks.{gate_count, shard_count}
 use Rattle.weaver_locks.specs.StoreHolds.{judged_entries}
-use Rattle.weaver_workers.specs.ClientWork.{begun_entry, replied_entry, reply_with, Does, DoesCarry, DoesChange, DoesFinish, DoesStart, DoesVisit, IsSameSession, Stand}
+use Rattle.weaver_workers.specs.ClientWork.{begun_entry, replied_entry, reply_with, DoesOneCall, DoesCarry, DoesChange, DoesFinish, DoesStart, DoesVisit, IsSameSession, Stand}
 use Rattle.weaver_workers.specs.Keeping.{AreLocksOf, KeepsClient}
 use Rattle.weaver_workers.proofs.ReadOn.{home-there}
 use Rattle.weaver_workers.proofs.Rows.{own-logs}
@@ -229,7 +230,7 @@ module _ (shared : Shared) (script : Script) (number upto : ℕ) (within : IsWit
       (λ home. (does.only.gates home).log) does.only.store
 
   -- whatever was done
-  pub does-steps : Does shared script number upto old new → IsInStep script (hand_number old.hand) upto old new
+  pub does-steps : DoesOneCall shared script number upto old new → IsInStep script (hand_number old.hand) upto old new
   does-steps (inl change) = change-steps change
   does-steps (inr (inl start)) = start-steps start
   does-steps (inr (inr (inl visit))) = visit-steps visit

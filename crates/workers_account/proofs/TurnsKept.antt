@@ -1,11 +1,12 @@
 -- Along a client's worker's history each program that its session began reads in turn.
+-- Used by `workers_follow_their_sessions` and crate sessions_account.
 use Rattle.std.proofs.Common.{◌≡◌, ◌⊎◌, inl, inr, ℕ, List, [], ◌∷◌, ◌++◌, Contains, None, Some, refl, sym, ap, ◌∙◌, subst, append_assoc, arith}
 use Rattle.std.proofs.lemmas.Bool.{cases_eq}
 use Rattle.std.proofs.lemmas.List.{append-nil, append_cancel_left}
 use Rattle.std.proofs.lemmas.List.Concat.{flat_map-append}
 use Rattle.std.proofs.lemmas.List.Elements.{Contains-append_cases}
 use Rattle.std.proofs.lemmas.Option.{same_Some}
-use Rattle.proof_base.proofs.Members.{has_none, only}
+use Rattle.weave_data.proofs.Members.{has_none, only}
 use Rattle.weave_data.specs.declared.name.Name.{Name}
 use Rattle.graph_ops.specs.Operations.{State}
 use Rattle.graph_ops.specs.declared.op.Op.{Op}
@@ -25,7 +26,7 @@ use Rattle.weaver_core.specs.Walks.{IsLookAt}
 use Rattle.weaver_locks.specs.declared.shared.Shared.{Shared}
 use Rattle.weaver_locks.specs.Hands.{IsHand}
 use Rattle.weaver_hands.specs.Programs.{own_reads}
-use Rattle.weaver_workers.specs.ClientWork.{Does, DoesChange, DoesCarry, DoesFinish, DoesStart, DoesVisit, Goes, Stand}
+use Rattle.weaver_workers.specs.ClientWork.{DoesOneCall, DoesChange, DoesCarry, DoesFinish, DoesStart, DoesVisit, Goes, Stand}
 use Rattle.weaver_workers.specs.Keeping.{KeepsClient}
 use Rattle.workers_account.specs.ReadLaws.{ReadLaws}
 use Rattle.workers_account.specs.Visits.{ReadInTurn}
@@ -145,7 +146,7 @@ module _ (laws : ReadLaws) (shared : Shared) (script : Script) (number upto : �
       (λ program look h. inl (same-replied does.same.log r h)) turn
 
   -- after one thing done
-  pub step-turn : Does shared script number upto old new → (r : ℕ) → HasTurn script old r → HasTurn script new r
+  pub step-turn : DoesOneCall shared script number upto old new → (r : ℕ) → HasTurn script old r → HasTurn script new r
   step-turn (inl change) = change-turn change
   step-turn (inr (inl start)) = start-turn start
   step-turn (inr (inr (inl visit))) = visit-turn visit
@@ -169,7 +170,7 @@ module _ (laws : ReadLaws) (shared : Shared) (script : Script) (number upto : �
       unreplied (inr now) = has_none does.r now
 
   -- what was begun has a turn
-  begun-turn : (does : Does shared script number upto old new) → (r : ℕ) (stamp : Stamp)
+  begun-turn : (does : DoesOneCall shared script number upto old new) → (r : ℕ) (stamp : Stamp)
       → Contains (begins_in (step-on shared script number upto old new does).0) (r, stamp) → HasTurn script new r
   begun-turn (inl change) r stamp h = λ program look.
       absurd (look-no-change script change.r program change.asked change.ops
@@ -192,7 +193,7 @@ record HaveTurns (script : Script) (from at : Stand) : Type 0 where
 module _ (laws : ReadLaws) (shared : Shared) (script : Script) (number upto : ℕ) where
   -- after one thing more
   turns-more : (from old new : Stand) → KeepsClient shared script number old.hand old.client → IsHand shared new.hand
-      → Does shared script number upto old new → HaveTurns script from old → HaveTurns script from new
+      → DoesOneCall shared script number upto old new → HaveTurns script from old → HaveTurns script from new
   turns-more from old new keeps is does so_far =
       let on = step-on shared script number upto old new does in
       record {

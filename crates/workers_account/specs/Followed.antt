@@ -15,8 +15,8 @@ use Rattle.workers_account.specs.Gained.{IsInStep}
 use Rattle.workers_account.specs.Visits.{AreRepliesByHand, ReadInTurn}
 
 -- The session of this number was followed by its hand: what the hand made and what the session's log says are in step,
--- requests were begun in turn, programs have read in turn, replies are by judgements and reads, and the oracle was asked
--- for the hand's own requests.
+-- requests were begun in turn, programs have read in turn, replies are by judgements and reads, and the oracle was
+-- asked for the hand's own requests.
 pub record IsFollowed (shared : Shared) (script : Script) (number upto : ℕ) (from at : Stand) : Type 0 where
   pub number_is : hand_number at.hand ≡ hand_number from.hand
   pub more : IsWithin (seen_by from.hand) (seen_by at.hand)

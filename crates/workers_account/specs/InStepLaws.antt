@@ -1,4 +1,4 @@
--- The law of the crates below that hands and sessions in step stand on. No public contract cites this.
+-- The law of the crates below that hands and sessions in step rely on. No public contract cites this.
 use Rattle.std.specs.Prelude.{◌≡◌, ℕ, List, map, take}
 use Rattle.vector_stamp.specs.declared.clock.Stamp.{Stamp}
 use Rattle.weave_entries.specs.declared.session_log.SessionEntry.{SessionEntry}

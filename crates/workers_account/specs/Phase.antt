@@ -42,7 +42,8 @@ pub record CarriedOn (shared : Shared) (from hand : Hand) : Type 0 where
   pub landed : HasLanded hand
 
 -- The hand followed the session of this number, with the requests before `upto`.
-pub record FollowedOn (shared : Shared) (script : Script) (upto : ℕ) (was is : List Client) (session : ℕ) (from hand : Hand)
+pub record FollowedOn (shared : Shared) (script : Script) (upto : ℕ) (was is : List Client) (session : ℕ)
+    (from hand : Hand)
     : Type 0 where
   pub within : session < 64
   pub client : Client
@@ -60,7 +61,8 @@ HasDone shared script upto was is hand_of from hand = CarriedOn shared from hand
     ⊎ ((session : ℕ) × (hand_of session ≡ hand_number hand) × FollowedOn shared script upto was is session from hand)
 
 -- What the hand has done in the phase, at whose start it had seen the logs as they were.
-pub record IsPartBy (shared : Shared) (script : Script) (upto : ℕ) (was is : List Client) (hand_of : ℕ → ℕ) (hand : Hand)
+pub record IsPartBy (shared : Shared) (script : Script) (upto : ℕ) (was is : List Client) (hand_of : ℕ
+    → ℕ) (hand : Hand)
     : Type 0 where
   pub from : Hand
   pub from_is : IsHand shared from
@@ -69,12 +71,13 @@ pub record IsPartBy (shared : Shared) (script : Script) (upto : ℕ) (was is : L
   pub did : HasDone shared script upto was is hand_of from hand
 
 -- what was done is to have followed this session
-abbrev pub IsOfSession : (shared : Shared) (script : Script) (upto : ℕ) (was is : List Client) (hand_of : ℕ → ℕ) (from hand : Hand)
+abbrev pub IsOfSession : (shared : Shared) (script : Script) (upto : ℕ) (was is : List Client) (hand_of : ℕ
+    → ℕ) (from hand : Hand)
     → ℕ → HasDone shared script upto was is hand_of from hand → Type 0
 IsOfSession shared script upto was is hand_of from hand session (inl carried) = ⊥
 IsOfSession shared script upto was is hand_of from hand session (inr on) = on.0 ≡ session
 
--- A phase was run by these hands, which are all of the locks' hands. No two have one number. Each session was left
+-- A phase was run by these hands, which are all of the locks' hands. No two have the same number. Each session was left
 -- as it was, or one of the hands followed it.
 pub record IsPhaseRun (shared : Shared) (script : Script) (upto : ℕ) (start : Account) (was is : List Client)
     (hands : List Hand) : Type 0 where
@@ -86,11 +89,12 @@ pub record IsPhaseRun (shared : Shared) (script : Script) (upto : ℕ) (start : 
   pub parts : (hand : Hand) → Contains hands hand → IsPartBy shared script upto was is hand_of hand
   pub many : length is ≡ 64
   pub sessions : (session : ℕ) → session < 64 → (slice_get is session ≡ slice_get was session)
-      ⊎ ((hand : Hand) × (h : Contains hands hand) × IsOfSession shared script upto was is hand_of (parts hand h).from hand
+      ⊎ ((hand : Hand) × (h : Contains hands hand)
+      × IsOfSession shared script upto was is hand_of (parts hand h).from hand
       session (parts hand h).did)
 
--- These are the logs with which the locks were closed, and the sessions' logs. Each entry was there at the start or is of
--- a hand, which has seen it, and those of each hand are all that it made.
+-- These are the logs with which the locks were closed, and the sessions' logs. Each entry was there at the start or is
+-- of a hand, which has seen it, and those of each hand are all that it made.
 pub record IsClosedBy (shared : Shared) (script : Script) (start : Account) (is : List Client) (hands : List Hand)
     (closed : Account) : Type 0 where
   pub gates : length closed.gates ≡ script.gates
@@ -100,16 +104,18 @@ pub record IsClosedBy (shared : Shared) (script : Script) (start : Account) (is 
   pub of_hands : AreOfHands script.shards (hands_of shared) (without_sessions start) (seen_by_number hands)
       (without_sessions closed)
   pub within : (hand : Hand) → Contains hands hand → IsWithin (seen_by hand) closed
-  pub made : (hand : Hand) → Contains hands hand → entries_by (hand_number hand) (without_sessions closed) ≡ made_by hand
+  pub made : (hand : Hand) → Contains hands hand
+      → entries_by (hand_number hand) (without_sessions closed) ≡ made_by hand
 
 -- What follows: the closed logs are an account that goes on from the start, in which no transaction is in flight. Each
--- client's values are those of its log, and its requests are those of its session. What was begun comes before `upto`, no
--- epoch was raised, and pairs were added to requests without a reply alone.
-pub record IsPhaseEnd (script : Script) (upto : ℕ) (start : Account) (is : List Client) (closed : Account) : Type 0 where
-  pub is_account : IsAccount script closed
-  pub goes_on : GoesOn start closed
-  pub landed : NoneInFlight closed
-  pub requests : map requests_in is ≡ map (requests_of_session script) (range_with_len 0 64)
-  pub by_log : (client : Client) → Contains is client → IsClientByLog script closed client
-  pub begins : GainBelow upto start closed
-  pub pairs : AddsOpenPairs script start closed
+-- client's values are those of its log, and its requests are those of its session. What was begun comes before `upto`,
+-- no epoch was raised, and pairs were added to requests without a reply alone.
+pub record IsPhaseEnd (script : Script) (upto : ℕ) (start : Account) (is : List Client) (closed : Account) : Type 0
+  where
+    pub is_account : IsAccount script closed
+    pub goes_on : GoesOn start closed
+    pub landed : NoneInFlight closed
+    pub requests : map requests_in is ≡ map (requests_of_session script) (range_with_len 0 64)
+    pub by_log : (client : Client) → Contains is client → IsClientByLog script closed client
+    pub begins : GainBelow upto start closed
+    pub pairs : AddsOpenPairs script start closed

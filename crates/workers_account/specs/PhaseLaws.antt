@@ -1,4 +1,4 @@
--- The laws that the account of a phase stands on, in one. No public contract cites this.
+-- The laws that the account of a phase relies on, in one record. No public contract cites this.
 use Rattle.std.specs.Prelude.{◌≡◌, ◌↔◌, ℕ, ◌<◌, ◌≤◌, ◌==◌, List, [], map, take, length, AllPairs, Contains, IsTrue, Some}
 use Rattle.std.specs.List.{filter}
 use Rattle.vector_stamp.specs.declared.clock.Clock.{Clock}
@@ -49,7 +49,8 @@ pub record PhaseLaws : Type 0 where
       → VisitsOwnPrograms (hand_number new) (start_of shared) (seen_by new)
   pub own_at_gate : (shared : Shared) (hand : Hand) → IsHand shared hand → (home : ℕ) → gate_log (made_by hand) home
       ≡ filter (λ (entry : GateEntry). entry.author == hand_number hand) (gate_log (seen_by hand) home)
-  pub own : (shared : Shared) (hand : Hand) → IsHand shared hand → made_by hand ≡ entries_by (hand_number hand) (seen_by hand)
+  pub own : (shared : Shared) (hand : Hand) → IsHand shared hand
+      → made_by hand ≡ entries_by (hand_number hand) (seen_by hand)
   pub found : (hands : List Hand) (number : ℕ) → Contains (map hand_number hands) number → (hand : Hand)
       × Contains hands hand × (hand_number hand ≡ number) × (seen_by_number hands number ≡ seen_by hand)
   pub reads_all : (hand : Hand) (r : ℕ) → ((shard : ℕ) (visit : Visit)

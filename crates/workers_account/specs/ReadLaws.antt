@@ -18,7 +18,7 @@ use Rattle.weaver_locks.specs.Following.{VisitsItsOwnPrograms}
 use Rattle.weaver_locks.specs.Hands.{IsHand}
 use Rattle.weaver_locks.specs.Locks.{gate_count, shard_count}
 use Rattle.weaver_hands.specs.Leaving.{MakesNoVisit}
-use Rattle.weaver_hands.specs.Programs.{own_reads, Finishes, IsRunning, Visits}
+use Rattle.weaver_hands.specs.Programs.{own_reads, HandFinishes, IsRunning, Visits}
 use Rattle.weaver_hands.specs.Transactions.{Starts, Transacts}
 
 pub record ReadLaws : Type 0 where
@@ -33,7 +33,7 @@ pub record ReadLaws : Type 0 where
   pub visit : (gates shards : ℕ) (old new : Hand) (was is : Running) → Visits gates shards old new was is → (r : ℕ)
       → r ≢ was.request → MakesNoVisit old new r
   pub finish : (shards : ℕ) (old new : Hand) (running : Running) (answer : Answer)
-      → Finishes shards old new running answer → (r : ℕ) → MakesNoVisit old new r
+      → HandFinishes shards old new running answer → (r : ℕ) → MakesNoVisit old new r
   -- A hand's own programs
   pub none_visited : (shared : Shared) (old new : Hand) → IsHand shared old → IsHand shared new
       → ((r : ℕ) → MakesNoVisit old new r) → VisitsItsOwnPrograms shared old → VisitsItsOwnPrograms shared new

@@ -1,4 +1,4 @@
--- The laws that the start of a phase stands on beside those of a whole phase, in one. No public contract cites this.
+-- The laws that a phase's start relies on besides those of a whole phase, in one record. No public contract cites this.
 use Rattle.std.specs.Prelude.{◌≡◌, ◌≢◌, ℕ, [], Contains, Some}
 use Rattle.vector_stamp.specs.declared.clock.Stamp.{Stamp}
 use Rattle.program_defs.specs.declared.script.Script.{Script}

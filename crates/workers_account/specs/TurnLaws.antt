@@ -1,4 +1,4 @@
--- The law of the crates below that begins in turn stand on. No public contract cites this.
+-- The law of the crates below that begins in turn rely on. No public contract cites this.
 use Rattle.std.specs.Prelude.{◌≡◌, ◌==◌, ℕ}
 use Rattle.std.specs.List.{filter}
 use Rattle.weave_entries.specs.declared.gate_log.GateEntry.{GateEntry}

@@ -1,7 +1,9 @@
 //! What the workers of a phase leave can be joined to a core again.
 //!
-//! A client's worker ensures the whole history of what it did (`Goes`). The laws here say what follows: it has followed its
-//! session (`IsFollowed`); and if all hands of a phase only carried or followed a session of their own, the closed logs are
+//! A client's worker ensures the whole history of what it did (`Goes`). The laws here say what follows: it has followed
+//! its
+//! session (`IsFollowed`); and if all hands of a phase only carried or followed a session of their own, the closed logs
+//! are
 //! an account of the script that goes on from the one at the start (`IsPhaseEnd`).
 #![tactic(auto)]
 

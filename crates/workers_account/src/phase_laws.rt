@@ -1,4 +1,4 @@
-//! The laws that the account of a phase stands on, in one.
+//! The laws that the account of a phase relies on, in one.
 ghost use Rattle.weaver_core.specs.Staying.{StayLaws};
 ghost use Rattle.workers_account.specs.PhaseLaws.{PhaseLaws};
 
@@ -19,7 +19,7 @@ use weaver_locks::laws::{
     visits_stay_of_own_programs,
 };
 
-/// The laws that the account of a phase stands on.
+/// The laws that the account of a phase relies on.
 pub(crate) fn phases_keep_their_laws()
     ensures { PhaseLaws }
 {

@@ -8,7 +8,7 @@ use weaver_hands::laws::{
     calls_leave_others_alone, hands_visit_their_own_programs, programs_left_alone_go_on,
 };
 
-/// The laws of the crates below that reads and replies stand on.
+/// The laws of the crates below that reads and replies rely on.
 pub(crate) fn hands_read_by_their_laws()
     ensures { ReadLaws }
 {

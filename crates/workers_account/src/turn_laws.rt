@@ -1,4 +1,4 @@
-//! The law of the crates below that begins in turn stand on.
+//! The law of the crates below that begins in turn rely on.
 ghost use Rattle.workers_account.specs.TurnLaws.{TurnLaws};
 
 use weaver_locks::laws::own_entries_of_each_log;

@@ -59,7 +59,7 @@ fn print_stamp(text: &mut Text, gates: u32, stamp: &Stamp) -> Result<(), AllocEr
     print_counts(text, first_counts(gates, &stamp.clock.counts))
 }
 
-// The counts of so many gatekeepers; there may be fewer.
+// The counts of the first `gates` gatekeepers; there may be fewer.
 #[tactic(auto, using(std::proofs::lemmas::List::take_min))]
 fn first_counts(gates: u32, counts: &[u64]) -> &[u64]
     ensures { result.now ≡ take gates counts.now }

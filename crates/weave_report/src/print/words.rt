@@ -11,7 +11,7 @@ use program_defs::{Answer, Script, Work};
 use std::alloc::AllocError;
 use weave_text::Text;
 
-/// The name of a request, or no bytes where the script doesn't have it.
+/// The name of a request, or no bytes if the script doesn't have it.
 pub fn name_at(script: &Script, request: u32) -> &[u8]
     ensures { result.now ≡ name_at script.now request }
 {

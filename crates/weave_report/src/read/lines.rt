@@ -16,7 +16,7 @@ use std::alloc::{AllocError, Global};
 use weave_data::Items;
 use weave_text::{Pieces, is};
 
-/// What is read behind one more line.
+/// The reading after one more line.
 pub(crate) fn after_line(
     alloc: Global,
     script: &Named,
@@ -88,7 +88,7 @@ fn behind_reply(alloc: Global, report: Report, line: ReplyLine) -> Result<Readin
     }
 }
 
-// The report with one more reply, behind which the next may stand.
+// The report with one more reply, after which the next may follow.
 fn with_reply(mut report: Report, reply: Reply) -> Result<Reading, LineFault>
     ensures { Gives result (Ok (reading (with_reply report reply) Place.Replies)) }
 {
@@ -186,7 +186,7 @@ fn pair_or_order(
     Err(LineFault::Refused(ReportCause::Line))
 }
 
-// The report with one more pair, behind which the next may stand.
+// The report with one more pair, after which the next may follow.
 fn with_pair(mut report: Report, pair: Pair) -> Result<Reading, LineFault>
     ensures { Gives result (Ok (reading (with_pair report pair) Place.Pairs)) }
 {
@@ -198,7 +198,7 @@ fn with_pair(mut report: Report, pair: Pair) -> Result<Reading, LineFault>
     })
 }
 
-// The report with its order, behind which answers of steps stand.
+// The report with its order, after which answers of steps may follow.
 fn with_order(mut report: Report, order: Items<u32>) -> Reading
     ensures { result ≡ reading (with_order report order) Place.Answers }
 {
@@ -296,7 +296,7 @@ fn after_answers(report: Report, mut words: Pieces) -> Result<Reading, LineFault
     Err(LineFault::Refused(ReportCause::Line))
 }
 
-// The report with one more answer of a step, behind which the next may stand.
+// The report with one more answer of a step, after which the next may follow.
 fn with_answer(mut report: Report, answer: StepAnswer) -> Result<Reading, LineFault>
     ensures { Gives result (Ok (reading (with_answer report answer) Place.Answers)) }
 {

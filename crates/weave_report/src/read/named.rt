@@ -177,7 +177,7 @@ fn numbers_of_gets(alloc: Global, ops: &[Op]) -> Result<Items<u32>, AllocError>
 {
     let mut gets = Items::new(alloc);
     for (index, op) in ops.iter().enumerate() {
-        if let Op::Get { .. } = op {
+        if op.is_get() {
             gets.push(index as u32 + 1)?;
         }
     }

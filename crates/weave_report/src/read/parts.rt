@@ -5,7 +5,7 @@ use report_rules::{Reply, Report};
 use vector_stamp::Stamp;
 use weave_data::{Items, Name};
 
-/// What a word of a record tells.
+/// What a word of a record says.
 #[derive(Drop)]
 pub(crate) enum Item {
     Property { key: Name, value: Name },
@@ -22,7 +22,7 @@ pub(crate) struct Commit {
     pub gets: Items<u32>,
 }
 
-/// What a reply's line tells.
+/// What a reply's line says.
 #[derive(Drop)]
 pub(crate) enum ReplyLine {
     /// The whole reply.
@@ -31,24 +31,24 @@ pub(crate) enum ReplyLine {
     Committed(Commit),
 }
 
-/// Where a line stands.
+/// The place of a line in a report.
 #[derive(Drop)]
 pub(crate) enum Place {
     /// It is the first line.
     Start,
-    /// It is behind a reply, or is the first of them.
+    /// It is after a reply, or is the first of them.
     Replies,
-    /// It is behind a commit and these answers to its first `get`s, and one at least is still to come.
+    /// It is after a commit and these answers to its first `get`s, and one at least is still to come.
     Gots { commit: Commit, answers: Items<Got> },
-    /// It is behind a pair.
+    /// It is after a pair.
     Pairs,
-    /// It is behind the order.
+    /// It is after the order.
     Answers,
-    /// It is behind the end.
+    /// It is after the end.
     Ended,
 }
 
-/// How far a text has been read: the report so far, and where the next line stands.
+/// How far a text has been read: the report so far, and the place of the next line.
 #[derive(Drop)]
 pub(crate) struct Reading {
     pub report: Report,

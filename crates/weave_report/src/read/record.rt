@@ -26,7 +26,7 @@ pub(crate) fn items_in(alloc: Global, words: Pieces) -> Result<Record, LineFault
     Ok(held)
 }
 
-// Puts an item into a record: no property behind an edge, and each in the order of keys.
+// Puts an item into a record: no property after an edge, and each in the order of keys.
 fn with_item(held: &mut Record, item: Item) -> Result<(), LineFault>
     ensures { Changes result held.new (with_item held.old item) }
 {
@@ -103,7 +103,7 @@ fn cut_item(word: &[u8]) -> Option<(&[u8], u8, &[u8])>
     }
 }
 
-// Where the mark of an item stands.
+// The place of an item's mark.
 fn item_mark(word: &[u8]) -> Option<usize>
     ensures { result ≡ position is_item_mark word.now }
 {
@@ -153,7 +153,7 @@ fn cut_tag(word: &[u8]) -> Option<(&[u8], u8, &[u8])>
     }
 }
 
-// Where the mark of a tag stands.
+// The place of a tag's mark.
 fn equals_sign(word: &[u8]) -> Option<usize>
     ensures { result ≡ position is_equals word.now }
 {

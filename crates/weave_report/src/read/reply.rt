@@ -69,7 +69,7 @@ fn verdict_in(
     refused_in(alloc, script, name, stamp, first, second, fourth)
 }
 
-// Where there is no stamp.
+// If there is no stamp.
 fn unbegun_told(
     program: bool,
     script: &Named,
@@ -310,7 +310,7 @@ fn finished(
     }))
 }
 
-/// What a `get` read, by its line, where it is to be this operation.
+/// What a `get` read, by its line, if it is to be this operation.
 pub(crate) fn got_in(alloc: Global, op: u32, mut words: Pieces) -> Result<Got, LineFault>
     ensures { Gives result (got_in op words.entry) }
 {

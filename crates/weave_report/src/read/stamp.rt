@@ -13,7 +13,7 @@ use weave_text::{Pieces, number};
 /// The most counts of a stamp.
 const MOST_COUNTS: usize = 8;
 
-/// A stamp, where there are so many gatekeepers.
+/// A stamp, in a script of `gates` gatekeepers.
 pub(crate) fn stamp_in(alloc: Global, gates: u32, word: &[u8]) -> Result<Stamp, LineFault>
     ensures { Gives result (stamp_in gates word.now) }
 {

@@ -9,7 +9,7 @@ use program_defs::Request;
 use std::alloc::AllocError;
 use weave_text::Text;
 
-/// The requests in their order, and each phase's line where so many of them stand before it.
+/// The requests in order, and each phase's line after as many of them as the phase's number says.
 pub fn print_items(text: &mut Text, requests: &[Request], phases: &[u32]) -> Result<(), AllocError>
     ensures { OnOk result (text.new ≡ text.old ++ lines_text (item_lines 0 requests.now phases.now)) }
 {
@@ -33,7 +33,7 @@ fn print_phases(text: &mut Text, phases: &[u32]) -> Result<(), AllocError>
     Ok(())
 }
 
-// The phases that are due before the next request, where so many stand before it, and the others.
+// The phases that are due when `count` requests are written, and the others.
 fn split_due(count: usize, phases: &[u32]) -> (&[u32], &[u32])
     ensures due { result.0.now ≡ due_phases count phases.now }
     ensures later { result.1.now ≡ later_phases count phases.now }

@@ -76,22 +76,8 @@ fn print_ops(text: &mut Text, ops: &[Op]) -> Result<(), AllocError>
 fn print_op(text: &mut Text, op: &Op) -> Result<(), AllocError>
     ensures { OnOk result (text.new ≡ text.old ++ line_text (op_line op.now)) }
 {
-    match *op {
-        Op::Create { v } => print_names(text, b"create", &[v]),
-        Op::Delete { v } => print_names(text, b"delete", &[v]),
-        Op::Set { v, key, value } => print_names(text, b"set", &[v, key, value]),
-        Op::Unset { v, key } => print_names(text, b"unset", &[v, key]),
-        Op::Link { v, edge, target } => print_names(text, b"link", &[v, edge, target]),
-        Op::Unlink { v, edge } => print_names(text, b"unlink", &[v, edge]),
-        Op::Tag {
-            v,
-            edge,
-            key,
-            value,
-        } => print_names(text, b"tag", &[v, edge, key, value]),
-        Op::Untag { v, edge, key } => print_names(text, b"untag", &[v, edge, key]),
-        Op::Get { v } => print_names(text, b"get", &[v]),
-    }
+    let fields = op.fields();
+    print_names(text, op.word(), fields.as_slice())
 }
 
 // A program's words, with a space before each.

@@ -9,7 +9,7 @@ use std::alloc::AllocError;
 use weave_data::Items;
 use weave_text::Text;
 
-/// The line `steps` and a line for each step, where the script has them.
+/// The line `steps` and a line for each step, if the script has them.
 pub fn print_steps(
     text: &mut Text,
     requests: &[Request],
@@ -71,7 +71,7 @@ fn print_step(text: &mut Text, requests: &[Request], step: &Step) -> Result<(), 
     }
 }
 
-// The name of a request, or no bytes where there is none at the place.
+// The name of a request, or no bytes if there is none at the place.
 fn name_of_request(requests: &[Request], place: u32) -> &[u8]
     ensures { result.now ≡ name_of_request requests.now place }
 {

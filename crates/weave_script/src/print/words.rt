@@ -7,7 +7,7 @@ use std::alloc::AllocError;
 use weave_data::Name;
 use weave_text::Text;
 
-/// A line with names behind its first word.
+/// A line with names after its first word.
 pub fn print_names(text: &mut Text, word: &[u8], names: &[Name]) -> Result<(), AllocError>
     ensures { OnOk result (text.new ≡ text.old ++ line_text (word.now ∷ names.now)) }
 {
@@ -17,7 +17,7 @@ pub fn print_names(text: &mut Text, word: &[u8], names: &[Name]) -> Result<(), A
     Ok(())
 }
 
-/// A line with numbers behind its first word.
+/// A line with numbers after its first word.
 pub fn print_numbers(text: &mut Text, word: &[u8], numbers: &[u64]) -> Result<(), AllocError>
     ensures { OnOk result (text.new ≡ text.old ++ line_text (word.now ∷ map decimal numbers.now)) }
 {
@@ -27,7 +27,7 @@ pub fn print_numbers(text: &mut Text, word: &[u8], numbers: &[u64]) -> Result<()
     Ok(())
 }
 
-/// A line with a request's name, which may be empty, behind its first word.
+/// A line with a request's name, which may be empty, after its first word.
 pub fn print_named(text: &mut Text, word: &[u8], name: &[u8]) -> Result<(), AllocError>
     ensures { OnOk result (text.new ≡ text.old ++ line_text (word.now ∷ name.now ∷ [])) }
 {

@@ -1,4 +1,4 @@
-use Rattle.drive_rules.proofs.Basis.{based}
+use Rattle.weave_account.proofs.Basis.{based}
 use Rattle.drive_rules.proofs.Nudged.{after-hearing, after-its-home, at-home, said-later}
 use Rattle.drive_rules.proofs.laws.known_clocks_may_be_heard.Goals as goal
 

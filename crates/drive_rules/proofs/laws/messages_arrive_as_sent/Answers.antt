@@ -1,4 +1,4 @@
-use Rattle.drive_rules.proofs.Basis.{based}
+use Rattle.weave_account.proofs.Basis.{based}
 use Rattle.drive_rules.proofs.ReadyFor.{processed-arrived}
 use Rattle.drive_rules.proofs.SentMessages.{arrived-sent, home-inside, home-is, number-within, sent-under}
 use Rattle.drive_rules.proofs.laws.messages_arrive_as_sent.Goals as goal

@@ -1,4 +1,4 @@
-use Rattle.drive_rules.proofs.Basis.{based}
+use Rattle.weave_account.proofs.Basis.{based}
 use Rattle.drive_rules.proofs.SomeHead.{all-processed, not-stuck}
 use Rattle.drive_rules.proofs.laws.no_shard_is_stuck.Goals as goal
 

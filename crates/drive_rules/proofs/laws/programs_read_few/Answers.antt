@@ -1,4 +1,4 @@
-use Rattle.drive_rules.proofs.Basis.{based}
+use Rattle.weave_account.proofs.Basis.{based}
 use Rattle.drive_rules.proofs.ReadsLeft.{visits-left}
 use Rattle.drive_rules.proofs.laws.programs_read_few.Goals as goal
 

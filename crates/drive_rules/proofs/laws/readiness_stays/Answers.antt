@@ -1,4 +1,4 @@
-use Rattle.drive_rules.proofs.Basis.{based}
+use Rattle.weave_account.proofs.Basis.{based}
 use Rattle.drive_rules.proofs.ReadyFor.{ready-for, ready-stays, stays-passed}
 use Rattle.drive_rules.proofs.laws.readiness_stays.Goals as goal
 

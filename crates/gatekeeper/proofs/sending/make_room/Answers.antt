@@ -1,5 +1,5 @@
 use Rattle.std.proofs.Common.{rules, ◌<◌, length, arith}
-use Rattle.gatekeeper.proofs.Delivery.{get_set_here}
+use Rattle.weave_data.proofs.Lists.{get_set_here}
 use Rattle.gatekeeper.proofs.sending.make_room.Goals as goal
 
 pub returns-clause-room : goal.returns-clause-room

@@ -3,7 +3,8 @@ use Rattle.weave_data.specs.Changes.{undone}
 use Rattle.weave_data.specs.Pairs.{has, put}
 use Rattle.graph_ops.specs.TakingBack.{with_edge}
 use Rattle.graph_ops.specs.declared.record.Edge.{Edge}
-use Rattle.graph_ops.proofs.Retagging.{found_put, put_over}
+use Rattle.weave_data.proofs.Changing.{found_put}
+use Rattle.graph_ops.proofs.Retagging.{put_over}
 use Rattle.graph_ops.proofs.back.take_back_tag_of.Goals as goal
 
 pub swap-requires : goal.swap-requires

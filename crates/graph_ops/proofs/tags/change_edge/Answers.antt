@@ -1,6 +1,7 @@
 use Rattle.std.proofs.Common.{Some, is_some, ap, ◌∙◌}
 use Rattle.weave_data.specs.Pairs.{has}
-use Rattle.graph_ops.proofs.Retagging.{found_put, changed, can_retag, retagged_back, failed}
+use Rattle.weave_data.proofs.Changing.{found_put}
+use Rattle.graph_ops.proofs.Retagging.{changed, can_retag, retagged_back, failed}
 use Rattle.graph_ops.proofs.tags.change_edge.Goals as goal
 
 pub swap-requires : goal.swap-requires

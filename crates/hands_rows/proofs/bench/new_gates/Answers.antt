@@ -1,6 +1,6 @@
 use Rattle.std.proofs.Common.{◌+◌, ◌∙◌, ℕ, ap, subst, sym, vec_len}
 use Rattle.gatekeeper.specs.Gates.{GateView, IsNew}
-use Rattle.hands_rows.proofs.Table.{pushed}
+use Rattle.weaver_locks.proofs.Lists.{pushed}
 use Rattle.hands_rows.proofs.bench.new_gates.Goals as goal
 
 pub loop-home-preserved : goal.loop-home-preserved

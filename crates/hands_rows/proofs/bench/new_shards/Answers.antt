@@ -1,7 +1,7 @@
 use Rattle.std.proofs.Common.{◌+◌, ◌∙◌, ℕ, ap, subst, sym, vec_len}
 use Rattle.shard_node.specs.Shards.{ShardView}
-use Rattle.hands_rows.specs.Workers.{IsNewShard}
-use Rattle.hands_rows.proofs.Table.{pushed}
+use Rattle.weaver_locks.specs.Closing.{IsNewShard}
+use Rattle.weaver_locks.proofs.Lists.{pushed}
 use Rattle.hands_rows.proofs.bench.new_shards.Goals as goal
 
 pub loop-number-preserved : goal.loop-number-preserved

@@ -1,6 +1,6 @@
 use Rattle.std.proofs.Common.{◌≡◌, ◌<◌, ℕ, slice_index_or, vec_len}
 use Rattle.shard_node.specs.Shards.{ShardView}
-use Rattle.hands_rows.specs.Workers.{IsNewShard}
+use Rattle.weaver_locks.specs.Closing.{IsNewShard}
 use Rattle.hands_rows.proofs.bench.new_shards.Given as goal
 
 abbrev pub invariant-loop-number : goal.invariant-loop-number

@@ -3,7 +3,8 @@ use Rattle.weave_entries.specs.declared.oracle_log.OracleEntry.{OracleEntry}
 use Rattle.weave_entries.specs.declared.store_log.StoreEntry.{StoreEntry}
 use Rattle.weaver_locks.specs.Closing.{MayStart, logs_of}
 use Rattle.hands_rows.specs.Workers.{AreWorkers}
-use Rattle.hands_rows.proofs.Opening.{in-order, new-workers, no-entries, no-reads, no-gate-log, no-shard-log}
+use Rattle.weaver_locks.proofs.NewMachines.{in-order, no-entries, no-gate-log, no-shard-log}
+use Rattle.hands_rows.proofs.Opening.{new-workers, no-reads}
 use Rattle.hands_rows.proofs.bench.open.Goals as goal
 
 pub new-made-requires-clause-start : goal.new-made-requires-clause-start

@@ -1,7 +1,8 @@
 use Rattle.std.proofs.Common.{refl}
 use Rattle.weave_entries.specs.declared.gate_log.GateDeed.TheVariants.{BeganTx}
 use Rattle.hands_rows.proofs.Began.{began, left-in-flight, unvisited-at-gate}
-use Rattle.hands_rows.proofs.Going.{ends-on, nothing-there}
+use Rattle.weaver_locks.proofs.Options.{nothing-there}
+use Rattle.hands_rows.proofs.Going.{ends-on}
 use Rattle.hands_rows.proofs.Quiet.{none-begins, quiet-gate}
 use Rattle.hands_rows.proofs.requested.begin.Goals as goal
 

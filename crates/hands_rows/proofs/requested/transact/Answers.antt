@@ -3,7 +3,8 @@ use Rattle.weaver_locks.specs.Following.{MayHear}
 use Rattle.weaver_locks.specs.Locks.{shard_count}
 use Rattle.weaver_hands.specs.Transactions.{TransactsAs}
 use Rattle.hands_rows.proofs.Began.{transact-busy, transact-done, transacted}
-use Rattle.hands_rows.proofs.Going.{asked-last, carries-on}
+use Rattle.weaver_locks.proofs.Options.{asked-last}
+use Rattle.hands_rows.proofs.Going.{carries-on}
 use Rattle.hands_rows.proofs.requested.transact.Goals as goal
 
 pub transact-requires-clause-new : goal.transact-requires-clause-new

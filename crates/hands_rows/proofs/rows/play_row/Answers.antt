@@ -2,7 +2,7 @@ use Rattle.std.proofs.Common.{◌<◌, ◌∙◌, ap, length, arith}
 use Rattle.weaver_locks.specs.Hands.{hand_number}
 use Rattle.hands_rows.specs.declared.worker.Worker.{Worker}
 use Rattle.hands_rows.specs.Workers.{IsNumbered}
-use Rattle.hands_rows.proofs.Table.{set-at}
+use Rattle.weaver_locks.proofs.Lists.{set-at}
 use Rattle.hands_rows.proofs.rows.play_row.Goals as goal
 
 pub returns-clause-workers : goal.returns-clause-workers

@@ -1,10 +1,10 @@
 use Rattle.std.proofs.Common.{◌≡◌}
 use Rattle.weaver_locks.specs.Hands.{hand_number}
-use Rattle.hands_rows.specs.Workers.{IsReady}
+use Rattle.hands_rows.specs.Workers.{IsReadyWorker}
 use Rattle.hands_rows.proofs.threads.process.Given as goal
 
 abbrev pub invariant-loop : goal.invariant-loop
 invariant-loop g l = record {
-  worker : IsReady l.shared l.me;
+  worker : IsReadyWorker l.shared l.me;
   number : hand_number l.me.hand ≡ hand_number l.initial.me.hand;
 }

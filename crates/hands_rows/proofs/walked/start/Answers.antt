@@ -3,7 +3,7 @@ use Rattle.weave_entries.specs.declared.gate_log.GateDeed.TheVariants.{BeganProg
 use Rattle.weaver_locks.specs.Following.{MayHear}
 use Rattle.weaver_locks.specs.Locks.{shard_count}
 use Rattle.hands_rows.proofs.Began.{began, started}
-use Rattle.hands_rows.proofs.Going.{asked-last}
+use Rattle.weaver_locks.proofs.Options.{asked-last}
 use Rattle.hands_rows.proofs.walked.start.Goals as goal
 
 pub start-requires-clause-new : goal.start-requires-clause-new

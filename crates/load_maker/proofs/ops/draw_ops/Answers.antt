@@ -1,7 +1,7 @@
 use Rattle.std.proofs.Common.{◌+◌, List, ap, ◌∙◌}
 use Rattle.std.specs.Prelude.{count_by}
 use Rattle.graph_ops.specs.declared.op.Op.{Op}
-use Rattle.weave_script.specs.Limits.{is_get}
+use Rattle.graph_ops.specs.Operations.{is_get}
 use Rattle.load_maker.specs.Generated.{operation_of}
 use Rattle.load_maker.specs.Words.{words_from}
 use Rattle.load_maker.proofs.Counted.{no_gets, gets_more}

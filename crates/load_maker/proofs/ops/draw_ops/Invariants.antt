@@ -2,7 +2,7 @@ use Rattle.std.proofs.Common.{◌≡◌, ◌+◌}
 use Rattle.std.specs.Prelude.{count_by}
 use Rattle.load_maker.specs.Generated.{operation_of}
 use Rattle.load_maker.specs.Words.{drawn_list, words_from}
-use Rattle.weave_script.specs.Limits.{is_get}
+use Rattle.graph_ops.specs.Operations.{is_get}
 use Rattle.load_maker.proofs.ops.draw_ops.Given as goal
 
 abbrev pub invariant-loop : goal.invariant-loop

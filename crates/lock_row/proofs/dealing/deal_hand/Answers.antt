@@ -4,7 +4,7 @@ use Rattle.std.specs.Global.{Global}
 use Rattle.chronicle.specs.declared.chronicle.Chronicle.{Chronicle}
 use Rattle.chronicle.specs.declared.pass.Pass.{Pass}
 use Rattle.chronicle.specs.Locks.{lock_of}
-use Rattle.lock_row.specs.Hands.{IsNew, AreFirst}
+use Rattle.lock_row.specs.Hands.{IsNewPass, AreFirst}
 use Rattle.lock_row.proofs.Lists.{one_of}
 use Rattle.lock_row.proofs.Hands.{DealtSoFar, first_popped, left_more, dealt_more}
 use Rattle.lock_row.proofs.dealing.deal_hand.Goals as goal
@@ -47,7 +47,7 @@ loop-place-preserved g c =
     let first : (d : Chronicle g.row.M.Denot E) → AreFirst (n + 1) (lock_of (get_or locks k d)) v.items = λ d.
     subst (λ (x : Vec (Pass E) Global). AreFirst (n + 1) (lock_of (get_or locks k d)) x.items) (sym c.index_mut.ensures.value)
     (was.ahead k d v (omega arith) low) in
-    let split : (d : Chronicle g.row.M.Denot E) → AreFirst n (lock_of (get_or locks k d)) qs.items × IsNew n (lock_of (get_or locks k d)) p = λ d.
+    let split : (d : Chronicle g.row.M.Denot E) → AreFirst n (lock_of (get_or locks k d)) qs.items × IsNewPass n (lock_of (get_or locks k d)) p = λ d.
     first_popped n (lock_of (get_or locks k d)) v.items qs.items p (first d) c.in-Some.ensures.items in
     record {
       count = length-set passes k qs ∙ was.count;

@@ -5,7 +5,7 @@ use Rattle.chronicle.specs.declared.chronicle.Chronicle.{Chronicle}
 use Rattle.chronicle.specs.declared.open.Vacant.{Vacant}
 use Rattle.chronicle.specs.declared.pass.Pass.{Pass}
 use Rattle.chronicle.specs.Frames.{Frame}
-use Rattle.chronicle.specs.Locks.{lock_of, name_of, BeginsAs}
+use Rattle.chronicle.specs.Locks.{lock_of, name_of, LockStartsWith}
 use Rattle.chronicle.specs.Passes.{IsUnopened}
 use Rattle.lock_row.specs.Rows.{names_of}
 use Rattle.lock_row.specs.Hands.{AreFirst}
@@ -55,9 +55,9 @@ loop-part-preserved g c =
     let told = c.open_beside-made.ensures in
     let frame_in : List (List ℕ) → B → Frame = λ names b. g.B.Bare.frame b context names in
     let frame_of : B → Frame = frame_in (names_of before) in
-    let begins : (d : Lock) (b : B) → BeginsAs (lock_of lock) (lock_of (get_or before k d)).passes (frame_of (get_or machines k b))
+    let begins : (d : Lock) (b : B) → LockStartsWith (lock_of lock) (lock_of (get_or before k d)).passes (frame_of (get_or machines k b))
     (g.B.Bare.log (get_or machines k b)) = λ d b.
-    subst (λ (z : Lock × List (List ℕ) × B). BeginsAs (lock_of lock) (lock_of z.0).passes (frame_in z.1 z.2) (g.B.Bare.log z.2))
+    subst (λ (z : Lock × List (List ℕ) × B). LockStartsWith (lock_of lock) (lock_of z.0).passes (frame_in z.1 z.2) (g.B.Bare.log z.2))
     (λ i. (here d i, row i, machine b i)) told.begins in
     let passes : (d : Lock) → AreFirst (lock_of (get_or before k d)).passes (lock_of lock) made.items = λ d.
     subst (λ (x : Lock). AreFirst (lock_of x).passes (lock_of lock) made.items) (here d) told.passes in

@@ -1,5 +1,5 @@
 use Rattle.std.proofs.Common.{List, Contains, refl, subst, sym}
-use Rattle.proof_base.proofs.Members.{has_last}
+use Rattle.weave_data.proofs.Members.{has_last}
 use Rattle.weave_entries.specs.declared.gate_log.GateDeed.TheVariants.{BeganProgram}
 use Rattle.weave_entries.specs.declared.gate_log.GateEntry.{GateEntry}
 use Rattle.weaver_locks.specs.GateHolds.{gate_entry_by}

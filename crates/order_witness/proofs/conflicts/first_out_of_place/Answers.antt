@@ -1,7 +1,7 @@
 use Rattle.std.proofs.Common.{◌+◌, List, refl, sym, ◌∙◌, subst}
 use Rattle.std.proofs.lemmas.Bool.{both_ways}
 use Rattle.report_rules.specs.declared.report.Reply.{Reply}
-use Rattle.proof_base.specs.Facts.{BreaksFirstAt, facts_of_each}
+use Rattle.weave_data.specs.Facts.{BreaksFirstAt, facts_of_each}
 use Rattle.report_rules.specs.RightReport.{IsConflictInPlace}
 use Rattle.order_witness.specs.Begun.{request_precedes}
 use Rattle.order_witness.proofs.Loops.{each_step, each_breaks}

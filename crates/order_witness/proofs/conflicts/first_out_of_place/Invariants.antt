@@ -1,6 +1,6 @@
 use Rattle.std.proofs.Common.{take}
 use Rattle.report_rules.specs.declared.report.Reply.{Reply}
-use Rattle.proof_base.specs.Facts.{AllHold, facts_of_each}
+use Rattle.weave_data.specs.Facts.{AllHold, facts_of_each}
 use Rattle.report_rules.specs.RightReport.{IsConflictInPlace}
 use Rattle.order_witness.proofs.conflicts.first_out_of_place.Given as goal
 

@@ -4,7 +4,7 @@ use Rattle.std.specs.declared.alloc.AllocError.{AllocError}
 use Rattle.program_defs.specs.declared.script.Script.{Script}
 use Rattle.report_rules.specs.declared.report.Report.{Report}
 use Rattle.report_rules.specs.declared.report.Clause.{Clause}
-use Rattle.proof_base.specs.Facts.{BreaksFirstAt}
+use Rattle.weave_data.specs.Facts.{BreaksFirstAt}
 use Rattle.report_rules.specs.RightReport.{facts_of, IsRightReport, BreaksFirst}
 use Rattle.order_witness.specs.declared.judge.Judged.{Judged}
 use Rattle.order_witness.specs.declared.judge.Judged.TheVariants.{Yes, No}

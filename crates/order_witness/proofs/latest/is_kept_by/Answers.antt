@@ -1,6 +1,6 @@
 use Rattle.std.proofs.Common.{ℕ, List, get_or, refl, take, ◌∙◌, subst}
 use Rattle.std.proofs.lemmas.List.{get_or_default, take_all}
-use Rattle.proof_base.specs.Facts.{AllHold, facts_in_turn}
+use Rattle.weave_data.specs.Facts.{AllHold, facts_in_turn}
 use Rattle.report_rules.specs.RightReport.{IsListedInOrder}
 use Rattle.order_witness.proofs.Covering.{covered_more, listed_so}
 use Rattle.order_witness.proofs.Loops.{turn_step}

@@ -1,6 +1,6 @@
 use Rattle.std.proofs.Common.{take}
 use Rattle.std.specs.List.{AllByRecursion}
-use Rattle.proof_base.specs.Facts.{AllHold, facts_in_turn}
+use Rattle.weave_data.specs.Facts.{AllHold, facts_in_turn}
 use Rattle.report_rules.specs.RightReport.{IsListedInOrder}
 use Rattle.order_witness.specs.Latest.{IsCovered}
 use Rattle.order_witness.proofs.latest.is_kept_by.Given as goal

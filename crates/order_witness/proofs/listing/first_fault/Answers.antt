@@ -1,7 +1,7 @@
 use Rattle.std.proofs.Common.{IsTrue, not, ◌&&◌, ◌+◌, List, [], ◌∷◌, ◌++◌, ℕ, length, refl, sym, ◌∙◌, subst}
 use Rattle.std.proofs.lemmas.Bool.{both_ways}
 use Rattle.report_rules.specs.declared.report.Report.{Report}
-use Rattle.proof_base.specs.Facts.{Facts, AllHold, BreaksFirstAt, facts_in_turn}
+use Rattle.weave_data.specs.Facts.{Facts, AllHold, BreaksFirstAt, facts_in_turn}
 use Rattle.report_rules.specs.Lookups.{is_in, may_be_listed}
 use Rattle.report_rules.specs.RightReport.{all_are_listed}
 use Rattle.order_witness.specs.Seen.{AreSeen}

@@ -1,5 +1,5 @@
 use Rattle.std.proofs.Common.{◌≡◌, IsTrue, not, ◌&&◌, take, length}
-use Rattle.proof_base.specs.Facts.{AllHold, facts_in_turn}
+use Rattle.weave_data.specs.Facts.{AllHold, facts_in_turn}
 use Rattle.report_rules.specs.Lookups.{is_in, may_be_listed}
 use Rattle.order_witness.specs.Seen.{AreSeen}
 use Rattle.order_witness.proofs.listing.first_out_of_place.Given as goal

@@ -1,6 +1,6 @@
 use Rattle.std.proofs.Common.{◌≡◌, IsTrue, take, length}
 use Rattle.report_rules.specs.declared.report.Reply.{Reply}
-use Rattle.proof_base.specs.Facts.{AllHold, facts_in_turn}
+use Rattle.weave_data.specs.Facts.{AllHold, facts_in_turn}
 use Rattle.report_rules.specs.RightReport.{is_number_in_place}
 use Rattle.report_rules.specs.Lookups.{number_of}
 use Rattle.order_witness.specs.Seen.{AreNumbersSeen}

@@ -1,7 +1,7 @@
 use Rattle.std.proofs.Common.{◌+◌, List, ℕ, get_or, sym, ◌∙◌, subst}
 use Rattle.std.proofs.lemmas.Bool.{both_ways}
 use Rattle.std.proofs.lemmas.List.{get_or_default}
-use Rattle.proof_base.specs.Facts.{BreaksFirstAt, facts_in_turn}
+use Rattle.weave_data.specs.Facts.{BreaksFirstAt, facts_in_turn}
 use Rattle.report_rules.specs.RightReport.{IsListedInOrder}
 use Rattle.order_witness.specs.Bits.{leads}
 use Rattle.order_witness.proofs.Loops.{turn_step, turn_breaks}

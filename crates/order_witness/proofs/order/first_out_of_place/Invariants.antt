@@ -1,5 +1,5 @@
 use Rattle.std.proofs.Common.{take}
-use Rattle.proof_base.specs.Facts.{AllHold, facts_in_turn}
+use Rattle.weave_data.specs.Facts.{AllHold, facts_in_turn}
 use Rattle.report_rules.specs.RightReport.{IsListedInOrder}
 use Rattle.order_witness.proofs.order.first_out_of_place.Given as goal
 

@@ -1,6 +1,6 @@
 use Rattle.std.proofs.Common.{◌∷◌, sym, ◌∙◌}
 use Rattle.std.proofs.lemmas.Bool.{both_ways}
-use Rattle.proof_base.proofs.Members.{has_head, has_tail}
+use Rattle.weave_data.proofs.Members.{has_head, has_tail}
 use Rattle.order_graph.specs.Building.{ends_of}
 use Rattle.order_witness.proofs.BegunCoherent.{two_turned}
 use Rattle.order_witness.proofs.paired.add_stamps.Goals as goal

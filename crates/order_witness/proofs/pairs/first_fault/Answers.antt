@@ -2,7 +2,7 @@ use Rattle.std.proofs.Common.{◌≡◌, ◌+◌, List, Some, sym, ◌∙◌, su
 use Rattle.std.specs.Prelude.{slice_get}
 use Rattle.std.proofs.lemmas.Bool.{both_ways}
 use Rattle.report_rules.specs.declared.report.Pair.{Pair}
-use Rattle.proof_base.specs.Facts.{BreaksFirstAt, facts_of_each}
+use Rattle.weave_data.specs.Facts.{BreaksFirstAt, facts_of_each}
 use Rattle.report_rules.specs.RightReport.{IsPairInPlace}
 use Rattle.order_witness.specs.Visited.{IsMarkedPair}
 use Rattle.order_witness.proofs.Loops.{each_step, each_breaks}

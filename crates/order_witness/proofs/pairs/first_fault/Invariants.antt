@@ -1,5 +1,5 @@
 use Rattle.std.proofs.Common.{take}
-use Rattle.proof_base.specs.Facts.{AllHold, facts_of_each}
+use Rattle.weave_data.specs.Facts.{AllHold, facts_of_each}
 use Rattle.report_rules.specs.RightReport.{IsPairInPlace}
 use Rattle.order_witness.proofs.pairs.first_fault.Given as goal
 

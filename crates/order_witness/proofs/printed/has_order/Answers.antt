@@ -1,12 +1,12 @@
 use Rattle.std.proofs.Common.{Vec, Global, ◌≡◌, ℕ, Bool, IsTrue, Option, Some, None, subst}
 use Rattle.std.specs.Prelude.{MatchOption, is_some, ◌↔◌}
 use Rattle.std.proofs.lemmas.Bool.{both_ways}
-use Rattle.proof_base.proofs.FactsLaws.{none_breaks}
+use Rattle.weave_data.proofs.FactsLaws.{none_breaks}
 use Rattle.report_rules.specs.RightReport.{replies_clause}
 use Rattle.order_witness.specs.Judgement.{IsFirstFault}
 use Rattle.order_witness.proofs.printed.has_order.Goals as goal
 
--- there is an order where no request precedes itself, and else none
+-- there is an order if no request precedes itself, and otherwise none
 found : (Holds None-precedes : Type 0) (Is : Vec ℕ Global → Type 0) (order : Option (Vec ℕ Global)) (has : Bool) → has ≡ is_some order → Holds → MatchOption order (¬ None-precedes) (λ o. Is o × None-precedes) → IsTrue has ↔ (Holds × None-precedes)
 found Holds None-precedes Is None has is holds h = (λ yes. absurd (both_ways _ is yes), λ both. absurd (h both.1))
 found Holds None-precedes Is (Some order) has is holds h = (λ yes. (holds, h.1), λ both. is)

@@ -6,7 +6,7 @@ use Rattle.program_defs.specs.declared.script.Script.{Script}
 use Rattle.report_rules.specs.declared.report.Report.{Report}
 use Rattle.report_rules.specs.declared.report.Reply.{Reply}
 use Rattle.report_rules.specs.Replay.{graph_of_commits}
-use Rattle.proof_base.specs.Facts.{BreaksFirstAt, facts_of_each}
+use Rattle.weave_data.specs.Facts.{BreaksFirstAt, facts_of_each}
 use Rattle.report_rules.specs.RightReport.{IsRefusalInPlace}
 use Rattle.order_witness.specs.Refusals.{AreMarked, Marks, IsRefusedSo}
 use Rattle.order_witness.proofs.Loops.{each_step, each_breaks}

@@ -3,7 +3,7 @@ use Rattle.std.specs.Prelude.{◌↔◌}
 use Rattle.std.proofs.lemmas.List.{get_or_default, take_all}
 use Rattle.graph_ops.specs.Graphs.{plain_of}
 use Rattle.graph_ops.specs.PlainGraph.{empty_graph}
-use Rattle.proof_base.specs.Facts.{AllHold, BreaksFirstAt}
+use Rattle.weave_data.specs.Facts.{AllHold, BreaksFirstAt}
 use Rattle.report_rules.specs.Replay.{replay_from, graph_after}
 use Rattle.report_rules.specs.Lookups.{request_at}
 use Rattle.order_witness.specs.Replayed.{MatchesItsReply, TellsOf}

@@ -3,7 +3,7 @@ use Rattle.std.specs.Prelude.{nat_le}
 use Rattle.std.proofs.lemmas.Bool.{both_ways, lt-leb, le-leb}
 use Rattle.program_defs.specs.declared.script.Script.{Script}
 use Rattle.report_rules.specs.declared.report.Reply.{Reply}
-use Rattle.proof_base.specs.Facts.{Facts, AllHold, BreaksFirstAt, facts_in_turn}
+use Rattle.weave_data.specs.Facts.{Facts, AllHold, BreaksFirstAt, facts_in_turn}
 use Rattle.report_rules.specs.RightReport.{is_reply_in_place}
 use Rattle.order_witness.specs.Judgement.{IsFirstFault}
 use Rattle.order_witness.proofs.Loops.{within_breaks, end_breaks, all_hold}

@@ -1,13 +1,13 @@
 use Rattle.std.proofs.Common.{ℕ, ◌≤◌, length, refl}
 use Rattle.weave_account.specs.declared.account.Account.{Account}
 use Rattle.seen_logs.specs.Closed.{AreOfHands}
-use Rattle.seen_logs.specs.LowerLaws.{LowerLaws}
+use Rattle.seen_logs.specs.LowerLaws.{LawsForSeenLogs}
 use Rattle.seen_logs.specs.Seen.{AreLegal}
 use Rattle.seen_logs.proofs.Closing.{IsEnd}
 use Rattle.seen_logs.proofs.Reading.{own-end, own-reads, start-reads}
 use Rattle.seen_logs.proofs.laws.programs_read_what_was_seen.Goals as goal
 
-ended : LowerLaws → (gates shards hands : ℕ) (start : Account) (seen_by : ℕ → Account) (closed : Account) → length closed.gates ≤ 8
+ended : LawsForSeenLogs → (gates shards hands : ℕ) (start : Account) (seen_by : ℕ → Account) (closed : Account) → length closed.gates ≤ 8
     → AreLegal gates shards closed → AreOfHands shards hands start seen_by closed → IsEnd gates shards hands start seen_by closed
 ended laws gates shards hands start seen_by closed few legal of = record { laws = laws; few = few; legal = legal; of = of }
 

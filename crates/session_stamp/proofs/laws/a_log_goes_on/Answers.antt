@@ -2,7 +2,7 @@ use Rattle.std.proofs.Common.{◌≡◌, ℕ, List, ◌∷◌, [], refl}
 use Rattle.std.proofs.lemmas.List.Sums.{fold-append}
 use Rattle.weave_entries.specs.declared.session_log.SessionEntry.{SessionEntry}
 use Rattle.weave_entries.specs.SessionReplay.{session_of, FitsSession}
-use Rattle.proof_base.proofs.Entries.{each_none, each_push, each_before}
+use Rattle.weave_data.proofs.Entries.{each_none, each_push, each_before}
 use Rattle.session_stamp.proofs.laws.a_log_goes_on.Goals as goal
 
 -- what holds at each entry

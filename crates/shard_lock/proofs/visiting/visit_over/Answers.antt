@@ -43,8 +43,18 @@ returns-clause-answer g c =
       visited-over (number_of c.args.pass.now) c.number-author.result c.args.request c.args.stamp c.args.vertex c.args.shard.now
           c.visit_with-read.new.shard (seen c.args.pass.now) (own c.args.pass.now) (oracle_pairs (machine_of c.enter-held.result).oracle)
           (seen c.leave.new.pass) before c.visit_with-read.new.oracle.oracle c.visit_with-read.result c.number-author.ensures entered
-          c.leave.ensures.seen c.enter-held.ensures.log c.enter-held.ensures.own did.ready did.state did.entry did.logged did.pairs
-          did.not_ready did.not_asked did.refused did.unchanged did.oracle,
+          c.leave.ensures.seen c.enter-held.ensures.log c.enter-held.ensures.own (record {
+            ready = did.ready;
+            state = did.state;
+            entry = did.entry;
+            logged = did.logged;
+            pairs = did.pairs;
+            not_ready = did.not_ready;
+            not_asked = did.not_asked;
+            refused = did.refused;
+            unchanged = did.unchanged;
+            oracle = did.oracle;
+          }),
     )
 
 pub returns-clause-met : goal.returns-clause-met

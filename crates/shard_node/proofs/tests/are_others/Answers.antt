@@ -2,7 +2,7 @@ use Rattle.std.proofs.Common.{◌≡◌, ◌<◌, inl, inr, [], length, get_or, 
 use Rattle.std.proofs.lemmas.Bool.{cases_lt}
 use Rattle.std.proofs.lemmas.List.{get_or_default}
 use Rattle.std.proofs.lemmas.List.Elements.{Contains-get_or, Contains-append_left}
-use Rattle.proof_base.proofs.Members.{has_head, has_tail}
+use Rattle.weave_data.proofs.Members.{has_head, has_tail}
 use Rattle.vector_stamp.specs.declared.clock.Stamp.{Stamp}
 use Rattle.vector_stamp.specs.Order.{id_of}
 use Rattle.shard_node.proofs.tests.are_others.Goals as goal

@@ -1,11 +1,12 @@
 use Rattle.std.proofs.Common.{◌≡◌, ◌≢◌, ◌<◌, ◌≤◌, ◌++◌, [], ◌∷◌, List, length, get_or, take, sym, subst, arith, Contains, IsTrue, None}
 use Rattle.std.proofs.lemmas.List.Elements.{Contains-get_or}
+use Rattle.weave_data.proofs.Members.{take_has}
 use Rattle.vector_stamp.specs.declared.clock.Stamp.{Stamp}
 use Rattle.vector_stamp.specs.Coherence.{AreCoherent}
 use Rattle.vector_stamp.specs.Precedence.{Given, precedes}
 use Rattle.vector_stamp.specs.Settling.{refused_place}
 use Rattle.order_graph.specs.Building.{ends_of}
-use Rattle.timeline_oracle.proofs.Known.{among_handed, of_first, others_than}
+use Rattle.timeline_oracle.proofs.Known.{among_handed, others_than}
 use Rattle.timeline_oracle.proofs.Places.{none_in_first, fails_at}
 use Rattle.timeline_oracle.proofs.settling.put_before.Goals as goal
 
@@ -29,7 +30,7 @@ put_one-requires-clause-permitted c =
     let event = get_or c.args.earlier.now c.loop-place.place nowhere in
     let has = Contains-get_or c.args.earlier.now c.loop-place.place nowhere below in
     let others : (other : Stamp) → Contains (take c.loop-place.place c.args.earlier.now) other → other ≢ c.args.later =
-    λ other h. others_than c.args.earlier.now c.args.later c.requires.other_ids other (of_first c.args.earlier.now c.loop-place.place other h) in
+    λ other h. others_than c.args.earlier.now c.args.later c.requires.other_ids other (take_has c.loop-place.place c.args.earlier.now other h) in
     let none : refused_place pairs (take c.loop-place.place c.args.earlier.now) c.args.later ≡ None =
     none_in_first (precedes pairs c.args.later) c.args.earlier.now c.loop-place.place c.args.later within c.requires.permitted in
     let still = c.settling_puts_all_before.ensures.still_permitted pairs (take c.loop-place.place c.args.earlier.now) c.args.later event others none (fails_at (precedes pairs c.args.later) c.args.earlier.now c.requires.permitted event has) in

@@ -2,7 +2,7 @@ use Rattle.std.proofs.Common.{◌≡◌, List, [], ◌∷◌, ◌++◌, Contains
 use Rattle.std.proofs.lemmas.List.Elements.{Contains-append_left, Contains-append_right, Contains-append_cases, Contains-push}
 use Rattle.vector_stamp.specs.declared.clock.Stamp.{Stamp}
 use Rattle.order_graph.specs.Building.{ends_of}
-use Rattle.proof_base.proofs.Members.{has_read}
+use Rattle.weave_data.proofs.Members.{has_read}
 use Rattle.timeline_oracle.specs.Log.{pairs_of_log}
 use Rattle.timeline_oracle.proofs.tests.settle.Goals as goal
 

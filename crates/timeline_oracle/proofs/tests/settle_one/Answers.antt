@@ -1,7 +1,7 @@
 use Rattle.std.proofs.Common.{◌∷◌, ◌++◌, [], Contains, inl, inr, subst}
 use Rattle.vector_stamp.specs.declared.clock.Stamp.{Stamp}
 use Rattle.order_graph.specs.Building.{ends_of}
-use Rattle.proof_base.proofs.Members.{has_read, has_none}
+use Rattle.weave_data.proofs.Members.{has_read, has_none}
 use Rattle.timeline_oracle.specs.Log.{pairs_of_log}
 use Rattle.timeline_oracle.proofs.tests.settle_one.Goals as goal
 

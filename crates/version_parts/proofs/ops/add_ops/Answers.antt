@@ -1,5 +1,5 @@
 use Rattle.std.proofs.Common.{◌<◌, length, sym, subst, arith}
-use Rattle.version_parts.specs.Placed.{IsWithin}
+use Rattle.version_parts.specs.Placed.{AreUpTo}
 use Rattle.version_parts.proofs.Updating.{begun, next_is, way_within}
 use Rattle.version_parts.proofs.ops.add_ops.Goals as goal
 
@@ -8,7 +8,7 @@ loop-place-init c = begun c.args.update c.args.ops.now c.args.lists.now c.requir
 
 pub returns-in_err-add_op-clause-within : goal.returns-in_err-add_op-clause-within
 returns-in_err-add_op-clause-within c =
-    subst (IsWithin c.args.update) (sym c.in_err-add_op.ensures.err) (way_within c.args.update c.loop-place.place c.args.ops.now c.args.lists.now c.loop-place.lists c.loop-place.invariant)
+    subst (AreUpTo c.args.update) (sym c.in_err-add_op.ensures.err) (way_within c.args.update c.loop-place.place c.args.ops.now c.args.lists.now c.loop-place.lists c.loop-place.invariant)
 
 pub loop-place-preserved : goal.loop-place-preserved
 loop-place-preserved c =

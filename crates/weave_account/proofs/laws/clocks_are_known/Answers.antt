@@ -1,5 +1,5 @@
 use Rattle.std.proofs.Common.{[], ◌∷◌}
-use Rattle.proof_base.proofs.Members.{has_head, has_tail}
+use Rattle.weave_data.proofs.Members.{has_head, has_tail}
 use Rattle.weave_account.specs.Account.{shard_log}
 use Rattle.weave_account.proofs.Basis.{based}
 use Rattle.weave_account.proofs.KnownClocks.{own-known, begun-known, judged-known, settled-known, message-known, visit-known, bound-known, hearing-known, meet-known, sent-known, session-known, collected-known, may-be-heard, low-known}

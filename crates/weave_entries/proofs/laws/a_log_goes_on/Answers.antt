@@ -1,5 +1,5 @@
 use Rattle.std.proofs.Common.{ℕ, List}
-use Rattle.proof_base.proofs.Entries.{each_none, each_push, each_before}
+use Rattle.weave_data.proofs.Entries.{each_none, each_push, each_before}
 use Rattle.weave_entries.specs.declared.gate_log.GateEntry.{GateEntry}
 use Rattle.weave_entries.specs.GateRules.{FitsAs, HearsAs}
 use Rattle.weave_entries.proofs.laws.a_log_goes_on.Goals as goal

@@ -1,4 +1,4 @@
-use Rattle.proof_base.proofs.Entries.{each_none, each_push, each_before}
+use Rattle.weave_data.proofs.Entries.{each_none, each_push, each_before}
 use Rattle.weave_entries.specs.declared.store_log.StoreEntry.{StoreEntry}
 use Rattle.weave_entries.specs.StoreRule.{FitsStore}
 use Rattle.weave_entries.proofs.laws.a_store_log_goes_on.Goals as goal

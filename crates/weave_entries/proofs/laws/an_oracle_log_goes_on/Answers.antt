@@ -1,5 +1,5 @@
 use Rattle.std.proofs.Common.{[]}
-use Rattle.proof_base.proofs.Ends.{flat_push}
+use Rattle.weave_data.proofs.Ends.{flat_push}
 use Rattle.weave_entries.specs.declared.oracle_log.OracleEntry.{OracleEntry}
 use Rattle.weave_entries.specs.OracleReplay.{settled_entry, pairs_of_entry}
 use Rattle.weave_entries.proofs.OracleLogs.{SettlingLaws, right-push, right-before, right_pairs}

@@ -1,7 +1,7 @@
 use Rattle.std.proofs.Common.{ℕ, ◌==◌, Contains, List, IsTrue, refl, subst, map}
 use Rattle.std.specs.List.{list_any}
 use Rattle.std.proofs.lemmas.Bool.{eqb-true, eq-eqb}
-use Rattle.proof_base.proofs.Members.{any_from, any_has, has_map, map_has}
+use Rattle.weave_data.proofs.Members.{any_from, any_has, has_map, map_has}
 use Rattle.vector_stamp.specs.declared.clock.Stamp.{Stamp}
 use Rattle.weave_entries.specs.SessionReplay.{begins_in, replied_in}
 use Rattle.weave_entries.proofs.laws.begun_and_replied_are_decided.Goals as goal

@@ -1,5 +1,5 @@
 use Rattle.std.proofs.Common.{Option, Contains, subst}
-use Rattle.proof_base.proofs.Members.{has_map}
+use Rattle.weave_data.proofs.Members.{has_map}
 use Rattle.weave_entries.specs.declared.message.Message.{Message}
 use Rattle.weave_entries.specs.GateReplay.{Begun, next_stamp, clock_of, stamps_of, channel_of}
 use Rattle.weave_entries.proofs.Channels.{StandsBefore, channels_rise}

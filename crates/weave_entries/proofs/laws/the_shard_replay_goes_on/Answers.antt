@@ -1,5 +1,5 @@
 use Rattle.std.proofs.Common.{[]}
-use Rattle.proof_base.proofs.Ends.{flat_push}
+use Rattle.weave_data.proofs.Ends.{flat_push}
 use Rattle.weave_entries.specs.declared.shard_log.ShardEntry.{ShardEntry}
 use Rattle.weave_entries.specs.ShardReplay.{arrival_by, processed_by, visit_by}
 use Rattle.weave_entries.proofs.ShardLogs.{dropped-push}

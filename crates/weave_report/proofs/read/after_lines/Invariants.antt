@@ -3,7 +3,7 @@ use Rattle.weave_text.specs.Cutting.{lines_of}
 use Rattle.weave_report.specs.Reading.{after_lines, start}
 use Rattle.weave_report.proofs.read.after_lines.Given as goal
 
--- reading what is left comes to what reading all comes to
+-- reading what is left gives the same as reading all
 abbrev pub invariant-loop-line : goal.invariant-loop-line
 invariant-loop-line l = record {
   same : after_lines l.script l.number l.reading (lines_of l.left) ≡ after_lines l.script l.first_line start (lines_of l.bytes);

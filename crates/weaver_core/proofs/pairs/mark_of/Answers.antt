@@ -1,5 +1,5 @@
 use Rattle.std.proofs.Common.{◌<◌, Contains, List, subst, sym}
-use Rattle.proof_base.proofs.Members.{has_head, has_tail}
+use Rattle.weave_data.proofs.Members.{has_head, has_tail}
 use Rattle.vector_stamp.specs.declared.clock.Stamp.{Stamp}
 use Rattle.weave_entries.specs.OracleReplay.{settled_entry}
 use Rattle.weaver_core.proofs.pairs.mark_of.Goals as goal

@@ -2,7 +2,7 @@ use Rattle.std.proofs.Common.{◌≡◌, Option, Some, inl, inr, refl, sym, ap, 
 use Rattle.std.specs.Option.{option_map}
 use Rattle.std.specs.Prelude.{IsSome, option_copied}
 use Rattle.std.proofs.lemmas.Option.{same_Some}
-use Rattle.proof_base.proofs.Members.{find_has}
+use Rattle.weave_data.proofs.Members.{find_has}
 use Rattle.gatekeeper.specs.Opened.{as_begun}
 use Rattle.weave_entries.specs.GateReplay.{Begun}
 use Rattle.weave_entries.specs.StoreReplay.{judged_by, judgement_of, judgements_of}

@@ -2,15 +2,15 @@ use Rattle.std.proofs.Common.{arith, ◌≡◌, length, sym, ap, subst}
 use Rattle.std.specs.List.{All}
 use Rattle.std.proofs.lemmas.List.Elements.{All-head, All-push, All-tail}
 use Rattle.shard_lock.specs.declared.notes.ShardNotes.{ShardNotes}
-use Rattle.shard_lock.specs.Notes.{IsKept}
+use Rattle.shard_lock.specs.Notes.{ShardIsKept}
 use Rattle.weaver_locks.specs.Noted.{ShardNotesStart}
 use Rattle.weaver_locks.proofs.Lists.{mapped_more, mapped_whole}
 use Rattle.weaver_locks.proofs.noting.note_shards.Goals as goal
 
 pub note_shard-requires-clause-kept : goal.note_shard-requires-clause-kept
 note_shard-requires-clause-kept c =
-    All-head (λ b. (notes : ShardNotes) → ShardNotesStart c.args.locks.now notes → IsKept b.shard c.args.count notes) c.in-Some.shard _
-    (subst (All (λ b. (notes : ShardNotes) → ShardNotesStart c.args.locks.now notes → IsKept b.shard c.args.count notes)) c.in-Some.ensures.steps.0
+    All-head (λ b. (notes : ShardNotes) → ShardNotesStart c.args.locks.now notes → ShardIsKept b.shard c.args.count notes) c.in-Some.shard _
+    (subst (All (λ b. (notes : ShardNotes) → ShardNotesStart c.args.locks.now notes → ShardIsKept b.shard c.args.count notes)) c.in-Some.ensures.steps.0
     c.loop-shard.invariant.kept)
 
 pub loop-shard-preserved : goal.loop-shard-preserved
@@ -23,8 +23,8 @@ loop-shard-preserved c =
       hand = one.ensures.hand;
       all = mapped_more (λ n. n.shard) (λ b. b.shard) c.loop-shard.noted.items c.push_reserved.new.self.items one.one _ _ c.in-Some.shard
           c.push_reserved.ensures.items steps.0 one.ensures.shard was.all;
-      kept = All-tail (λ b. (notes : ShardNotes) → ShardNotesStart c.args.locks.now notes → IsKept b.shard c.args.count notes) c.in-Some.shard _
-          (subst (All (λ b. (notes : ShardNotes) → ShardNotesStart c.args.locks.now notes → IsKept b.shard c.args.count notes)) steps.0 was.kept);
+      kept = All-tail (λ b. (notes : ShardNotes) → ShardNotesStart c.args.locks.now notes → ShardIsKept b.shard c.args.count notes) c.in-Some.shard _
+          (subst (All (λ b. (notes : ShardNotes) → ShardNotesStart c.args.locks.now notes → ShardIsKept b.shard c.args.count notes)) steps.0 was.kept);
       notes = subst (All (λ n. ShardNotesStart c.args.locks.now n.notes)) (sym c.push_reserved.ensures.items)
           (All-push (λ n. ShardNotesStart c.args.locks.now n.notes) c.loop-shard.noted.items one.one was.notes one.ensures.notes);
       count = subst (All (λ n. n.shards ≡ c.args.count)) (sym c.push_reserved.ensures.items)

@@ -30,18 +30,29 @@ returns-in-Ok-clause-goes g c upto below =
     let at_end = subst (λ (s : SessionState). IsClientOf c.args.number s c.reserve.new.self.log.items) (sym c.reserve.ensures.same.session)
     (subst (λ l. IsClientOf c.args.number c.args.client.now.session l) (sym c.reserve.ensures.same.log) c.requires.keeps.at_end) in
     started laws c.args.shared.now c.args.script.now c.args.number upto c.args.hand.now c.start.new.hand c.args.client.now
-    c.reserve.new.self _ c.requires.keeps c.reserve.ensures.same c.start.ensures.hand c.args.request asked (record {
-      request_is = asked_is;
-      turn = subst (λ (s : SessionState). IsInTurn s c.args.request) (sym c.reserve.ensures.same.session) c.requires.turn;
-      below = below;
-    }) c.args.program.now (c.requires.work asked asked_is)
+    c.reserve.new.self _ c.requires.keeps c.reserve.ensures.same c.start.ensures.hand (record {
+      r = c.args.request;
+      asked = asked;
+      next = record {
+        request_is = asked_is;
+        turn = subst (λ (s : SessionState). IsInTurn s c.args.request) (sym c.reserve.ensures.same.session) c.requires.turn;
+        below = below;
+      };
+      program = c.args.program.now;
+      work_is = c.requires.work asked asked_is;
+      stamp = c.in-Ok.stamp;
+      starts = subst (λ (last : Option Stamp). Starts (shard_count c.args.shared.now) c.args.hand.now c.start.new.hand asked.gate
+          c.args.request last c.in-Ok.stamp) c.last-last.ensures c.in-Ok.ensures.done;
+      walk = c.in_ok-walk.walk;
+      program_is = c.in_ok-walk.ensures.program;
+      unread = c.in_ok-walk.ensures.reads;
+      requests = adds.requests;
+      log = adds.log;
+      running = refl;
+      replies = ap (λ (v : SessionValues). v.replies) c.begun.ensures.values;
+    })
     (subst (λ (n : ℕ). asked.gate < n) (sym c.requires.locks.gates) (c.requires.limits.homes c.args.request asked asked_is))
-    c.in-Ok.stamp
-    (subst (λ (last : Option Stamp). Starts (shard_count c.args.shared.now) c.args.hand.now c.start.new.hand asked.gate
-    c.args.request last c.in-Ok.stamp) c.last-last.ensures c.in-Ok.ensures.done)
-    c.in_ok-walk.walk c.in_ok-walk.ensures.program c.in_ok-walk.ensures.reads adds.client
-    (deed-done laws c.args.number c.reserve.new.self c.begun.new.self (Begun c.args.request c.in-Ok.stamp) at_end adds)
-    adds.requests adds.log refl (ap (λ (v : SessionValues). v.replies) c.begun.ensures.values)
+    adds.client (deed-done laws c.args.number c.reserve.new.self c.begun.new.self (Begun c.args.request c.in-Ok.stamp) at_end adds)
 
 pub returns-in-Ok-clause-runs : goal.returns-in-Ok-clause-runs
 returns-in-Ok-clause-runs g c =

@@ -2,7 +2,7 @@ use Rattle.std.proofs.Common.{ℕ, ◌<◌, List, None, Some, length, sym, ap, s
 use Rattle.std.specs.Prelude.{nat_lt, if◌then◌else◌}
 use Rattle.std.specs.Option.{option_and_then}
 use Rattle.program_defs.specs.declared.script.Request.{Request}
-use Rattle.weaver_workers.specs.ClientWork.{EndsAs, GoesOn}
+use Rattle.weaver_workers.specs.ClientWork.{WorkerEndsAs, WorkerGoesOn}
 use Rattle.weaver_workers.specs.Keeping.{KeepsClient}
 use Rattle.weaver_workers.specs.Phases.{phase_end}
 use Rattle.weaver_workers.specs.Turning.{stand}
@@ -50,7 +50,7 @@ returns g c = if-both c.go_session.result (λ ended goes ends number keeps.
     let old = stand c.args.hand.now c.args.client.now in
     let new = stand c.go_session.new.hand c.go_session.new.client in
     record {
-      goes = subst (λ (upto : ℕ). GoesOn c.args.shared.now c.args.script.now number upto old new) c.end_of_phase-upto.ensures
-          (subst (λ (n : ℕ). GoesOn c.args.shared.now c.args.script.now n c.end_of_phase-upto.result old new) same goes);
-      ends = subst (λ (upto : ℕ). EndsAs c.args.shared.now c.args.script.now upto new ended) c.end_of_phase-upto.ensures ends;
+      goes = subst (λ (upto : ℕ). WorkerGoesOn c.args.shared.now c.args.script.now number upto old new) c.end_of_phase-upto.ensures
+          (subst (λ (n : ℕ). WorkerGoesOn c.args.shared.now c.args.script.now n c.end_of_phase-upto.result old new) same goes);
+      ends = subst (λ (upto : ℕ). WorkerEndsAs c.args.shared.now c.args.script.now upto new ended) c.end_of_phase-upto.ensures ends;
     })) c.go_session.ensures.goes c.go_session.ensures.ends

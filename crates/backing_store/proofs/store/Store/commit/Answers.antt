@@ -56,8 +56,15 @@ invariant_of-self-2 g c =
     replay_more _ _ _ _ _ (replay_moved _ _ _ _ _ c.self.invariant _ _ _ c.make_room.ensures.lasts c.make_room.ensures.places c.make_room.ensures.log) (g.J.Judge.pairs c.args.judge.now) c.args.author c.args.request c.args.stamp c.args.ops.now c.in_ok-asked.asked.vertices c.in_ok-decided.decided.logged _ _ _ _ _
     (subst (λ (log : List StoreEntry). All (λ (judged : Stamp). id_of judged ≢ id_of c.args.stamp) (stamps_judged log)) (sym (c.make_room.ensures.log ∙ c.self.view_is)) c.requires.new)
     (vertices_are _ _ _ _ _ (replay_moved _ _ _ _ _ c.self.invariant _ _ _ c.make_room.ensures.lasts c.make_room.ensures.places c.make_room.ensures.log) c.args.stamp c.args.ops.now _ _ (c.as_slice.ensures.value ∙ c.in_ok-names.ensures) (c.as_slice-2.ensures.value ∙ c.in_ok-names.ensures) c.in_ok-asked.asked c.in_ok-asked.ensures)
-    (c.in_ok-decided.ensures.logged _ (known_before _ _ _ _ _ (replay_moved _ _ _ _ _ c.self.invariant _ _ _ c.make_room.ensures.lasts c.make_room.ensures.places c.make_room.ensures.log) c.args.stamp c.args.ops.now _ _ (c.as_slice.ensures.value ∙ c.in_ok-names.ensures) (c.as_slice-2.ensures.value ∙ c.in_ok-names.ensures) c.in_ok-asked.asked c.in_ok-asked.ensures)) c.in_ok-decided.ensures.graph c.put_commit.ensures.lasts c.put_commit.ensures.made
-    (λ one. c.note_place.ensures one ∙ ap (λ (place : ℕ). option_or (lookup (nat_eq one) c.make_room.new.places.entries) (cond (nat_eq c.args.request one) (Some place) None)) (c.len-2.ensures ∙ c.make_room.new.log.ok.0))
+    (c.in_ok-decided.ensures.logged _ (known_before _ _ _ _ _ (replay_moved _ _ _ _ _ c.self.invariant _ _ _ c.make_room.ensures.lasts c.make_room.ensures.places c.make_room.ensures.log) c.args.stamp c.args.ops.now _ _ (c.as_slice.ensures.value ∙ c.in_ok-names.ensures) (c.as_slice-2.ensures.value ∙ c.in_ok-names.ensures) c.in_ok-asked.asked c.in_ok-asked.ensures))
+    (record {
+      graph_is = c.in_ok-decided.ensures.graph;
+      lasts_are = c.put_commit.ensures.lasts;
+      made_is = c.put_commit.ensures.made;
+      places_are = λ one. c.note_place.ensures one
+          ∙ ap (λ (place : ℕ). option_or (lookup (nat_eq one) c.make_room.new.places.entries) (cond (nat_eq c.args.request one) (Some place) None))
+          (c.len-2.ensures ∙ c.make_room.new.log.ok.0);
+    })
     (log_after g c)
 
 -- What is answered

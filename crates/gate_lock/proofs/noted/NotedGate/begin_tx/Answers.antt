@@ -3,14 +3,14 @@ use Rattle.std.specs.Option.{ForSome}
 use Rattle.vector_stamp.specs.declared.clock.Stamp.{Stamp}
 use Rattle.weave_entries.specs.declared.gate_log.GateDeed.TheVariants.{BeganTx}
 use Rattle.weave_account.specs.Clocks.{IsKnown}
-use Rattle.gate_lock.specs.Notes.{NotedView, seen_of}
+use Rattle.gate_lock.specs.Notes.{NotedGateView, seen_of}
 use Rattle.gate_lock.proofs.Adding.{after_last, kept_begun, known_begun}
 use Rattle.gate_lock.proofs.Calls.{begins_tx}
 use Rattle.gate_lock.proofs.noted.NotedGate.begin_tx.Goals as goal
 
 pub invariant_of-self : goal.invariant_of-self
 invariant_of-self c =
-    let its = subst (λ (v : NotedView). ForSome c.args.last (λ (heard : Stamp). IsKnown (seen_of v.gate v.notes) heard.clock))
+    let its = subst (λ (v : NotedGateView). ForSome c.args.last (λ (heard : Stamp). IsKnown (seen_of v.gate v.notes) heard.clock))
     (sym c.self.view_is) c.requires in
     kept_begun c.the_crates_below_keep_their_laws.ensures c.self.inside.gate c.begin_tx-begun.new.self c.self.inside.notes c.self.invariant
     c.shows_rules.ensures.home c.shows_rules.ensures.rules
@@ -20,7 +20,7 @@ invariant_of-self c =
 
 pub returns-clause-known : goal.returns-clause-known
 returns-clause-known c =
-    let its = subst (λ (v : NotedView). ForSome c.args.last (λ (heard : Stamp). IsKnown (seen_of v.gate v.notes) heard.clock))
+    let its = subst (λ (v : NotedGateView). ForSome c.args.last (λ (heard : Stamp). IsKnown (seen_of v.gate v.notes) heard.clock))
     (sym c.self.view_is) c.requires in
     known_begun c.the_crates_below_keep_their_laws.ensures c.self.inside.gate c.begin_tx-begun.new.self c.self.inside.notes c.self.invariant
     c.shows_rules.ensures.home c.shows_rules.ensures.rules
@@ -30,7 +30,7 @@ returns-clause-known c =
 
 pub returns-clause-after : goal.returns-clause-after
 returns-clause-after c =
-    let its = subst (λ (v : NotedView). ForSome c.args.last (λ (heard : Stamp). IsKnown (seen_of v.gate v.notes) heard.clock))
+    let its = subst (λ (v : NotedGateView). ForSome c.args.last (λ (heard : Stamp). IsKnown (seen_of v.gate v.notes) heard.clock))
     (sym c.self.view_is) c.requires in
     after_last c.the_crates_below_keep_their_laws.ensures c.self.inside.gate c.begin_tx-begun.new.self c.self.inside.notes c.self.invariant
     c.shows_rules.ensures.home c.shows_rules.ensures.rules

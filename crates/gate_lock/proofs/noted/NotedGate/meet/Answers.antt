@@ -1,7 +1,7 @@
 use Rattle.std.proofs.Common.{ℕ, [], length, sym, ap, ◌∙◌, subst}
 use Rattle.seen_logs.specs.Seen.{AreLegal, IsWithin}
 use Rattle.lock_row.specs.Meetings.{AllMet}
-use Rattle.gate_lock.specs.Notes.{NotedView, frame_of, seen_by_passes, seen_of}
+use Rattle.gate_lock.specs.Notes.{NotedGateView, frame_of, seen_by_passes, seen_of}
 use Rattle.gate_lock.proofs.Meeting.{are_met, as_many, at_locks, can_meet, frame_still, kept_met, notes_on, one_account, passes_on}
 use Rattle.gate_lock.proofs.noted.NotedGate.meet.Goals as goal
 
@@ -50,11 +50,17 @@ invariant_of-self g c =
     let m = c.meet.ensures in
     let met = are_met gate notes c.meet.new.self c.args.home c.args.gate_locks.now c.args.gates.now c.meet.new.gates c.args.store_lock.now
     c.args.store.now c.meet.new.store
-    c.args.shard_locks.now c.args.shards.now c.meet.new.shards f c.requires.gate_passes m.gate_passes c.requires.shard_passes m.shard_passes
-    m.gate_notes m.shard_notes m.gates m.store m.shards in
+    c.args.shard_locks.now c.args.shards.now c.meet.new.shards f (record {
+      gate_passes = c.requires.gate_passes;
+      gate_passes_now = m.gate_passes;
+      shard_passes = c.requires.shard_passes;
+      shard_passes_now = m.shard_passes;
+      gate_notes = m.gate_notes;
+      shard_notes = m.shard_notes;
+    }) m.gates m.store m.shards in
     let legal = subst (λ (z : ℕ × ℕ × ℕ). AreLegal z.0 z.1 (seen_by_passes z.2 [] c.args.gates.now c.args.store.now c.args.shards.now))
     (λ i. (sym f.gates_are i, sym f.shards_are i, sym f.home_is i)) c.requires.legal in
-    kept_met gate notes c.meet.new.self c.args.gate_locks.now c.args.gates.now c.meet.new.gates c.args.store_lock.now c.args.store.now c.meet.new.store
+    kept_met gate notes c.meet.new.self c.args.gate_locks.now c.args.gates.now c.meet.new.gates c.args.store.now c.meet.new.store
     c.args.shard_locks.now c.args.shards.now c.meet.new.shards c.self.invariant met c.the_crates_below_keep_their_laws.ensures legal
 
 pub returns-clause-frame : goal.returns-clause-frame
@@ -62,7 +68,7 @@ returns-clause-frame g c =
     let gate = c.self.inside.gate in
     let notes = c.self.inside.notes in
     let m = c.meet.ensures in
-    frame_still gate notes c.meet.new.self m.gate_names m.store.lock_is m.shard_names ∙ ap (λ (v : NotedView). frame_of v.gate v.notes) c.self.view_is
+    frame_still gate notes c.meet.new.self m.gate_names m.store.lock_is m.shard_names ∙ ap (λ (v : NotedGateView). frame_of v.gate v.notes) c.self.view_is
 
 pub returns-clause-same : goal.returns-clause-same
 returns-clause-same g c =
@@ -73,9 +79,15 @@ returns-clause-same g c =
     let m = c.meet.ensures in
     let met = are_met gate notes c.meet.new.self c.args.home c.args.gate_locks.now c.args.gates.now c.meet.new.gates c.args.store_lock.now
     c.args.store.now c.meet.new.store
-    c.args.shard_locks.now c.args.shards.now c.meet.new.shards f c.requires.gate_passes m.gate_passes c.requires.shard_passes m.shard_passes
-    m.gate_notes m.shard_notes m.gates m.store m.shards in
-    one_account gate notes c.meet.new.self c.args.gate_locks.now c.args.gates.now c.meet.new.gates c.args.store_lock.now c.args.store.now c.meet.new.store
+    c.args.shard_locks.now c.args.shards.now c.meet.new.shards f (record {
+      gate_passes = c.requires.gate_passes;
+      gate_passes_now = m.gate_passes;
+      shard_passes = c.requires.shard_passes;
+      shard_passes_now = m.shard_passes;
+      gate_notes = m.gate_notes;
+      shard_notes = m.shard_notes;
+    }) m.gates m.store m.shards in
+    one_account gate notes c.meet.new.self c.args.gate_locks.now c.args.gates.now c.meet.new.gates c.args.store.now c.meet.new.store
     c.args.shard_locks.now c.args.shards.now c.meet.new.shards c.self.invariant met
     ∙ ap (λ (h : ℕ). seen_by_passes h gate.log c.meet.new.gates c.meet.new.store c.meet.new.shards) f.home_is
 
@@ -88,10 +100,16 @@ returns-clause-before g c =
     let m = c.meet.ensures in
     let met = are_met gate notes c.meet.new.self c.args.home c.args.gate_locks.now c.args.gates.now c.meet.new.gates c.args.store_lock.now
     c.args.store.now c.meet.new.store
-    c.args.shard_locks.now c.args.shards.now c.meet.new.shards f c.requires.gate_passes m.gate_passes c.requires.shard_passes m.shard_passes
-    m.gate_notes m.shard_notes m.gates m.store m.shards in
-    subst (λ (v : NotedView). IsWithin (seen_of v.gate v.notes) (seen_of gate c.meet.new.self)) c.self.view_is
-    (notes_on gate notes c.meet.new.self c.args.gate_locks.now c.args.gates.now c.meet.new.gates c.args.store_lock.now c.args.store.now c.meet.new.store
+    c.args.shard_locks.now c.args.shards.now c.meet.new.shards f (record {
+      gate_passes = c.requires.gate_passes;
+      gate_passes_now = m.gate_passes;
+      shard_passes = c.requires.shard_passes;
+      shard_passes_now = m.shard_passes;
+      gate_notes = m.gate_notes;
+      shard_notes = m.shard_notes;
+    }) m.gates m.store m.shards in
+    subst (λ (v : NotedGateView). IsWithin (seen_of v.gate v.notes) (seen_of gate c.meet.new.self)) c.self.view_is
+    (notes_on gate notes c.meet.new.self c.args.gate_locks.now c.args.gates.now c.meet.new.gates c.args.store.now c.meet.new.store
     c.args.shard_locks.now c.args.shards.now c.meet.new.shards c.self.invariant met)
 
 pub returns-clause-passes_before : goal.returns-clause-passes_before
@@ -103,20 +121,26 @@ returns-clause-passes_before g c own on =
     let m = c.meet.ensures in
     let met = are_met gate notes c.meet.new.self c.args.home c.args.gate_locks.now c.args.gates.now c.meet.new.gates c.args.store_lock.now
     c.args.store.now c.meet.new.store
-    c.args.shard_locks.now c.args.shards.now c.meet.new.shards f c.requires.gate_passes m.gate_passes c.requires.shard_passes m.shard_passes
-    m.gate_notes m.shard_notes m.gates m.store m.shards in
+    c.args.shard_locks.now c.args.shards.now c.meet.new.shards f (record {
+      gate_passes = c.requires.gate_passes;
+      gate_passes_now = m.gate_passes;
+      shard_passes = c.requires.shard_passes;
+      shard_passes_now = m.shard_passes;
+      gate_notes = m.gate_notes;
+      shard_notes = m.shard_notes;
+    }) m.gates m.store m.shards in
     subst (λ (h : ℕ). IsWithin (seen_by_passes h own c.args.gates.now c.args.store.now c.args.shards.now) (seen_of gate c.meet.new.self)) f.home_is
-    (passes_on gate notes c.meet.new.self c.args.gate_locks.now c.args.gates.now c.meet.new.gates c.args.store_lock.now c.args.store.now c.meet.new.store
+    (passes_on gate notes c.meet.new.self c.args.gate_locks.now c.args.gates.now c.meet.new.gates c.args.store.now c.meet.new.store
     c.args.shard_locks.now c.args.shards.now c.meet.new.shards c.self.invariant met own on)
 
 pub returns-clause-gates : goal.returns-clause-gates
 returns-clause-gates g c =
-    subst (λ (v : NotedView). AllMet c.args.gate_locks.now c.args.gates.now c.meet.new.gates v.notes.gates.items c.meet.new.self.gates.items
+    subst (λ (v : NotedGateView). AllMet c.args.gate_locks.now c.args.gates.now c.meet.new.gates v.notes.gates.items c.meet.new.self.gates.items
     c.args.home) c.self.view_is
     c.meet.ensures.gates
 
 pub returns-clause-shards : goal.returns-clause-shards
 returns-clause-shards g c =
-    subst (λ (v : NotedView). AllMet c.args.shard_locks.now c.args.shards.now c.meet.new.shards v.notes.shards.items c.meet.new.self.shards.items
+    subst (λ (v : NotedGateView). AllMet c.args.shard_locks.now c.args.shards.now c.meet.new.shards v.notes.shards.items c.meet.new.self.shards.items
     (length c.args.shard_locks.now)) c.self.view_is
     c.meet.ensures.shards

@@ -14,8 +14,14 @@ pub invariant_of-self-2 : goal.invariant_of-self-2
 invariant_of-self-2 c =
     let begun = begun_at _ _ _ _ _ _ _ _ c.self.invariant c.args.last c.begin-stamp.result c.begin-stamp.ensures.eight c.begin-stamp.ensures.stamp in
     let run = c.start.ensures _ (λ q. c.reserve.ensures.entries.2 q ∙ c.self.invariant.running_is q) in
-    keeps_still _ _ _ _ _ _ _ _ c.args.author (BeganProgram c.args.request c.begin-stamp.result) _ _ _ _ c.self.invariant
-    begun (one_bits c.begin-stamp.result c.begin-stamp.ensures.bits) refl (rw c.reserve-2.ensures.items at c.add.ensures.items) c.begin-stamp.ensures.clock refl run
+    keeps_still _ _ _ _ _ _ _ _ c.args.author (BeganProgram c.args.request c.begin-stamp.result) _ _ _ _ c.self.invariant (record {
+      fits = begun;
+      bits = one_bits c.begin-stamp.result c.begin-stamp.ensures.bits;
+      log_is = rw c.reserve-2.ensures.items at c.add.ensures.items;
+      clock_is = c.begin-stamp.ensures.clock;
+      flight_is = refl;
+      running_is = run;
+    }) refl
 
 pub returns-clause-after : goal.returns-clause-after
 returns-clause-after c =

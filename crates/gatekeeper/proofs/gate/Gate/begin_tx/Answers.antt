@@ -14,8 +14,14 @@ pub invariant_of-self-2 : goal.invariant_of-self-2
 invariant_of-self-2 c =
     let alone = none_flies _ _ c.self.invariant.flight_is (sym c.is_some.ensures ∙ c.if-is_some.false) in
     let begun = begun_at _ _ _ _ _ _ _ _ c.self.invariant c.args.last c.begin-stamp.result c.begin-stamp.ensures.eight c.begin-stamp.ensures.stamp in
-    keeps_still _ _ _ _ _ _ _ _ c.args.author (BeganTx c.args.request c.begin-stamp.result) _ _ _ _ c.self.invariant
-    (record { alone = alone; begun = begun }) (one_bits c.begin-stamp.result c.begin-stamp.ensures.bits) refl (rw c.reserve.ensures.items at c.add.ensures.items) c.begin-stamp.ensures.clock refl c.self.invariant.running_is
+    keeps_still _ _ _ _ _ _ _ _ c.args.author (BeganTx c.args.request c.begin-stamp.result) _ _ _ _ c.self.invariant (record {
+      fits = record { alone = alone; begun = begun };
+      bits = one_bits c.begin-stamp.result c.begin-stamp.ensures.bits;
+      log_is = rw c.reserve.ensures.items at c.add.ensures.items;
+      clock_is = c.begin-stamp.ensures.clock;
+      flight_is = refl;
+      running_is = c.self.invariant.running_is;
+    }) refl
 
 pub returns-clause-after : goal.returns-clause-after
 returns-clause-after c =

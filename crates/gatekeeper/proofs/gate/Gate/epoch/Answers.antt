@@ -7,4 +7,11 @@ use Rattle.gatekeeper.proofs.gate.Gate.epoch.Goals as goal
 pub invariant_of-self : goal.invariant_of-self
 invariant_of-self c =
     let later = subst (λ (k : Clock). k.epoch < c.args.epoch) c.self.invariant.clock_is c.if-epoch-self.false in
-    keeps_still _ _ _ _ _ _ _ _ c.args.author (Raised c.args.epoch) _ _ _ _ c.self.invariant later no_bits refl c.add.ensures.items c.raise.ensures refl c.self.invariant.running_is
+    keeps_still _ _ _ _ _ _ _ _ c.args.author (Raised c.args.epoch) _ _ _ _ c.self.invariant (record {
+      fits = later;
+      bits = no_bits;
+      log_is = c.add.ensures.items;
+      clock_is = c.raise.ensures;
+      flight_is = refl;
+      running_is = c.self.invariant.running_is;
+    }) refl

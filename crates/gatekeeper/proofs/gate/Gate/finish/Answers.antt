@@ -19,4 +19,11 @@ returns-clause-idle c =
 pub invariant_of-self-2 : goal.invariant_of-self-2
 invariant_of-self-2 c =
     let runs : c.is_running.result ≡ true = search rules in
-    keeps_still _ _ _ _ _ _ _ _ c.args.author (Finished c.args.request) _ _ _ _ c.self.invariant (sym (c.is_running.ensures _ c.self.invariant.running_is) ∙ runs) no_bits refl (rw c.reserve.ensures.items at c.add.ensures.items) refl refl (c.end.ensures _ c.self.invariant.running_is)
+    keeps_still _ _ _ _ _ _ _ _ c.args.author (Finished c.args.request) _ _ _ _ c.self.invariant (record {
+      fits = sym (c.is_running.ensures _ c.self.invariant.running_is) ∙ runs;
+      bits = no_bits;
+      log_is = rw c.reserve.ensures.items at c.add.ensures.items;
+      clock_is = refl;
+      flight_is = refl;
+      running_is = c.end.ensures _ c.self.invariant.running_is;
+    }) refl

@@ -50,7 +50,13 @@ invariant_of-self-2 c =
       number_is = c.send_one-number.ensures.number ∙ number_told _ _ _ _ _ _ _ _ c.self.invariant now shard keeps room;
       low_is = c.low_mark-low.ensures _ c.self.invariant.running_is;
     } in
-    keeps_on _ _ _ _ _ _ _ _ c.args.author (Nop shard number c.tick-stamp.result low) _ _ _ _ _ _ c.self.invariant fits (one_bits c.tick-stamp.result c.shows_64_bits.ensures)
-    (rw c.reserve-2.ensures.items at c.add.ensures.items) (sym (ap (λ (s : Stamp). s.clock) c.tick-stamp.ensures.stamp)) refl c.self.invariant.running_is
+    keeps_on _ _ _ _ _ _ _ _ c.args.author (Nop shard number c.tick-stamp.result low) _ _ _ _ _ _ c.self.invariant (record {
+      fits = fits;
+      bits = one_bits c.tick-stamp.result c.shows_64_bits.ensures;
+      log_is = rw c.reserve-2.ensures.items at c.add.ensures.items;
+      clock_is = sym (ap (λ (s : Stamp). s.clock) c.tick-stamp.ensures.stamp);
+      flight_is = refl;
+      running_is = c.self.invariant.running_is;
+    })
     (sent.count ∙ keeps.count ∙ c.self.invariant.all_channels)
     (nop_then _ _ _ _ _ _ _ _ c.self.invariant now next c.args.author shard number c.tick-stamp.result low _ nops_are keeps sent)

@@ -35,8 +35,14 @@ invariant_of-self-2 c =
     let sent : AreSent c.make_all_room.new.channels.items c.send_all.new.channels.items (length log) messages =
     subst (λ n. AreSent c.make_all_room.new.channels.items c.send_all.new.channels.items n messages) entry
     (subst (λ (ms : List Addressed). AreSent c.make_all_room.new.channels.items c.send_all.new.channels.items c.len.result ms) c.as_slice-2.ensures c.send_all.ensures) in
-    keeps_on _ _ _ _ _ _ _ _ c.args.author (Sent one.request messages) _ _ _ _ _ _ c.self.invariant fits no_bits
-    (rw c.reserve.ensures.items at c.add.ensures.items) refl refl c.self.invariant.running_is
+    keeps_on _ _ _ _ _ _ _ _ c.args.author (Sent one.request messages) _ _ _ _ _ _ c.self.invariant (record {
+      fits = fits;
+      bits = no_bits;
+      log_is = rw c.reserve.ensures.items at c.add.ensures.items;
+      clock_is = refl;
+      flight_is = refl;
+      running_is = c.self.invariant.running_is;
+    })
     (all_then _ _ _ _ _ _ _ _ c.self.invariant _ _ _ c.make_all_room.ensures.kept sent)
     (sent_then _ _ _ _ _ _ _ _ c.self.invariant _ _ c.args.author one.request messages c.make_all_room.ensures.kept sent)
 

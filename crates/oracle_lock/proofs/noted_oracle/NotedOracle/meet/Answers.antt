@@ -12,7 +12,13 @@ invariant_of-self g c =
     let met = c.meet_gates.ensures in
     meeting-keeps c.references_go_on.ensures.oracle c.self.inside.shards c.args.self.now.shards c.self.inside.gates.items c.meet_gates.new.notes.items
     (gates_seen c.args.passes.now) (gates_seen c.meet_gates.new.passes) c.self.inside.oracle c.self.invariant
-    (ap (λ (v : OracleView). v.shards) c.self.view_is) met.names met.notes_on met.one met.legal c.requires.legal
+    (ap (λ (v : OracleView). v.shards) c.self.view_is) (record {
+      names = met.names;
+      notes_on = met.notes_on;
+      one = met.one;
+      legal = met.legal;
+      legal_before = c.requires.legal;
+    })
 
 pub returns-clause-met : goal.returns-clause-met
 returns-clause-met g c =

@@ -4,11 +4,11 @@ use Rattle.vector_stamp.specs.declared.clock.Stamp.{Stamp}
 use Rattle.vector_stamp.specs.Order.{id_of}
 use Rattle.vector_stamp.specs.Coherence.{AreCoherent}
 use Rattle.vector_stamp.specs.Precedence.{Given, IsAcyclic}
-use Rattle.order_graph.specs.Kept.{Kept}
+use Rattle.order_graph.specs.Kept.{PairsView}
 use Rattle.order_graph.specs.Building.{ends_of}
 use Rattle.order_graph.specs.Frontiers.{IsFrontier, joined}
 use Rattle.order_graph.specs.Chains.{AreChains}
-use Rattle.proof_base.proofs.Members.{has_read, has_head, has_tail}
+use Rattle.weave_data.proofs.Members.{has_read, has_head, has_tail}
 use Rattle.order_graph.proofs.Stamps.{PartsAreCoherent}
 use Rattle.order_graph.proofs.Adding.{IsFrontierWith, with_itself, chains_lead_on, is_in_turn, put_keeps, raised_keeps, same_chains}
 use Rattle.order_graph.proofs.Raising.{room_raised}
@@ -35,7 +35,7 @@ put_event-requires-clause-home c = c.requires.coherent.homes c.args.later (later
 pub put_event-requires-clause-in_turn : goal.put_event-requires-clause-in_turn
 put_event-requires-clause-in_turn c other has =
     let pairs = c.args.self.now.pairs in
-    let kept : c.self.inside.pairs.items ≡ pairs = ap (λ (k : Kept). k.pairs) c.self.view_is in
+    let kept : c.self.inside.pairs.items ≡ pairs = ap (λ (k : PairsView). k.pairs) c.self.view_is in
     let are : AreChains pairs (ends_of pairs) c.self.inside.chains = subst (λ (ps : List Given). AreChains ps (ends_of ps) c.self.inside.chains) kept c.self.invariant.1 in
     is_in_turn c.stamps_keep_the_laws.ensures c.coherence_is_decided.ensures.apart c.more_pairs_more_precedence.ensures.at_the_end pairs (c.precedence_is_decided.ensures.closed pairs) c.args.earlier c.args.later c.requires c.self.inside.chains are other has
 
@@ -51,7 +51,7 @@ invariant_of-self-in_err-put_event c =
 
 pub returns-in_err-put_event-clause-room : goal.returns-in_err-put_event-clause-room
 returns-in_err-put_event-clause-room c some =
-    let spare : c.self.inside.spare ≡ c.args.self.now.spare = ap (λ (k : Kept). k.spare) c.self.view_is in
+    let spare : c.self.inside.spare ≡ c.args.self.now.spare = ap (λ (k : PairsView). k.spare) c.self.view_is in
     let home : c.args.later.home < 8 = c.requires.coherent.homes c.args.later (later_has c.args.earlier c.args.later (ends_of c.args.self.now.pairs)) in
     absurd (false≢true (c.in_err-put_event.ensures.room (omega (arith, some, spare, c.self.invariant.2 c.args.later.home home))))
 
@@ -59,7 +59,7 @@ returns-in_err-put_event-clause-room c some =
 are_put : (c : goal.After-before-2-1) → AreChains c.args.self.now.pairs (c.args.later ∷ ends_of c.args.self.now.pairs) c.put_event.new.chains
 are_put c =
     let pairs = c.args.self.now.pairs in
-    let kept : c.self.inside.pairs.items ≡ pairs = ap (λ (k : Kept). k.pairs) c.self.view_is in
+    let kept : c.self.inside.pairs.items ≡ pairs = ap (λ (k : PairsView). k.pairs) c.self.view_is in
     let are : AreChains pairs (ends_of pairs) c.self.inside.chains = subst (λ (ps : List Given). AreChains ps (ends_of ps) c.self.inside.chains) kept c.self.invariant.1 in
     let exact : IsFrontier pairs c.args.later c.frontier_of.result.latest = c.frontier_of.ensures pairs are (of_later c.parts_and_unions_are_coherent.ensures.part c.args.earlier c.args.later pairs c.requires.coherent) in
     put_keeps c.stamps_keep_the_laws.ensures c.coherence_is_decided.ensures.apart c.more_pairs_more_precedence.ensures.at_the_end pairs (c.precedence_is_decided.ensures.closed pairs) c.args.earlier c.args.later c.requires c.self.inside.chains c.put_event.new.chains (record { stamp = c.args.later; frontier = c.frontier_of.result }) refl are exact c.put_event.ensures.eight c.in_ok-put_event.ensures.put c.put_event.ensures.others
@@ -80,7 +80,7 @@ invariant_of-self-2 c =
     let apart = c.coherence_is_decided.ensures.apart in
     let at_the_end = c.more_pairs_more_precedence.ensures.at_the_end in
     let closed = c.precedence_is_decided.ensures.closed pairs in
-    let kept : c.self.inside.pairs.items ≡ pairs = ap (λ (k : Kept). k.pairs) c.self.view_is in
+    let kept : c.self.inside.pairs.items ≡ pairs = ap (λ (k : PairsView). k.pairs) c.self.view_is in
     let are : AreChains pairs (ends_of pairs) c.self.inside.chains = subst (λ (ps : List Given). AreChains ps (ends_of ps) c.self.inside.chains) kept c.self.invariant.1 in
     let exact : IsFrontier pairs b c.frontier_of.result.latest = c.frontier_of.ensures pairs are (of_later c.parts_and_unions_are_coherent.ensures.part a b pairs c.requires.coherent) in
     let put = c.in_ok-put_event.ensures.put in
@@ -99,4 +99,4 @@ invariant_of-self-2 c =
 
 pub returns-clause-added : goal.returns-clause-added
 returns-clause-added c =
-    c.push_reserved.ensures.items ∙ ap (λ (ps : List Given). ps ++ (c.args.earlier, c.args.later) ∷ []) (c.reserve.ensures.items ∙ ap (λ (k : Kept). k.pairs) c.self.view_is)
+    c.push_reserved.ensures.items ∙ ap (λ (ps : List Given). ps ++ (c.args.earlier, c.args.later) ∷ []) (c.reserve.ensures.items ∙ ap (λ (k : PairsView). k.pairs) c.self.view_is)

@@ -3,16 +3,16 @@ use Rattle.std.proofs.lemmas.Bool.{or_cases, both_ways}
 use Rattle.vector_stamp.specs.Order.{stamp_before}
 use Rattle.vector_stamp.specs.Coherence.{AreCoherent}
 use Rattle.vector_stamp.specs.Precedence.{Given, precedes}
-use Rattle.order_graph.specs.Kept.{Kept}
+use Rattle.order_graph.specs.Kept.{PairsView}
 use Rattle.order_graph.specs.Building.{ends_of}
 use Rattle.order_graph.specs.Frontiers.{covers, IsFrontier}
 use Rattle.order_graph.specs.Chains.{AreChains}
-use Rattle.proof_base.proofs.Members.{has_tail}
+use Rattle.weave_data.proofs.Members.{has_tail}
 use Rattle.order_graph.proofs.Joining.{CoveredBy, covered}
 use Rattle.order_graph.proofs.Frontiers.{at_precedes}
 use Rattle.order_graph.proofs.graph.OrderGraph.precedes.Goals as goal
 
--- two tests that pass together are one
+-- two tests that pass together are equal
 same_test : (p q : Bool) → (IsTrue p → IsTrue q) → (IsTrue q → IsTrue p) → p ≡ q
 same_test true q g h = sym (g refl)
 same_test false true g h = absurd (cc (h refl))
@@ -29,7 +29,7 @@ returns-else-is_before-clause-exact c =
     let b = c.args.b.now in
     let latest = c.frontier_of.result.latest in
     let closed = c.precedence_is_decided.ensures.closed pairs in
-    let kept : c.self.inside.pairs.items ≡ pairs = ap (λ (k : Kept). k.pairs) c.self.view_is in
+    let kept : c.self.inside.pairs.items ≡ pairs = ap (λ (k : PairsView). k.pairs) c.self.view_is in
     let are : AreChains pairs (ends_of pairs) c.self.inside.chains = subst (λ (ps : List Given). AreChains ps (ends_of ps) c.self.inside.chains) kept c.self.invariant.1 in
     let coherent : AreCoherent (b ∷ ends_of pairs) = c.parts_and_unions_are_coherent.ensures.part (b ∷ ends_of pairs) (a ∷ b ∷ ends_of pairs) c.requires (λ stamp h. has_tail a (b ∷ ends_of pairs) stamp h) in
     let exact : IsFrontier pairs b latest = c.frontier_of.ensures pairs are coherent in

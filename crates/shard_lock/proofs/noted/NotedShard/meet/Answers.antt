@@ -1,8 +1,8 @@
 use Rattle.std.proofs.Common.{[], length, sym, subst}
 use Rattle.seen_logs.specs.Seen.{AreLegal, IsWithin}
-use Rattle.chronicle.specs.Locks.{lock_of}
 use Rattle.lock_row.specs.Meetings.{AllMet}
-use Rattle.shard_lock.specs.Notes.{NotedView, seen_by_passes, seen_of}
+use Rattle.lock_row.proofs.Meetings.{met_of}
+use Rattle.shard_lock.specs.Notes.{NotedShardView, seen_by_passes, seen_of}
 use Rattle.shard_lock.proofs.Meeting.{AreMet, kept_met, notes_on, passes_on}
 use Rattle.shard_lock.proofs.noted.NotedShard.meet.Goals as goal
 
@@ -11,25 +11,25 @@ invariant_of-self g c =
     let shard = c.self.inside.shard in
     let notes = c.self.inside.notes in
     let m = c.meet.ensures in
-    let met : AreMet notes c.meet.new.self c.args.gates.now c.meet.new.gates (lock_of c.args.store_lock.now) c.args.store.now c.meet.new.store
-    (lock_of c.args.oracle_lock.now) c.args.oracle.now c.meet.new.oracle = record {
+    let met : AreMet notes c.meet.new.self c.args.gates.now c.meet.new.gates c.args.store.now c.meet.new.store c.args.oracle.now
+    c.meet.new.oracle = record {
       names = m.gate_names;
       one = m.one;
       notes_on = m.notes_on;
       passes_on = m.passes_on;
       legal = m.legal;
-      store_met = m.store;
-      oracle_met = m.oracle;
+      at_store = met_of _ _ _ _ _ m.store;
+      at_oracle = met_of _ _ _ _ _ m.oracle;
     } in
-    let legal = subst (λ (v : NotedView). AreLegal v.shard.gates v.shards
+    let legal = subst (λ (v : NotedShardView). AreLegal v.shard.gates v.shards
     (seen_by_passes v.shard.number [] c.args.gates.now c.args.store.now c.args.oracle.now)) (sym c.self.view_is) c.requires.legal in
-    kept_met shard notes c.meet.new.self c.args.gates.now c.meet.new.gates (lock_of c.args.store_lock.now) c.args.store.now c.meet.new.store
-    (lock_of c.args.oracle_lock.now) c.args.oracle.now c.meet.new.oracle met c.the_crates_below_keep_their_laws.ensures
+    kept_met shard notes c.meet.new.self c.args.gates.now c.meet.new.gates c.args.store.now c.meet.new.store
+    c.args.oracle.now c.meet.new.oracle met c.the_crates_below_keep_their_laws.ensures
     c.self.inside.shards c.self.invariant legal
 
 pub returns-clause-gates : goal.returns-clause-gates
 returns-clause-gates g c =
-    subst (λ (v : NotedView). AllMet c.args.gate_locks.now c.args.gates.now c.meet.new.gates v.notes.gates.items c.meet.new.self.gates.items
+    subst (λ (v : NotedShardView). AllMet c.args.gate_locks.now c.args.gates.now c.meet.new.gates v.notes.gates.items c.meet.new.self.gates.items
     (length c.args.gate_locks.now)) c.self.view_is c.meet.ensures.gates
 
 pub returns-clause-before : goal.returns-clause-before
@@ -37,34 +37,34 @@ returns-clause-before g c =
     let shard = c.self.inside.shard in
     let notes = c.self.inside.notes in
     let m = c.meet.ensures in
-    let met : AreMet notes c.meet.new.self c.args.gates.now c.meet.new.gates (lock_of c.args.store_lock.now) c.args.store.now c.meet.new.store
-    (lock_of c.args.oracle_lock.now) c.args.oracle.now c.meet.new.oracle = record {
+    let met : AreMet notes c.meet.new.self c.args.gates.now c.meet.new.gates c.args.store.now c.meet.new.store c.args.oracle.now
+    c.meet.new.oracle = record {
       names = m.gate_names;
       one = m.one;
       notes_on = m.notes_on;
       passes_on = m.passes_on;
       legal = m.legal;
-      store_met = m.store;
-      oracle_met = m.oracle;
+      at_store = met_of _ _ _ _ _ m.store;
+      at_oracle = met_of _ _ _ _ _ m.oracle;
     } in
-    subst (λ (v : NotedView). IsWithin (seen_of v.shard v.notes) (seen_of shard c.meet.new.self)) c.self.view_is
-    (notes_on shard notes c.meet.new.self c.args.gates.now c.meet.new.gates (lock_of c.args.store_lock.now) c.args.store.now c.meet.new.store
-    (lock_of c.args.oracle_lock.now) c.args.oracle.now c.meet.new.oracle met)
+    subst (λ (v : NotedShardView). IsWithin (seen_of v.shard v.notes) (seen_of shard c.meet.new.self)) c.self.view_is
+    (notes_on shard notes c.meet.new.self c.args.gates.now c.meet.new.gates c.args.store.now c.meet.new.store
+    c.args.oracle.now c.meet.new.oracle met)
 
 pub returns-clause-passes_before : goal.returns-clause-passes_before
 returns-clause-passes_before g c own on =
     let shard = c.self.inside.shard in
     let notes = c.self.inside.notes in
     let m = c.meet.ensures in
-    let met : AreMet notes c.meet.new.self c.args.gates.now c.meet.new.gates (lock_of c.args.store_lock.now) c.args.store.now c.meet.new.store
-    (lock_of c.args.oracle_lock.now) c.args.oracle.now c.meet.new.oracle = record {
+    let met : AreMet notes c.meet.new.self c.args.gates.now c.meet.new.gates c.args.store.now c.meet.new.store c.args.oracle.now
+    c.meet.new.oracle = record {
       names = m.gate_names;
       one = m.one;
       notes_on = m.notes_on;
       passes_on = m.passes_on;
       legal = m.legal;
-      store_met = m.store;
-      oracle_met = m.oracle;
+      at_store = met_of _ _ _ _ _ m.store;
+      at_oracle = met_of _ _ _ _ _ m.oracle;
     } in
-    passes_on shard notes c.meet.new.self c.args.gates.now c.meet.new.gates (lock_of c.args.store_lock.now) c.args.store.now c.meet.new.store
-    (lock_of c.args.oracle_lock.now) c.args.oracle.now c.meet.new.oracle met own on
+    passes_on shard notes c.meet.new.self c.args.gates.now c.meet.new.gates c.args.store.now c.meet.new.store
+    c.args.oracle.now c.meet.new.oracle met own on

@@ -3,13 +3,13 @@ use Rattle.weave_entries.specs.GateReplay.{Begun}
 use Rattle.seen_logs.specs.Seen.{GatesGoOn}
 use Rattle.chronicle.specs.Passes.{number_of, own, seen}
 use Rattle.oracle_lock.specs.Seen.{gates_noted, gates_seen, of_gates}
-use Rattle.shard_lock.specs.Notes.{NotedView}
+use Rattle.shard_lock.specs.Notes.{NotedShardView}
 use Rattle.shard_lock.proofs.Visits.{MayVisit, begun-later, ids-differ, kept-for, may_visit, visit-keeps, visits-since}
 use Rattle.shard_lock.proofs.noted.NotedShard.visit.Goals as goal
 
 pub visit_over-read-requires-clause-other_ids : goal.visit_over-read-requires-clause-other_ids
 visit_over-read-requires-clause-other_ids g c =
-    let may = subst (λ (v : NotedView). MayVisit v c.args.request c.args.stamp c.args.vertex) (sym c.self.view_is)
+    let may = subst (λ (v : NotedShardView). MayVisit v c.args.request c.args.stamp c.args.vertex) (sym c.self.view_is)
     (may_visit c.args.self.now c.args.request c.args.stamp c.args.vertex (length c.args.gates.now) c.requires.gates c.requires.few
     c.requires.kept_here c.requires.running) in
     let program : Begun = record { author = may.by; request = c.args.request; stamp = c.args.stamp } in
@@ -18,18 +18,18 @@ visit_over-read-requires-clause-other_ids g c =
 
 pub visit_over-read-requires-clause-begun : goal.visit_over-read-requires-clause-begun
 visit_over-read-requires-clause-begun g c =
-    let may = subst (λ (v : NotedView). MayVisit v c.args.request c.args.stamp c.args.vertex) (sym c.self.view_is)
+    let may = subst (λ (v : NotedShardView). MayVisit v c.args.request c.args.stamp c.args.vertex) (sym c.self.view_is)
     (may_visit c.args.self.now c.args.request c.args.stamp c.args.vertex (length c.args.gates.now) c.requires.gates c.requires.few
     c.requires.kept_here c.requires.running) in
     let program : Begun = record { author = may.by; request = c.args.request; stamp = c.args.stamp } in
-    let met = subst (λ (v : NotedView). GatesGoOn (of_gates (gates_noted v.notes.gates.items)) (of_gates (gates_seen c.args.passes.now)))
+    let met = subst (λ (v : NotedShardView). GatesGoOn (of_gates (gates_noted v.notes.gates.items)) (of_gates (gates_seen c.args.passes.now)))
     (sym c.self.view_is) c.requires.met in
     begun-later c.the_crates_below_keep_their_laws.ensures c.visits_are_right.ensures c.self.inside.shard c.self.inside.shards c.self.inside.notes
     c.self.invariant may.few may.home program may.runs c.args.vertex may.here c.references_go_on.ensures.oracle (gates_seen c.args.passes.now) met
 
 pub visit_over-read-requires-clause-base : goal.visit_over-read-requires-clause-base
 visit_over-read-requires-clause-base g c =
-    let may = subst (λ (v : NotedView). MayVisit v c.args.request c.args.stamp c.args.vertex) (sym c.self.view_is)
+    let may = subst (λ (v : NotedShardView). MayVisit v c.args.request c.args.stamp c.args.vertex) (sym c.self.view_is)
     (may_visit c.args.self.now c.args.request c.args.stamp c.args.vertex (length c.args.gates.now) c.requires.gates c.requires.few
     c.requires.kept_here c.requires.running) in
     let program : Begun = record { author = may.by; request = c.args.request; stamp = c.args.stamp } in
@@ -38,7 +38,7 @@ visit_over-read-requires-clause-base g c =
 
 pub invariant_of-self : goal.invariant_of-self
 invariant_of-self g c =
-    let may = subst (λ (v : NotedView). MayVisit v c.args.request c.args.stamp c.args.vertex) (sym c.self.view_is)
+    let may = subst (λ (v : NotedShardView). MayVisit v c.args.request c.args.stamp c.args.vertex) (sym c.self.view_is)
     (may_visit c.args.self.now c.args.request c.args.stamp c.args.vertex (length c.args.gates.now) c.requires.gates c.requires.few
     c.requires.kept_here c.requires.running) in
     let done = c.visit_over-read in
@@ -54,6 +54,6 @@ returns-clause-answer g c =
       visits-since (number_of c.meet.new.pass) c.args.request c.args.stamp c.args.vertex c.self.inside.shard done.new.shard (seen c.meet.new.pass)
           (own c.meet.new.pass) (seen done.new.pass) done.ensures.answer.0 done.result (number_of c.args.pass.now) c.args.self.now.shard done.new.shard
           (seen c.args.pass.now) (own c.args.pass.now) (seen c.note.new.pass) c.meet.ensures.number
-          (ap (λ (v : NotedView). v.shard) c.self.view_is) refl c.meet.ensures.pass_before c.meet.ensures.own (sym c.note.ensures.seen)
+          (ap (λ (v : NotedShardView). v.shard) c.self.view_is) refl c.meet.ensures.pass_before c.meet.ensures.own (sym c.note.ensures.seen)
           done.ensures.answer.1,
     )

@@ -6,7 +6,7 @@ use Rattle.weave_entries.specs.declared.shard_log.ShardEntry.{ShardEntry}
 use Rattle.weave_entries.specs.declared.shard_log.ShardDeed.TheVariants.{Applied}
 use Rattle.weave_entries.specs.ShardReplay.{processed_count, head_of, waits_at}
 use Rattle.weave_entries.specs.ShardRules.{PassesAt}
-use Rattle.shard_node.specs.Shards.{ShardView, AddsEntry, IsNext}
+use Rattle.shard_node.specs.Shards.{ShardView, AddsEntry, CanApplyHead}
 use Rattle.shard_node.specs.Keeping.{first_differing}
 use Rattle.shard_node.proofs.Keeping.{keeps_applied}
 use Rattle.shard_node.proofs.LowMarks.{marks-applied}
@@ -95,7 +95,7 @@ returns-clause-next c =
     let head = c.in-Some.head.now in
     let is : head_of c.args.gate log ≡ Some head = head-found _ _ _ _ c.self.invariant.0 c.args.gate inbox _ _ at (c.as_slice.ensures.value ∙ c.reserve.ensures.items) c.head_message.ensures ∙ ap option_copied c.in-Some.is in
     let none : waits_at head log ≡ None = sym (waits-is _ _ _ _ c.self.invariant.0 head) ∙ ap (first_differing c.self.inside.graph) (sym c.as_slice-2.ensures) ∙ sym c.first_waiting.ensures ∙ c.in_default-first_waiting.is in
-    subst (IsNext c.args.gate) log_is (record { head = head; is = is; waits = none })
+    subst (CanApplyHead c.args.gate) log_is (record { head = head; is = is; waits = none })
 
 pub returns-clause-entry : goal.returns-clause-entry
 returns-clause-entry c =

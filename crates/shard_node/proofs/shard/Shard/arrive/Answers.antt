@@ -24,7 +24,8 @@ invariant_of-self-2 c =
     let log = c.self.inside.log.items in
     let entry : ShardEntry = record { author = c.args.author; deed = Arrived c.args.gate c.args.number c.args.message } in
     let longer : c.push_reserved.new.self.items ≡ log ++ entry ∷ [] = c.push_reserved.ensures.items ∙ ap (λ (l : List ShardEntry). l ++ entry ∷ []) c.reserve.ensures.items in (
-      keeps_arrived _ _ _ _ c.self.invariant.0 c.each_number_waits_by_itself.ensures c.args.author c.args.gate c.args.number c.args.message waiting inbox c.arrive.new.self _ place refl below c.requires.number c.requires.message none at
+      keeps_arrived _ _ _ _ c.self.invariant.0 c.each_number_waits_by_itself.ensures c.args.author c.args.gate c.args.number c.args.message inbox c.arrive.new.self _ waiting place refl
+          (record { gate_is = below; from_one = c.requires.number; new = none; takable = c.requires.message }) at
           c.in_ok-arrive.ensures.inbox longer,
       marks-still _ _ _ c.self.invariant.1 _ (λ gate. ap (last_of gate) longer ∙ last-arrived log c.args.author c.args.gate c.args.number c.args.message c.requires.number none (c.self.invariant.0.channels c.args.gate inbox at).arrived gate),
     )

@@ -74,7 +74,14 @@ invariant_of-self-2 g c =
     let entry : ShardEntry = record { author = c.args.author; deed = Visited c.args.request c.args.stamp c.args.vertex c.in_ok-view.view.updates c.in_ok-view.view.settled } in
     let longer : c.push_reserved.new.self.items ≡ log ++ entry ∷ [] = c.push_reserved.ensures.items ∙ ap (λ (l : List ShardEntry). l ++ entry ∷ []) c.reserve.ensures.items in (
       keeps_visited _ _ _ _ c.self.invariant.0 c.args.author c.args.request c.args.stamp c.args.vertex c.in_ok-view.view.updates c.in_ok-view.view.settled _
-          ready base applied pairs updates settled longer,
+          (record {
+            ready = ready;
+            base = base;
+            applied = applied;
+            pairs = pairs;
+            updates_are = updates;
+            settled_is = settled;
+          }) longer,
       marks-still _ _ _ c.self.invariant.1 _ (λ gate. ap (last_of gate) longer ∙ last-still log entry refl refl gate),
     )
 

@@ -9,7 +9,7 @@ use Rattle.timeline_oracle.proofs.Known.{ends_after, ends_stay}
 use Rattle.timeline_oracle.proofs.oracle.OracleJudge.settle.Goals as goal
 use Rattle.timeline_oracle.proofs.oracle.OracleJudge.settle.Goals.{After-from_vec-2}
 
--- the pairs before any is added are those that the log tells
+-- the pairs before any is added are those of the log
 kept : (c : After-from_vec-2) → c.reserve-2.new.self.pairs ≡ pairs_of_log c.self.inside.log.items
 kept c = c.reserve-2.ensures.pairs ∙ c.self.invariant.0
 

@@ -1,6 +1,6 @@
 use Rattle.std.proofs.Common.{◌≡◌, ◌+◌, ◌∷◌, ◌++◌, [], ℕ, List, sym, ap, subst, ◌∙◌, arith}
 use Rattle.vector_stamp.specs.declared.clock.Stamp.{Stamp}
-use Rattle.version_parts.specs.Placed.{IsWithin}
+use Rattle.version_parts.specs.Placed.{AreUpTo}
 use Rattle.version_chain.specs.declared.version.Version.{Version}
 use Rattle.version_chain.specs.Chains.{with_update}
 use Rattle.version_chain.specs.Keeping.{kept_from, IsKept}
@@ -10,7 +10,7 @@ use Rattle.version_chain.proofs.chain.Chain.apply_update.Goals as goal
 pub add_update-requires-clause-within : goal.add_update-requires-clause-within
 add_update-requires-clause-within c =
     let count = counted_before c.self.inside.dropped c.self.inside.parts c.self.inside.stamps.items c.args.self.now c.args.before c.self.view_is c.requires.count in
-    subst (λ (n : ℕ). IsWithin n c.self.inside.parts) (sym count) c.self.invariant.within
+    subst (λ (n : ℕ). AreUpTo n c.self.inside.parts) (sym count) c.self.invariant.within
 
 pub add_update-requires-clause-passes : goal.add_update-requires-clause-passes
 add_update-requires-clause-passes c =
@@ -38,7 +38,7 @@ invariant_of-self-2 c =
     (applied_kept c.self.inside.dropped c.args.before c.self.inside.parts c.add_update.new.self c.self.inside.stamps.items c.self.invariant count c.add_update.ensures.earlier c.args.stamp c.args.ops.now c.requires.small
     (passes_before c.self.inside.dropped c.self.inside.parts c.self.inside.stamps.items c.args.self.now c.args.before c.self.view_is c.requires.count c.self.invariant c.args.ops.now c.requires.passes)
     c.in_ok-add_update.ensures.state c.in_ok-add_update.ensures.within c.in_ok-add_update.ensures.counts
-    (c.items_are_placed.ensures.none_later c.args.before (c.args.before + 1) c.self.inside.parts (omega arith) (subst (λ (n : ℕ). IsWithin n c.self.inside.parts) (sym count) c.self.invariant.within)))
+    (c.items_are_placed.ensures.none_later c.args.before (c.args.before + 1) c.self.inside.parts (omega arith) (subst (λ (n : ℕ). AreUpTo n c.self.inside.parts) (sym count) c.self.invariant.within)))
 
 pub returns-clause-applied : goal.returns-clause-applied
 returns-clause-applied c =
@@ -49,5 +49,5 @@ returns-clause-applied c =
     (applied_versions c.self.inside.dropped c.args.before c.self.inside.parts c.add_update.new.self c.self.inside.stamps.items c.self.invariant count c.add_update.ensures.earlier c.args.stamp c.args.ops.now c.requires.small
     (passes_before c.self.inside.dropped c.self.inside.parts c.self.inside.stamps.items c.args.self.now c.args.before c.self.view_is c.requires.count c.self.invariant c.args.ops.now c.requires.passes)
     c.in_ok-add_update.ensures.state c.in_ok-add_update.ensures.within c.in_ok-add_update.ensures.counts
-    (c.items_are_placed.ensures.none_later c.args.before (c.args.before + 1) c.self.inside.parts (omega arith) (subst (λ (n : ℕ). IsWithin n c.self.inside.parts) (sym count) c.self.invariant.within)))
+    (c.items_are_placed.ensures.none_later c.args.before (c.args.before + 1) c.self.inside.parts (omega arith) (subst (λ (n : ℕ). AreUpTo n c.self.inside.parts) (sym count) c.self.invariant.within)))
     ∙ ap (with_update c.args.stamp c.args.ops.now) c.self.view_is

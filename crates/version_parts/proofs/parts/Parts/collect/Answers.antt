@@ -5,7 +5,7 @@ use Rattle.version_parts.specs.declared.lists.Lists.{Lists}
 use Rattle.version_parts.specs.declared.time.Time.{Time}
 use Rattle.version_parts.specs.Counts.{count_updates, size_of}
 use Rattle.version_parts.specs.Cuts.{cut_lists, collected}
-use Rattle.version_parts.specs.Placed.{IsWithin}
+use Rattle.version_parts.specs.Placed.{AreUpTo}
 use Rattle.version_parts.specs.States.{state_at}
 use Rattle.version_parts.specs.Times.{beginning}
 use Rattle.version_parts.proofs.Counting.{cut_count, collected_old}
@@ -21,7 +21,7 @@ returns-clause-states c =
 pub returns-clause-within : goal.returns-clause-within
 returns-clause-within c =
     let is : c.cut.new.self ≡ collected c.args.oldest c.args.self.now = c.cut.ensures ∙ ap (λ (time : Time). cut_lists (Older c.args.oldest (Some time)) c.args.self.now) c.beginning.ensures in
-    λ newest within. subst (IsWithin newest) (sym is) (collected_within c.args.oldest newest c.args.self.now within)
+    λ newest within. subst (AreUpTo newest) (sym is) (collected_within c.args.oldest newest c.args.self.now within)
 
 pub returns-clause-counts : goal.returns-clause-counts
 returns-clause-counts c =

@@ -1,6 +1,6 @@
 use Rattle.std.proofs.Common.{◌<◌, ◌≤◌, ℕ, length, sym, subst}
 use Rattle.std.specs.Prelude.{slice_set}
-use Rattle.shard_node.proofs.Places.{get_set_here}
+use Rattle.weave_data.proofs.Lists.{get_set_here}
 use Rattle.weaver_core.specs.Clients.{AreSameClients, ClientTable, log_of, spare_of}
 use Rattle.weaver_core.proofs.AtClients.{clients-rest, numbered-same, table_of}
 use Rattle.weaver_core.proofs.Results.{on_ok_map}

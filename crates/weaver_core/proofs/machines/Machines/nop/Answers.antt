@@ -2,7 +2,7 @@ use Rattle.std.proofs.Common.{◌≡◌, ◌∙◌, sym, subst}
 use Rattle.program_defs.specs.declared.script.Step.TheVariants.{Nop}
 use Rattle.report_rules.specs.declared.report.StepAnswer.{StepAnswer}
 use Rattle.weaver_core.specs.Cores.{MachinesDo, MachinesView, CanBeGiven, machines_of}
-use Rattle.weaver_core.specs.Messages.{SendsEmptyMessage}
+use Rattle.weaver_core.specs.Messages.{DoesNop}
 use Rattle.weaver_core.proofs.MessagesDone.{nop-done}
 use Rattle.weaver_core.proofs.Resting.{gate-there, receiver-there, same-gates}
 use Rattle.weaver_core.proofs.Results.{if_ok_map, on_err_map}
@@ -19,7 +19,7 @@ returns-clause-done c =
     let m = c.self.inside in
     let script = c.args.script.now in
     let new = c.nop_in.new.gates in
-    if_ok_map c.nop_in.result (SendsEmptyMessage m.gates new c.args.gate c.args.shard) _
+    if_ok_map c.nop_in.result (DoesNop m.gates new c.args.gate c.args.shard) _
     (λ (a : StepAnswer) did. subst (λ (v : MachinesView). MachinesDo script (Nop c.args.gate c.args.shard) v (machines_of new m.store m.oracle m.shards m.clients m.notices.items) a) c.self.view_is
     (nop-done script m.gates m.store m.oracle m.shards m.clients m.notices.items new c.args.gate c.args.shard a did))
     c.nop_in.ensures.sends

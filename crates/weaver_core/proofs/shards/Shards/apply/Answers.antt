@@ -1,7 +1,7 @@
 use Rattle.std.proofs.Common.{◌≡◌, ◌<◌, ◌+◌, List, None, length, sym, ap, subst, ◌∙◌}
 use Rattle.std.specs.Prelude.{IfErr, slice_set}
 use Rattle.std.specs.Option.{ForSome}
-use Rattle.shard_node.specs.Shards.{AddsEntry, IsNext, IsRightlyUnapplied}
+use Rattle.shard_node.specs.Shards.{AddsEntry, CanApplyHead, IsRightlyUnapplied}
 use Rattle.shard_node.specs.declared.fault.ApplyFault.{ApplyFault}
 use Rattle.weave_entries.specs.declared.message.Message.{Message}
 use Rattle.weave_entries.specs.declared.shard_log.ShardDeed.TheVariants.{Applied}
@@ -55,7 +55,7 @@ returns-clause-applied c =
     let after = c.apply.new.self in
     let within = within-image log_of shards s (subst (λ (v : ShardTable). s < length v.logs) (sym c.self.view_is) c.requires.there) in
     let at = read-at shards s before within c.index_mut-shard.ensures.value in
-    on_ok_two c.apply.result (IsNext c.args.gate before.log) (AddsEntry before after 0 (Applied c.args.gate (processed_count c.args.gate before.log + 1))) _
+    on_ok_two c.apply.result (CanApplyHead c.args.gate before.log) (AddsEntry before after 0 (Applied c.args.gate (processed_count c.args.gate before.log + 1))) _
     (λ next adds. subst (λ (v : ShardTable). AppliesHead v (table_of gates (slice_set shards s after)) s c.args.gate) c.self.view_is (applies-at gates shards s before after within at c.args.gate next adds))
     c.apply.ensures.next c.apply.ensures.entry
 

@@ -57,7 +57,7 @@ returns-clause-reads c =
     (IsTrue true → map settled_entry then_oracle ≡ map settled_entry oracle ++ entries_of_visit pairs 0 stamp v before.log)
     (λ (state : State). state ≡ state_of_updates (take (updates_read pairs stamp v before.log) (updates_of v before.log))) _
     (λ (state : State) ready entry logged is. subst (λ (t : ShardTable). Reads t (table_of gates (slice_set shards s after)) oracle then_oracle s r stamp v state) c.self.view_is
-    (reads-at laws gates shards s before after within at (c.self.invariant.each_gates s before at) oracle then_oracle r stamp v base state ready entry (logged refl) is))
+    (reads-at laws gates shards s before after within at (c.self.invariant.each_gates s before at) oracle then_oracle r stamp v base ready entry (logged refl) state is))
     c.visit.ensures.ready c.visit.ensures.entry c.visit.ensures.logged c.visit.ensures.state
 
 pub returns-clause-unread : goal.returns-clause-unread

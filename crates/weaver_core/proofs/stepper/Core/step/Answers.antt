@@ -2,7 +2,7 @@ use Rattle.std.proofs.Common.{ap, refl, subst, sym, ◌∙◌}
 use Rattle.report_rules.specs.declared.report.StepAnswer.{StepAnswer}
 use Rattle.step_rules.specs.IsCore.{IsStepOf}
 use Rattle.step_rules.specs.CoreState.{CoreState}
-use Rattle.weaver_core.specs.Cores.{AreOf, AreSameMachines, CoreView, Does, MachinesDo}
+use Rattle.weaver_core.specs.Cores.{AreOf, AreSameMachines, CoreView, DoesStep, MachinesDo}
 use Rattle.weaver_core.proofs.CoreDone.{are-after}
 use Rattle.weaver_core.proofs.Results.{either_way, if_ok_map, on_err_map}
 use Rattle.weaver_core.proofs.SameMachines.{are-of-same}
@@ -40,7 +40,7 @@ returns-clause-done c =
     let step = c.args.step.now in
     let then_core : CoreView = record { script = script; state = new.state } in
     if_ok_map c.step_in.result (MachinesDo script step old new) _
-    (λ (a : StepAnswer) did. subst (λ (v : CoreView). Does step v then_core a) c.self.view_is (record { answer_is = did.answer_is; state_is = did.state_is; script_is = refl }))
+    (λ (a : StepAnswer) did. subst (λ (v : CoreView). DoesStep step v then_core a) c.self.view_is (record { answer_is = did.answer_is; state_is = did.state_is; script_is = refl }))
     c.step_in.ensures.done
 
 pub returns-clause-refused : goal.returns-clause-refused

@@ -1,8 +1,8 @@
 use Rattle.std.proofs.Common.{subst}
 use Rattle.std.specs.Prelude.{IfErr, OnOk}
 use Rattle.chronicle.specs.Holds.{machine_of}
-use Rattle.shard_node.specs.Shards.{IsNext, IsRightlyUnapplied}
-use Rattle.shard_lock.specs.Notes.{NotedView}
+use Rattle.shard_node.specs.Shards.{CanApplyHead, IsRightlyUnapplied}
+use Rattle.shard_lock.specs.Notes.{NotedShardView}
 use Rattle.weaver_locks.proofs.ShardApplied.{applied}
 use Rattle.weaver_locks.proofs.ShardCalled.{applied_apart, called_done, called_follows, no_visits}
 use Rattle.weaver_locks.proofs.ShardDone.{entries_by}
@@ -46,6 +46,6 @@ returns-clause-hold g c =
     c.state-state.ensures.value _ call (entries_by old _ r) c.shows_what_it_keeps.ensures (no_visits old _ r (applied_apart c.args.gate _)) in (
       (machine_of held).shard.log,
       (c.leave_shard.ensures.done old _ _ _ done).1,
-      subst (λ (v : NotedView). OnOk r (IsNext c.args.gate v.shard.log)) c.state-state.ensures.value did.next,
-      subst (λ (v : NotedView). IfErr r (λ fault. IsRightlyUnapplied c.args.gate v.shard.log fault)) c.state-state.ensures.value did.refused,
+      subst (λ (v : NotedShardView). OnOk r (CanApplyHead c.args.gate v.shard.log)) c.state-state.ensures.value did.next,
+      subst (λ (v : NotedShardView). IfErr r (λ fault. IsRightlyUnapplied c.args.gate v.shard.log fault)) c.state-state.ensures.value did.refused,
     )

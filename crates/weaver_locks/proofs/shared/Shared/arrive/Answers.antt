@@ -4,7 +4,7 @@ use Rattle.shard_queue.specs.declared.inbox.Arrival.TheVariants.{Kept, Repeat}
 use Rattle.weave_entries.specs.declared.shard_log.ShardDeed.TheVariants.{Arrived}
 use Rattle.weave_entries.specs.ShardReplay.{arrived_at}
 use Rattle.chronicle.specs.Holds.{machine_of}
-use Rattle.shard_lock.specs.Notes.{NotedView}
+use Rattle.shard_lock.specs.Notes.{NotedShardView}
 use Rattle.weaver_locks.specs.Hands.{seen_by}
 use Rattle.weaver_locks.proofs.ShardArrived.{are_apart, arrivals_by, arrived, no_arrival_visits, still_seen}
 use Rattle.weaver_locks.proofs.ShardCalled.{called_done, called_follows}
@@ -17,7 +17,7 @@ take_in-arrived-requires-clause-apart g c =
 
 pub take_in-arrived-requires-clause-gate : goal.take_in-arrived-requires-clause-gate
 take_in-arrived-requires-clause-gate g c =
-    subst (λ (n : ℕ). c.args.gate < n) (sym (ap (λ (v : NotedView). v.shard.gates) c.state-state.ensures.value ∙ c.enter_shard-held.ensures.gate_count)) c.requires.gate
+    subst (λ (n : ℕ). c.args.gate < n) (sym (ap (λ (v : NotedShardView). v.shard.gates) c.state-state.ensures.value ∙ c.enter_shard-held.ensures.gate_count)) c.requires.gate
 
 pub take_in-arrived-requires-clause-seen : goal.take_in-arrived-requires-clause-seen
 take_in-arrived-requires-clause-seen g c =
@@ -64,6 +64,6 @@ returns-clause-hold g c =
     (no_arrival_visits old c.args.gate c.args.number c.args.message r) in (
       (machine_of c.enter_shard-held.result).shard.log,
       (c.leave_shard.ensures.done old _ _ _ done).1,
-      subst (λ (v : NotedView). IfOk r (λ arrival. arrival ≡ (if is_some (arrived_at c.args.gate c.args.number v.shard.log) then Repeat else Kept)))
+      subst (λ (v : NotedShardView). IfOk r (λ arrival. arrival ≡ (if is_some (arrived_at c.args.gate c.args.number v.shard.log) then Repeat else Kept)))
           c.state-state.ensures.value did.answer,
     )

@@ -1,16 +1,18 @@
 use Rattle.std.proofs.Common.{ap, ◌∙◌}
 use Rattle.chronicle.specs.Holds.{machine_of}
 use Rattle.chronicle.specs.Passes.{number_of}
+use Rattle.store_lock.specs.Seen.{StoreView}
+use Rattle.weaver_locks.proofs.FrameParts.{oracle_framed}
 use Rattle.weaver_locks.proofs.RowAsked.{all_ready, as_many, few_locks}
-use Rattle.weaver_locks.proofs.StoreAsked.{gates_legal, its_note, notes_met, oracle_framed, pass_ready}
+use Rattle.weaver_locks.proofs.StoreAsked.{gates_legal, its_note, notes_met, pass_ready}
 use Rattle.weaver_locks.proofs.StoreCommitted.{done, follows, judged}
 use Rattle.weaver_locks.proofs.StoreNew.{begun_noted, new_stamp}
 use Rattle.weaver_locks.proofs.shared.Shared.commit.Goals as goal
 
 pub commit-judged-requires-clause-frame : goal.commit-judged-requires-clause-frame
 commit-judged-requires-clause-frame g c =
-    oracle_framed c.args.self.now c.args.hand.now c.enter_store-held.new.hand c.enter_store-held.result c.requires.hand c.enter_store-held.ensures
-    c.state-state.result.now c.state-state.ensures.value c.as_slice.result.now c.as_slice.ensures.value c.as_mut_slice.result.now c.as_mut_slice.ensures.value
+    oracle_framed c.args.self.now c.state-state.result.now.shards c.as_slice.result.now
+    (ap (λ (v : StoreView). v.shards) c.state-state.ensures.value ∙ c.enter_store-held.ensures.shard_count) c.as_slice.ensures.value
 
 pub commit-judged-requires-clause-note : goal.commit-judged-requires-clause-note
 commit-judged-requires-clause-note g c =

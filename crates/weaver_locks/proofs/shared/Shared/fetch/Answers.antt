@@ -62,5 +62,5 @@ returns-clause-seen g c =
     let was = c.leave_gate.ensures.was old before [] c.requires.hand
     (no_more shared old c.enter_gate-held.new.hand c.args.gate c.enter_gate-held.result _ c.state.result.now refl refl c.state.ensures.value
     c.enter_gate-held.ensures.inside refl) in
-    may_arrive c.leave_gate.new.hand c.state.result.now c.args.gate _ c.args.shard c.args.number before call.result found was.left same
+    may_arrive c.leave_gate.new.hand c.state.result.now c.args.gate _ c.args.shard c.args.number before found call.result was.left same
     call.ensures.sent call.ensures.made

@@ -6,7 +6,7 @@ use Rattle.weave_entries.specs.declared.gate_log.GateEntry.{GateEntry}
 use Rattle.chronicle.specs.declared.pass.Pass.{Pass}
 use Rattle.chronicle.specs.Passes.{number_of}
 use Rattle.gate_lock.specs.declared.noted.NotedGate.{NotedGate}
-use Rattle.gate_lock.specs.Notes.{IsKept, frame_of}
+use Rattle.gate_lock.specs.Notes.{GateIsKept, frame_of}
 use Rattle.lock_row.proofs.Lists.{one_of, written}
 use Rattle.weaver_locks.specs.declared.hand.Hand.{Hand}
 use Rattle.weaver_locks.proofs.Leaving.{follows, hand_again, left_by, one_account, was_at_gate}
@@ -41,7 +41,7 @@ returns-clause-hand c old before added hand inside =
     ∙ ap (λ (l : List (Pass GateDeed)). length l) c.as_mut_slice-passes.ensures.value) ∙ sym now.gates.ok.0 in
     let set_is : new.gates.items ≡ set c.as_mut_slice-passes.result.now c.args.gate c.leave.new.pass =
     written now.gates.len (set c.as_mut_slice-passes.result.now c.args.gate c.leave.new.pass) now.gates.items set_long in
-    let kept = subst (λ (n : NotedGate). IsKept n.gate n.notes) c.state.ensures.value c.shows_what_it_keeps.ensures in
+    let kept = subst (λ (n : NotedGate). GateIsKept n.gate n.notes) c.state.ensures.value c.shows_what_it_keeps.ensures in
     hand_again c.hands_keep_their_laws.ensures c.gates_keep_their_laws.ensures c.args.self.now old now new c.args.gate before added
     c.args.held.machine c.leave.new.pass c.requires.gate hand inside.elsewhere inside.found inside.machine kept
     (left_by c.args.self.now old now new c.args.gate before c.args.held c.leave.new.pass c.index-passes-gate.result c.state.result.now
@@ -59,7 +59,7 @@ returns-clause-was c old before added hand inside =
     ∙ ap (λ (l : List (Pass GateDeed)). length l) c.as_mut_slice-passes.ensures.value) ∙ sym now.gates.ok.0 in
     let set_is : new.gates.items ≡ set c.as_mut_slice-passes.result.now c.args.gate c.leave.new.pass =
     written now.gates.len (set c.as_mut_slice-passes.result.now c.args.gate c.leave.new.pass) now.gates.items set_long in
-    let kept = subst (λ (n : NotedGate). IsKept n.gate n.notes) c.state.ensures.value c.shows_what_it_keeps.ensures in
+    let kept = subst (λ (n : NotedGate). GateIsKept n.gate n.notes) c.state.ensures.value c.shows_what_it_keeps.ensures in
     was_at_gate c.hands_keep_their_laws.ensures c.gates_keep_their_laws.ensures c.args.self.now old now new c.args.gate before added
     c.args.held.machine c.leave.new.pass c.requires.gate hand inside.elsewhere inside.found inside.machine kept
     (left_by c.args.self.now old now new c.args.gate before c.args.held c.leave.new.pass c.index-passes-gate.result c.state.result.now
@@ -77,7 +77,7 @@ returns-clause-seen c old before added hand inside =
     ∙ ap (λ (l : List (Pass GateDeed)). length l) c.as_mut_slice-passes.ensures.value) ∙ sym now.gates.ok.0 in
     let set_is : new.gates.items ≡ set c.as_mut_slice-passes.result.now c.args.gate c.leave.new.pass =
     written now.gates.len (set c.as_mut_slice-passes.result.now c.args.gate c.leave.new.pass) now.gates.items set_long in
-    let kept = subst (λ (n : NotedGate). IsKept n.gate n.notes) c.state.ensures.value c.shows_what_it_keeps.ensures in
+    let kept = subst (λ (n : NotedGate). GateIsKept n.gate n.notes) c.state.ensures.value c.shows_what_it_keeps.ensures in
     one_account c.hands_keep_their_laws.ensures c.gates_keep_their_laws.ensures c.args.self.now old now new c.args.gate before added
     c.args.held.machine c.leave.new.pass c.requires.gate hand inside.elsewhere inside.found inside.machine kept
     (left_by c.args.self.now old now new c.args.gate before c.args.held c.leave.new.pass c.index-passes-gate.result c.state.result.now

@@ -126,7 +126,7 @@ note_all-requires-clause-gates c k b low notes noted =
     let there : k < length gates = omega (arith, low, long) in
     let g : GateView = one_of gates k there in
     let at = sym (get_or-map (λ x. x.gate) bare.bare.items k b g low) ∙ ap (λ (l : List GateView). get_or l k g) bare.ensures.gates in
-    subst (λ (v : GateView). gate.IsKept v notes) (sym at)
+    subst (λ (v : GateView). gate.GateIsKept v notes) (sym at)
     (kept_gate laws locks gates c.args.store c.args.oracle shards start opened gates_long shards_long k g there notes noted)
 
 pub note_all-requires-clause-store : goal.note_all-requires-clause-store
@@ -199,7 +199,7 @@ note_all-requires-clause-shards c k b low notes noted =
     let there : k < length shards = omega (arith, low, long) in
     let s : ShardView = one_of shards k there in
     let at = sym (get_or-map (λ x. x.shard) bare_shards.bare_shards.items k b s low) ∙ ap (λ (l : List ShardView). get_or l k s) bare_shards.ensures.shards in
-    subst (λ (z : ShardView × ℕ). shard.IsKept z.0 z.1 notes) (λ i. (sym at i, sym count i))
+    subst (λ (z : ShardView × ℕ). shard.ShardIsKept z.0 z.1 notes) (λ i. (sym at i, sym count i))
     (kept_shard laws locks gates c.args.store c.args.oracle shards start opened gates_long shards_long k s there notes noted)
 
 pub fill_all-requires-clause-machines : goal.fill_all-requires-clause-machines
@@ -223,9 +223,17 @@ fill_all-requires-clause-machines c =
     let shards_long : length locks.shards.items ≡ length shards = is.same.shard_count ∙ shard_count in
     let laws = c.new_locks_keep_their_laws.ensures in
     let m = c.in_ok-machines in
-    fit locks gates c.args.store c.args.oracle shards opened gates_long shards_long m.machines (m.ensures.gates ∙ bare.ensures.gates) m.ensures.gate_notes
-    m.ensures.store (m.ensures.store_frame ∙ ap (frame_for_store locks) count) m.ensures.oracle (m.ensures.oracle_frame ∙ ap (frame_for_oracle locks) count)
-    (m.ensures.shards ∙ bare_shards.ensures.shards) (λ k n low. m.ensures.shard_counts k n low ∙ count) m.ensures.shard_notes
+    fit locks gates c.args.store c.args.oracle shards opened gates_long shards_long m.machines record {
+      gates_are = m.ensures.gates ∙ bare.ensures.gates;
+      gate_notes = m.ensures.gate_notes;
+      store_is = m.ensures.store;
+      store_frame = m.ensures.store_frame ∙ ap (frame_for_store locks) count;
+      oracle_is = m.ensures.oracle;
+      oracle_frame = m.ensures.oracle_frame ∙ ap (frame_for_oracle locks) count;
+      shards_are = m.ensures.shards ∙ bare_shards.ensures.shards;
+      shard_counts = λ k n low. m.ensures.shard_counts k n low ∙ count;
+      shard_notes = m.ensures.shard_notes;
+    }
 
 pub invariant_of-shared : goal.invariant_of-shared
 invariant_of-shared c =
@@ -330,9 +338,9 @@ returns-clause-hands c k h low =
         store_ready = f.store_ready;
         oracle_ready = f.oracle_ready;
         shards_ready = f.shards_ready;
-        gate_numbers = f.gate_numbers;
-        oracle_number = f.oracle_number;
-        shard_numbers = f.shard_numbers;
+        gate_numbers = f.numbers.gates;
+        oracle_number = f.numbers.oracle;
+        shard_numbers = f.numbers.shards;
         legal = f.legal;
         seen = f.seen_all;
       },

@@ -9,18 +9,19 @@ use Rattle.shard_node.specs.Shards.{IsRightlyUnread}
 use Rattle.chronicle.specs.declared.pass.Pass.{Pass}
 use Rattle.chronicle.specs.Holds.{machine_of}
 use Rattle.chronicle.specs.Passes.{seen}
+use Rattle.shard_lock.specs.Notes.{NotedShardView}
 use Rattle.weaver_locks.proofs.Beside.{oracle_found}
+use Rattle.weaver_locks.proofs.FrameParts.{oracle_framed}
 use Rattle.weaver_locks.proofs.RowAsked.{all_ready, as_many, few_locks}
 use Rattle.weaver_locks.proofs.Seeing.{oracles_back}
-use Rattle.weaver_locks.proofs.ShardAsked.{gate_count, gates_legal, its_note, kept_here, notes_met, oracle_framed, runs_here}
+use Rattle.weaver_locks.proofs.ShardAsked.{gate_count, gates_legal, its_note, kept_here, notes_met, runs_here}
 use Rattle.weaver_locks.proofs.ShardVisited.{oracle_keeps, oracle_refers_on, oracle_was, visit_done, visit_follows, visited_here}
 use Rattle.weaver_locks.proofs.shared.Shared.visit.Goals as goal
 
 pub visit-read-requires-clause-frame : goal.visit-read-requires-clause-frame
 visit-read-requires-clause-frame g c =
-    oracle_framed c.args.self.now c.args.hand.now c.enter_shard-held.new.hand c.args.shard c.enter_shard-held.result c.requires.hand
-    c.requires.shard c.enter_shard-held.ensures c.state-state.result.now c.state-state.ensures.value c.as_slice.result.now c.as_slice.ensures.value
-    c.as_mut_slice.result.now c.as_mut_slice.ensures.value
+    oracle_framed c.args.self.now c.state-state.result.now.shards c.as_slice.result.now
+    (ap (λ (v : NotedShardView). v.shards) c.state-state.ensures.value ∙ c.enter_shard-held.ensures.shard_count) c.as_slice.ensures.value
 
 pub visit-read-requires-clause-note : goal.visit-read-requires-clause-note
 visit-read-requires-clause-note g c =

@@ -1,0 +1,12 @@
+-- The names that an operation takes, as they are handed out.
+use Rattle.std.specs.Prelude.{List}
+use Rattle.weave_data.specs.declared.name.Name.{Name}
+use Rattle.graph_ops.specs.declared.op.Fields.{Fields}
+use Rattle.graph_ops.specs.declared.op.Fields.TheVariants.{One, Two, Three, Four}
+
+-- as a list
+abbrev pub names_in : Fields → List Name
+names_in (One names) = names
+names_in (Two names) = names
+names_in (Three names) = names
+names_in (Four names) = names

@@ -1,0 +1,30 @@
+use Rattle.std.proofs.Common.{◌≡◌, ℕ, ◌<◌, ◌^◌, List, [], ◌∷◌, length, sym, ap, ◌∙◌, subst, arith, lit<}
+use Rattle.std.specs.Prelude.{codes}
+use Rattle.std.specs.List.{AllByRecursion, IsDistinct}
+use Rattle.std.proofs.lemmas.Result.{IfOk-at_ok}
+use Rattle.weave_data.specs.Names.{same_name}
+use Rattle.program_defs.specs.declared.script.Request.{Request}
+use Rattle.program_defs.specs.declared.script.Work.{Work}
+use Rattle.program_defs.specs.Works.{ops_of}
+use Rattle.weave_report.specs.TextOf.{names_of}
+use Rattle.text_rows.proofs.report_read_tests.script_of_gets.Goals as goal
+
+one_name : IsDistinct same_name (codes "t" ∷ [])
+unfolding IsDistinct
+one_name = (tt, tt)
+
+few : (work other : Work) → work ≡ other → length (ops_of other) < 2 ^ 32 → length (ops_of work) < 2 ^ 32
+few work other e h = subst (λ work. length (ops_of work) < 2 ^ 32) (sym e) h
+
+small : (n k : ℕ) → n ≡ k → k < 10 → n < 2 ^ 32
+small n k e h = omega arith
+
+pub returns : goal.returns
+returns g c =
+    let requests = c.from_vec.ensures ∙ IfOk-at_ok _ c.expect-requests.ensures c.from_array.ensures.items in
+    let names : names_of c.from_vec.result ≡ codes "t" ∷ [] = ap names_of requests ∙ (λ i. c.request-t.ensures.name i ∷ []) in
+    record {
+      distinct = subst (IsDistinct same_name) (sym names) one_name;
+      few_requests = small (length c.from_vec.result) 1 (ap length requests) (lit< tt);
+      few_ops = subst (λ (requests : List Request). AllByRecursion (λ (request : Request). length (ops_of request.work) < 2 ^ 32) requests) (sym requests) (few _ _ c.request-t.ensures.work (small (length c.three_gets.result) 4 c.three_gets.ensures (lit< tt)), tt);
+    }

@@ -1,0 +1,11 @@
+-- Digits are std's numerals.
+-- Used by crates load_maker and weave_text.
+use Rattle.std.proofs.Common.{◌≡◌, true, rules}
+use Rattle.std.specs.Char.{is_ascii_digit}
+use Rattle.std.specs.List.{list_all}
+use Rattle.std.specs.Str.Parse.{digits_value}
+use Rattle.std.proofs.lemmas.Str.Parse.{IsNumeralModel, numerals_by_value}
+
+-- words of digits, and their value, are std's
+pub digits_are_numerals : IsNumeralModel (λ ds. list_all is_ascii_digit ds ≡ true) (digits_value 10)
+digits_are_numerals = numerals_by_value _ (search rules)

@@ -1,0 +1,37 @@
+//! The first line of a script.
+ghost use Rattle.std.specs.Prelude.{◌≡◌, map};
+ghost use Rattle.weave_script.specs.HeaderLine.{header_of, sizes_of};
+ghost use Rattle.weave_text.specs.Numbers.{is_number};
+
+use crate::fault::Cause;
+use crate::read::fields::number_in;
+use weave_text::{Numeral, is, number_up_to};
+
+/// The numbers of gatekeepers and of shards that the words of a header give.
+pub(crate) fn header_of(words: &[&[u8]]) -> Result<(u32, u32), Cause>
+    ensures { result ≡ header_of (map (λ word. word.now) words.now) }
+{
+    match words {
+        [word, version, gates, shards]
+            if is(word, b"weaver") && is(version, b"1") && is_number(gates) && is_number(shards) =>
+            { sizes_of(gates, shards) }
+        _ => Err(Cause::Header),
+    }
+}
+
+fn sizes_of(gates: &[u8], shards: &[u8]) -> Result<(u32, u32), Cause>
+    ensures { result ≡ sizes_of gates.now shards.now }
+{
+    let gates = number_in(1, 8, Cause::Gatekeepers, gates)?;
+    let shards = number_in(1, 16, Cause::Shards, shards)?;
+    Ok((gates, shards))
+}
+
+fn is_number(word: &[u8]) -> bool
+    ensures { result ≡ is_number word.now }
+{
+    match number_up_to(0, word) {
+        Numeral::NoNumber => false,
+        Numeral::TooLarge | Numeral::Number(_) => true,
+    }
+}
