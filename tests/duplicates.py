@@ -3,7 +3,8 @@
 
 Run it by hand at the top of the repository, or give the top as the argument. It reads declarations by their layout, so a
 line of its list is a place to look, not a verdict: two words of one name may mean two things, and a short lemma may be
-dearer to share than to repeat. Answers and invariants are left out.
+dearer to share than to repeat. Answers and invariants are left out. Names that a file gives to terms of its own
+parameters (`abbrev` inside a module) and fields of records are no lemmas: they are listed apart.
 """
 import collections
 import os
@@ -28,11 +29,12 @@ def declarations(path):
                 continue
             begins = DECLARED.match(line)
             if begins and len(begins[1]) <= 4:
-                last = (begins[2], [FIRST_WORDS.sub("", line).strip()])
+                is_local = bool(begins[1]) and "abbrev " in line[: begins.start(2)]
+                last = (begins[2], [FIRST_WORDS.sub("", line).strip()], is_local)
                 found.append(last)
             elif last:
                 last[1].append(line.strip())
-    return [(name, " ".join(text)) for name, text in found]
+    return [(name, " ".join(text), is_local) for name, text, is_local in found]
 
 
 def files(part):
@@ -44,21 +46,26 @@ def files(part):
                     yield f"{at}/{name}"
 
 
-words, lemmas = collections.defaultdict(set), collections.defaultdict(set)
+words, lemmas, names = (collections.defaultdict(set) for _ in range(3))
 for path in files("specs"):
-    for name, text in declarations(path):
+    for name, text, _ in declarations(path):
         if not text.startswith("pub ") and name[0].isupper():
             words[name].add(os.path.relpath(path, f"{TOP}/crates"))
 for path in files("proofs"):
-    for name, text in declarations(path):
+    for name, text, is_local in declarations(path):
         if len(text) > 60:
-            lemmas[name, text].add(os.path.relpath(path, f"{TOP}/crates"))
+            found = names if is_local or " = " not in text else lemmas
+            found[name, text].add(os.path.relpath(path, f"{TOP}/crates"))
 
 twice = {name: places for name, places in words.items() if len(places) > 1}
 print(f"words of specs that more than one file defines: {len(twice)}")
 for name, places in sorted(twice.items()):
     print(f"  {name}: {', '.join(sorted(places))}")
-again = {key: places for key, places in lemmas.items() if len(places) > 1}
-print(f"lemmas that more than one file proves letter for letter: {len(again)}")
-for (name, text), places in sorted(again.items(), key=lambda it: -len(it[0][1])):
-    print(f"  {len(text)} characters, {name}: {', '.join(sorted(places))}")
+for what, kind in ("lemmas that more than one file proves letter for letter", lemmas), (
+    "names of parameters' terms and fields that more than one file has letter for letter",
+    names,
+):
+    again = {key: places for key, places in kind.items() if len(places) > 1}
+    print(f"{what}: {len(again)}")
+    for (name, text), places in sorted(again.items(), key=lambda it: -len(it[0][1])):
+        print(f"  {len(text)} characters, {name}: {', '.join(sorted(places))}")

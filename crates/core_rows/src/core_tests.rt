@@ -1,39 +1,12 @@
 //! Each public call of a core, once, and what it answers. Worked lists of steps are run as texts by the top call.
-ghost use Rattle.std.specs.Prelude.{IsTrue};
-ghost use Rattle.step_rules.specs.IsCore.{IsStepOf};
-
+use crate::cores::{change, create, is_pair_for, is_step_of, name, set, started};
 use graph_ops::Op;
 use program_defs::{Answer, Program, Request, Script, Step, Work};
-use report_rules::{Pair, ReplyState, Report, StepAnswer};
+use report_rules::{ReplyState, Report, StepAnswer};
 use std::alloc::Global;
 use std::process::Abort;
-use weave_data::{Items, Name};
+use weave_data::Items;
 use weaver_core::Core;
-
-fn name(rt: &impl Abort, text: &str) -> Name {
-    Name::parse(text.as_bytes()).expect(rt, "no name")
-}
-
-// A transaction of one operation.
-fn change(rt: &impl Abort, alloc: Global, op: Op) -> Work {
-    let mut ops = Items::new(alloc);
-    ops.push(op).expect(rt, "no memory");
-    Work::Change(ops)
-}
-
-// The operation that creates v.
-fn create(rt: &impl Abort) -> Op {
-    Op::Create { v: name(rt, "v") }
-}
-
-// The operation that sets a property of v.
-fn set(rt: &impl Abort) -> Op {
-    Op::Set {
-        v: name(rt, "v"),
-        key: name(rt, "k"),
-        value: name(rt, "x"),
-    }
-}
 
 // A shard and two requests of two sessions: the first one creates v at gatekeeper 0.
 fn script_of(rt: &impl Abort, alloc: Global, gates: u32, gate: u32, work: Work) -> Script {
@@ -42,7 +15,7 @@ fn script_of(rt: &impl Abort, alloc: Global, gates: u32, gate: u32, work: Work) 
         name: name(rt, "t"),
         session: 0,
         gate: 0,
-        work: change(rt, alloc, create(rt)),
+        work: change(rt, alloc, &[create(rt, "v")]),
     };
     requests.push(first).expect(rt, "no memory");
     let second = Request {
@@ -74,7 +47,7 @@ fn deleting(rt: &impl Abort, alloc: Global, gates: u32) -> Script {
     let second = request(rt, "p", 1, Work::Look(program));
     requests.push(second).expect(rt, "no memory");
     let deletion = Op::Delete { v: name(rt, "w") };
-    let third = request(rt, "t2", 0, change(rt, alloc, deletion));
+    let third = request(rt, "t2", 0, change(rt, alloc, &[deletion]));
     requests.push(third).expect(rt, "no memory");
     Script {
         gates,
@@ -98,7 +71,7 @@ fn request(rt: &impl Abort, text: &str, session: u32, work: Work) -> Request {
 // The transaction that creates v and w, with an edge.
 fn create_linked(rt: &impl Abort, alloc: Global) -> Work {
     let mut ops = Items::new(alloc);
-    ops.push(create(rt)).expect(rt, "no memory");
+    ops.push(create(rt, "v")).expect(rt, "no memory");
     let link = Op::Link {
         v: name(rt, "v"),
         edge: name(rt, "e"),
@@ -108,29 +81,6 @@ fn create_linked(rt: &impl Abort, alloc: Global) -> Work {
     let creation = Op::Create { v: name(rt, "w") };
     ops.push(creation).expect(rt, "no memory");
     Work::Change(ops)
-}
-
-// Whether the step is one of the script.
-fn is_step_of(script: &Script, step: &Step) -> bool
-    ensures { IsTrue result → IsStepOf script.now step.now }
-{
-    let requests = script.requests.as_slice();
-    match *step {
-        Step::Begin { request } | Step::Visit { request } | Step::Reply { request } => {
-            (request as usize) < requests.len()
-        }
-        Step::Judge { gate } | Step::Send { gate } | Step::Say { gate } => gate < script.gates,
-        Step::Hear { gate, notice } => gate < script.gates && 1 <= notice,
-        Step::Nop { gate, shard } => gate < script.gates && shard < script.shards,
-        Step::Deliver {
-            gate,
-            shard,
-            number,
-        } => gate < script.gates && shard < script.shards && 1 <= number,
-        Step::Apply { shard, gate } => shard < script.shards && gate < script.gates,
-        Step::Collect { shard } => shard < script.shards,
-        Step::Epoch { gate, epoch } => gate < script.gates && 1 <= epoch && epoch <= 1_000_000,
-    }
 }
 
 // The words of an answer, with the places that these tests expect.
@@ -162,13 +112,6 @@ fn run(rt: &impl Abort, alloc: Global, core: &mut Core, steps: &[(Step, &str)]) 
     }
 }
 
-fn started(rt: &impl Abort, alloc: Global, script: Script) -> Core {
-    if !script.is_within_limits() {
-        panic!(rt; "not within the limits");
-    }
-    Core::start(alloc, script).expect(rt, "no memory")
-}
-
 // The report, of two requests that ended in this order. It has no answers.
 fn report_in_order(rt: &impl Abort, alloc: Global, core: &Core) -> Report {
     let report = core.report(alloc).expect(rt, "no memory");
@@ -197,14 +140,6 @@ fn is_running(report: &Report) -> bool {
 fn has_read_a_record(report: &Report) -> bool {
     match report.replies.as_slice().get(1) {
         Some(reply) => matches!(reply.state, ReplyState::Finished(Answer::Shown(Some(_)))),
-        None => false,
-    }
-}
-
-// Whether the first pair puts the first request before the second one, for v.
-fn is_pair_for(pairs: &[Pair], v: Name) -> bool {
-    match pairs.get(0) {
-        Some(pair) => pair.vertex == v && pair.earlier == 0 && pair.later == 1,
         None => false,
     }
 }
@@ -248,11 +183,11 @@ const WRITERS: [(Step, &str); 17] = [
 #[test]
 fn two_transactions(rt: HostRuntime) {
     let alloc = rt.alloc();
-    let script = script_of(&rt, alloc, 2, 1, change(&rt, alloc, set(&rt)));
+    let script = script_of(&rt, alloc, 2, 1, change(&rt, alloc, &[set(&rt, "v")]));
     let mut core = started(&rt, alloc, script);
     run(&rt, alloc, &mut core, &WRITERS);
-    assert_eq!(rt; core.script().gates, 2);
-    assert_eq!(rt; core.notices(), 1);
+    assert!(rt; core.script().gates == 2);
+    assert!(rt; core.notices() == 1);
     let report = report_in_order(&rt, alloc, &core);
     assert!(rt; is_second_commit(&report));
     assert!(rt; is_pair_for(report.pairs.as_slice(), name(&rt, "v")));
@@ -310,7 +245,7 @@ fn a_program(rt: HostRuntime) {
     let begun = core.report(alloc).expect(&rt, "no memory");
     assert!(rt; is_running(&begun));
     run(&rt, alloc, &mut core, &FINISHED);
-    assert_eq!(rt; core.notices(), 0);
+    assert!(rt; core.notices() == 0);
     let report = report_in_order(&rt, alloc, &core);
     assert!(rt; has_read_a_record(&report));
     assert!(rt; report.pairs.as_slice().is_empty());
@@ -475,7 +410,7 @@ fn at_one_shard(alloc: Global, requests: Items<Request>) -> Script {
 
 // One more transaction of session 0.
 fn add_change(rt: &impl Abort, alloc: Global, requests: &mut Items<Request>, op: Op) {
-    let next = request(rt, "t", 0, change(rt, alloc, op));
+    let next = request(rt, "t", 0, change(rt, alloc, &[op]));
     requests.push(next).expect(rt, "no memory");
 }
 
@@ -489,10 +424,10 @@ fn add_show(rt: &impl Abort, requests: &mut Items<Request>) {
 // v is created, shown, and changed twice.
 fn changed_twice(rt: &impl Abort, alloc: Global) -> Script {
     let mut requests = Items::new(alloc);
-    add_change(rt, alloc, &mut requests, create(rt));
+    add_change(rt, alloc, &mut requests, create(rt, "v"));
     add_show(rt, &mut requests);
-    add_change(rt, alloc, &mut requests, set(rt));
-    add_change(rt, alloc, &mut requests, set(rt));
+    add_change(rt, alloc, &mut requests, set(rt, "v"));
+    add_change(rt, alloc, &mut requests, set(rt, "v"));
     at_one_shard(alloc, requests)
 }
 
@@ -572,9 +507,9 @@ fn a_low_mark_holds_the_bound_back(rt: HostRuntime) {
 // v is created, and then changed and shown, fifty times.
 fn changed_and_shown(rt: &impl Abort, alloc: Global) -> Script {
     let mut requests = Items::new(alloc);
-    add_change(rt, alloc, &mut requests, create(rt));
+    add_change(rt, alloc, &mut requests, create(rt, "v"));
     for _phase in 0..50 {
-        add_change(rt, alloc, &mut requests, set(rt));
+        add_change(rt, alloc, &mut requests, set(rt, "v"));
         add_show(rt, &mut requests);
     }
     at_one_shard(alloc, requests)

@@ -1,7 +1,5 @@
 //! Cores left in hard places by lists of steps, then driven.
-ghost use Rattle.std.specs.Prelude.{IsTrue};
-ghost use Rattle.step_rules.specs.IsCore.{IsStepOf};
-
+use crate::cores::{change, create, is_step_of, name, set};
 use graph_ops::Op;
 use order_witness::{Judged, has_numbered_operations, judge_report};
 use program_defs::{Answer, Program, Request, Script, Step, Work};
@@ -12,10 +10,6 @@ use weave_data::{Items, Name};
 use weave_drive::drive;
 use weave_report::print_report;
 use weaver_core::Core;
-
-fn name(rt: &impl Abort, text: &str) -> Name {
-    Name::parse(text.as_bytes()).expect(rt, "no name")
-}
 
 // One more request of a script.
 fn add(
@@ -46,14 +40,6 @@ fn add_named(
     requests.push(request).expect(rt, "no memory");
 }
 
-fn change(rt: &impl Abort, alloc: Global, ops: &[Op]) -> Work {
-    let mut items = Items::new(alloc);
-    for op in ops {
-        items.push(*op).expect(rt, "no memory");
-    }
-    Work::Change(items)
-}
-
 fn show(rt: &impl Abort, v: &str) -> Work {
     Work::Look(Program::Show { v: name(rt, v) })
 }
@@ -64,18 +50,6 @@ fn reach(rt: &impl Abort, from: &str, to: &str) -> Work {
         to: name(rt, to),
         pass: None,
     })
-}
-
-fn create(rt: &impl Abort, v: &str) -> Op {
-    Op::Create { v: name(rt, v) }
-}
-
-fn set(rt: &impl Abort, v: &str) -> Op {
-    Op::Set {
-        v: name(rt, v),
-        key: name(rt, "k"),
-        value: name(rt, "x"),
-    }
 }
 
 fn link(rt: &impl Abort, v: &str, edge: &str, target: &str) -> Op {
@@ -166,29 +140,6 @@ fn turns(rt: &impl Abort, alloc: Global) -> Script {
         requests: all,
         phases: Items::new(alloc),
         steps: None,
-    }
-}
-
-// Whether the step is one on a request, at a gatekeeper or at a shard of the script.
-fn is_step_of(script: &Script, step: &Step) -> bool
-    ensures { IsTrue result → IsStepOf script.now step.now }
-{
-    let requests = script.requests.as_slice();
-    match *step {
-        Step::Begin { request } | Step::Visit { request } | Step::Reply { request } => {
-            (request as usize) < requests.len()
-        }
-        Step::Judge { gate } | Step::Send { gate } | Step::Say { gate } => gate < script.gates,
-        Step::Hear { gate, notice } => gate < script.gates && 1 <= notice,
-        Step::Nop { gate, shard } => gate < script.gates && shard < script.shards,
-        Step::Deliver {
-            gate,
-            shard,
-            number,
-        } => gate < script.gates && shard < script.shards && 1 <= number,
-        Step::Apply { shard, gate } => shard < script.shards && gate < script.gates,
-        Step::Epoch { gate, epoch } => gate < script.gates && 1 <= epoch && epoch <= 1_000_000,
-        Step::Collect { shard } => shard < script.shards,
     }
 }
 
@@ -324,7 +275,7 @@ fn driven_on(rt: &impl Abort, alloc: Global, left: Core, upto: u32) {
     assert!(rt; stays(&before, &between));
     drive_to(rt, alloc, &mut core, 9);
     let after = right_report(rt, alloc, &core);
-    assert_eq!(rt; final_replies(&after), 9);
+    assert!(rt; final_replies(&after) == 9);
     assert!(rt; stays(&between, &after));
 }
 
@@ -357,10 +308,10 @@ fn from_the_start(rt: HostRuntime) {
     let mut core = left_by(&rt, alloc, chains(&rt, alloc), &[]);
     drive_to(&rt, alloc, &mut core, 4);
     let report = right_report(&rt, alloc, &core);
-    assert_eq!(rt; final_replies(&report), 4);
-    assert_eq!(rt; begun_requests(&report), 4);
+    assert!(rt; final_replies(&report) == 4);
+    assert!(rt; begun_requests(&report) == 4);
     drive_to(&rt, alloc, &mut core, 9);
-    assert_eq!(rt; final_replies(&right_report(&rt, alloc, &core)), 9);
+    assert!(rt; final_replies(&right_report(&rt, alloc, &core)) == 9);
 }
 
 // Twenty phases of two requests, and then the same requests at once.
@@ -369,10 +320,10 @@ fn phases_and_at_once(rt: HostRuntime) {
     let alloc = rt.alloc();
     let mut core = left_by(&rt, alloc, turns(&rt, alloc), &[]);
     drive_by_two(&rt, alloc, &mut core);
-    assert_eq!(rt; final_replies(&right_report(&rt, alloc, &core)), 40);
+    assert!(rt; final_replies(&right_report(&rt, alloc, &core)) == 40);
     let mut other = left_by(&rt, alloc, turns(&rt, alloc), &[]);
     drive_to(&rt, alloc, &mut other, 40);
-    assert_eq!(rt; final_replies(&right_report(&rt, alloc, &other)), 40);
+    assert!(rt; final_replies(&right_report(&rt, alloc, &other)) == 40);
 }
 
 // Transactions in flight: one without its verdict, one with it, and one above the bound.
@@ -532,6 +483,6 @@ fn fifty_phases_with_collections(rt: HostRuntime) {
         collect(&rt, alloc, &mut core);
         assert!(rt; kept(&rt, &core) <= 4);
     }
-    assert_eq!(rt; kept(&rt, &other), 51);
+    assert!(rt; kept(&rt, &other) == 51);
     assert!(rt; text_of(&rt, alloc, &core) == text_of(&rt, alloc, &other));
 }

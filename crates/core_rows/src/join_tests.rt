@@ -1,27 +1,12 @@
 //! A core that is taken apart between its steps and joined again goes on as if it had never been apart.
-ghost use Rattle.std.specs.Prelude.{IsTrue};
-ghost use Rattle.step_rules.specs.IsCore.{IsStepOf};
-
-use graph_ops::Op;
+use crate::cores::{change, create, is_pair_for, is_step_of, name, started};
 use program_defs::{Program, Request, Script, Step, Work};
-use report_rules::{Pair, StepAnswer};
+use report_rules::StepAnswer;
 use std::alloc::Global;
 use std::process::Abort;
-use weave_data::{Items, Name};
+use weave_data::Items;
 use weave_report::print_report;
 use weaver_core::Core;
-
-fn name(rt: &impl Abort, text: &str) -> Name {
-    Name::parse(text.as_bytes()).expect(rt, "no name")
-}
-
-// The transaction that creates v.
-fn creation(rt: &impl Abort, alloc: Global) -> Work {
-    let mut ops = Items::new(alloc);
-    let create = Op::Create { v: name(rt, "v") };
-    ops.push(create).expect(rt, "no memory");
-    Work::Change(ops)
-}
 
 // A request at a gatekeeper, in the session of the same number.
 fn add(rt: &impl Abort, requests: &mut Items<Request>, text: &str, gate: u32, work: Work) {
@@ -38,7 +23,13 @@ fn add(rt: &impl Abort, requests: &mut Items<Request>, text: &str, gate: u32, wo
 fn shown_elsewhere(rt: &impl Abort, alloc: Global) -> Script {
     let mut requests = Items::new(alloc);
     let show = Program::Show { v: name(rt, "v") };
-    add(rt, &mut requests, "t", 0, creation(rt, alloc));
+    add(
+        rt,
+        &mut requests,
+        "t",
+        0,
+        change(rt, alloc, &[create(rt, "v")]),
+    );
     add(rt, &mut requests, "p", 1, Work::Look(show));
     Script {
         gates: 2,
@@ -47,36 +38,6 @@ fn shown_elsewhere(rt: &impl Abort, alloc: Global) -> Script {
         phases: Items::new(alloc),
         steps: None,
     }
-}
-
-// Whether the step is one of the script. An epoch is none of these tests.
-fn is_step_of(script: &Script, step: &Step) -> bool
-    ensures { IsTrue result → IsStepOf script.now step.now }
-{
-    let requests = script.requests.as_slice();
-    match *step {
-        Step::Begin { request } | Step::Visit { request } | Step::Reply { request } => {
-            (request as usize) < requests.len()
-        }
-        Step::Judge { gate } | Step::Send { gate } | Step::Say { gate } => gate < script.gates,
-        Step::Hear { gate, notice } => gate < script.gates && 1 <= notice,
-        Step::Nop { gate, shard } => gate < script.gates && shard < script.shards,
-        Step::Deliver {
-            gate,
-            shard,
-            number,
-        } => gate < script.gates && shard < script.shards && 1 <= number,
-        Step::Apply { shard, gate } => shard < script.shards && gate < script.gates,
-        Step::Collect { shard } => shard < script.shards,
-        Step::Epoch { .. } => false,
-    }
-}
-
-fn started(rt: &impl Abort, alloc: Global, script: Script) -> Core {
-    if !script.is_within_limits() {
-        panic!(rt; "not within the limits");
-    }
-    Core::start(alloc, script).expect(rt, "no memory")
 }
 
 // Does steps one after another, each of which is done.
@@ -101,14 +62,6 @@ fn joined(rt: &impl Abort, core: Core) -> Core {
 fn text_of(rt: &impl Abort, alloc: Global, core: &Core) -> Vec<u8> {
     let report = core.report(alloc).expect(rt, "no memory");
     print_report(alloc, core.script(), &report).expect(rt, "no memory")
-}
-
-// Whether the first pair puts the transaction before the program, for v.
-fn is_pair_for(pairs: &[Pair], v: Name) -> bool {
-    match pairs.get(0) {
-        Some(pair) => pair.vertex == v && pair.earlier == 0 && pair.later == 1,
-        None => false,
-    }
 }
 
 // The transaction commits, the program begins with a stamp that is unordered with it, and the shard gets ready for it.
@@ -155,14 +108,14 @@ fn a_program_runs_on_after_a_join(rt: HostRuntime) {
     let mut apart = started(&rt, alloc, shown_elsewhere(&rt, alloc));
     run(&rt, alloc, &mut apart, &READY);
     let mut apart = joined(&rt, apart);
-    assert_eq!(rt; text_of(&rt, alloc, &apart), text_of(&rt, alloc, &whole));
+    assert!(rt; text_of(&rt, alloc, &apart) == text_of(&rt, alloc, &whole));
     run(&rt, alloc, &mut whole, &READ);
     run(&rt, alloc, &mut apart, &READ);
     let mut apart = joined(&rt, apart);
-    assert_eq!(rt; text_of(&rt, alloc, &apart), text_of(&rt, alloc, &whole));
+    assert!(rt; text_of(&rt, alloc, &apart) == text_of(&rt, alloc, &whole));
     run(&rt, alloc, &mut whole, &ENDED);
     run(&rt, alloc, &mut apart, &ENDED);
-    assert_eq!(rt; text_of(&rt, alloc, &apart), text_of(&rt, alloc, &whole));
+    assert!(rt; text_of(&rt, alloc, &apart) == text_of(&rt, alloc, &whole));
     let report = apart.report(alloc).expect(&rt, "no memory");
     assert!(rt; report.pairs.as_slice().len() == 1);
     assert!(rt; is_pair_for(report.pairs.as_slice(), name(&rt, "v")));

@@ -5,6 +5,8 @@
 #[cfg(test)]
 mod core_tests;
 #[cfg(test)]
+mod cores;
+#[cfg(test)]
 mod drive_tests;
 #[cfg(test)]
 mod join_tests;

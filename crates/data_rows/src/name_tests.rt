@@ -20,7 +20,7 @@ fn what_is_a_name(rt: HostRuntime) {
         (b"a b".as_slice(), false),
     ];
     for (bytes, want) in rows {
-        assert_eq!(rt; Name::parse(bytes).is_some(), want, "at {bytes:?}");
+        assert!(rt; Name::parse(bytes).is_some() == want, "at {bytes:?}");
     }
     for byte in [b'/', b':', b'^', b'`', b'{', 225] {
         assert!(rt; Name::parse(&[byte]).is_none(), "at {byte}");
@@ -31,8 +31,8 @@ fn what_is_a_name(rt: HostRuntime) {
 fn bytes_and_shard(rt: HostRuntime) -> Result<(), Fail> {
     for (text, shard) in [("ann", 1), ("bob", 1), ("cyd", 0)] {
         let name = name(text)?;
-        assert_eq!(rt; name.bytes(), text.as_bytes());
-        assert_eq!(rt; name.shard(2), shard, "at {text}");
+        assert!(rt; name.bytes() == text.as_bytes());
+        assert!(rt; name.shard(2) == shard, "at {text}");
     }
     Ok(())
 }
@@ -58,11 +58,11 @@ fn a_map(rt: HostRuntime) -> Result<(), Fail> {
     assert!(rt; copied.as_slice() == [(a, 2), (b, 3)].as_slice());
     assert!(rt; map.remove(a));
     assert!(rt; !map.remove(a));
-    assert_eq!(rt; (map.get(a), map.get(b)), (None, Some(&3)));
+    assert!(rt; (map.get(a), map.get(b)) == (None, Some(&3)));
     assert!(rt; map.is_full(a, 1) && !map.is_full(b, 1));
-    assert_eq!(rt; map.len(), 1);
+    assert!(rt; map.len() == 1);
     if map.has(b) {
-        assert_eq!(rt; map.swap(b, 4), 3);
+        assert!(rt; map.swap(b, 4) == 3);
     }
     assert!(rt; map.as_slice() == [(b, 4)].as_slice());
     Ok(())
@@ -91,10 +91,10 @@ fn keys_put_back(rt: HostRuntime) -> Result<(), Fail> {
             let key = mixed(other)?;
             if map.has(key) {
                 let undo = map.take(alloc, key)?;
-                assert_eq!(rt; (map.has(key), map.len()), (false, n));
+                assert!(rt; (map.has(key), map.len()) == (false, n));
                 map.take_back(undo);
             }
-            assert_eq!(rt; map.get(key), Some(&(other as u32)));
+            assert!(rt; map.get(key) == Some(&(other as u32)));
             assert!(rt; map == before);
         }
     }
@@ -112,7 +112,7 @@ fn changes_taken_back(rt: HostRuntime) -> Result<(), Fail> {
         let before: NameMap<u32> = map.copy(alloc)?;
         for key in [key, new, mixed(n / 2)?] {
             let undo = map.insert(key, 100)?;
-            assert_eq!(rt; map.get(key), Some(&100));
+            assert!(rt; map.get(key) == Some(&100));
             map.take_back(undo);
             assert!(rt; map == before);
         }
@@ -134,10 +134,7 @@ fn a_map_of_a_vec(rt: HostRuntime) -> Result<(), Fail> {
         return Err("not rising".into());
     }
     let map = NameMap::from_vec(pairs)?;
-    assert_eq!(rt;
-        (map.len(), map.get(a), map.get(c)),
-        (3, Some(&1), Some(&3))
-    );
+    assert!(rt; (map.len(), map.get(a), map.get(c)) == (3, Some(&1), Some(&3)));
     let mut again = NameMap::from_vec(map.into_vec())?;
     again.put(b, 4)?;
     assert!(rt; again.as_slice() == [(a, 1), (b, 4), (c, 3)].as_slice());
@@ -151,9 +148,9 @@ fn a_list(rt: HostRuntime) -> Result<(), Fail> {
     items.push(Some(7))?;
     items.push(None)?;
     let copied: Items<Option<u32>> = items.copy(alloc)?;
-    assert_eq!(rt; copied.as_slice(), [Some(7), None].as_slice());
+    assert!(rt; copied.as_slice() == [Some(7), None].as_slice());
     let again = Items::from_vec(copied.into_vec());
-    assert_eq!(rt; again.as_slice(), items.as_slice());
+    assert!(rt; again.as_slice() == items.as_slice());
     Ok(())
 }
 
@@ -167,11 +164,11 @@ fn copies_of_names_and_numbers(rt: HostRuntime) -> Result<(), Fail> {
         assert!(rt; Some(name).copy(alloc)? == Some(name));
     }
     for number in [0, 7, u32::MAX] {
-        assert_eq!(rt; number.copy(alloc)?, number);
-        assert_eq!(rt; Some(number).copy(alloc)?, Some(number));
+        assert!(rt; number.copy(alloc)? == number);
+        assert!(rt; Some(number).copy(alloc)? == Some(number));
     }
     let absent: Option<u32> = None;
-    assert_eq!(rt; absent.copy(alloc)?, None);
+    assert!(rt; absent.copy(alloc)? == None);
     Ok(())
 }
 
@@ -182,11 +179,11 @@ fn lists_of_each_length(rt: HostRuntime) -> Result<(), Fail> {
     let mut items: Items<u32> = Items::new(alloc);
     for number in 0..70 {
         let copied = items.copy(alloc)?;
-        assert_eq!(rt; copied.as_slice(), items.as_slice());
+        assert!(rt; copied.as_slice() == items.as_slice());
         items.push(number)?;
-        assert_eq!(rt; items.as_slice().last(), Some(&number));
+        assert!(rt; items.as_slice().last() == Some(&number));
     }
-    assert_eq!(rt; items.as_slice().len(), 70);
+    assert!(rt; items.as_slice().len() == 70);
     Ok(())
 }
 
@@ -210,7 +207,7 @@ fn there_and_back(
     assert!(rt; before == *map);
     map.put(key, 2)?;
     map.put(key, 3)?;
-    assert_eq!(rt; map.get(key), Some(&3));
+    assert!(rt; map.get(key) == Some(&3));
     if map.has(key) {
         let undo = map.take(alloc, key)?;
         assert!(rt; *map == before);
@@ -218,7 +215,7 @@ fn there_and_back(
     }
     assert!(rt; map.remove(key) && *map == before);
     let undo = map.insert(key, 4)?;
-    assert_eq!(rt; map.get(key), Some(&4));
+    assert!(rt; map.get(key) == Some(&4));
     map.take_back(undo);
     assert!(rt; *map == before);
     Ok(())
@@ -230,7 +227,7 @@ fn keys_at_each_place(rt: HostRuntime) -> Result<(), Fail> {
     let alloc = rt.alloc();
     for keys in 0..20 {
         let mut map = every_second(alloc, keys)?;
-        assert_eq!(rt; map.len(), keys);
+        assert!(rt; map.len() == keys);
         for place in 0..=keys {
             there_and_back(&rt, alloc, &mut map, numbered(place * 2)?)?;
         }

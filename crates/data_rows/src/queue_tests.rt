@@ -30,16 +30,15 @@ impl Stamped for Note {
 fn what_was_sent(rt: HostRuntime) -> Result<(), Fail> {
     let alloc = rt.alloc();
     let mut outbox = Outbox::new(alloc);
-    assert_eq!(rt; outbox.count(), 0);
+    assert!(rt; outbox.count() == 0);
     outbox.reserve(alloc)?;
-    assert_eq!(rt; outbox.push(alloc, Note { count: 3 }).ok(), Some(1));
-    assert_eq!(rt; outbox.push(alloc, Note { count: 5 }).ok(), Some(2));
-    assert_eq!(rt; outbox.count(), 2);
+    assert!(rt; outbox.push(alloc, Note { count: 3 }).ok() == Some(1));
+    assert!(rt; outbox.push(alloc, Note { count: 5 }).ok() == Some(2));
+    assert!(rt; outbox.count() == 2);
     let rows = [(0, None), (1, Some(3)), (2, Some(5)), (3, None)];
     for (number, sent) in rows {
-        assert_eq!(rt;
-            outbox.get(number).map(|note| note.count),
-            sent,
+        assert!(rt;
+            outbox.get(number).map(|note| note.count) == sent,
             "at {number}"
         );
     }
@@ -105,11 +104,11 @@ fn what_arrived(rt: HostRuntime) -> Result<(), Fail> {
         assert!(rt; number == 3 || inbox.has(3) && inbox.last().is_none());
         assert!(rt; inbox.head().is_some() == inbox.has(1));
         let arrival = deliver(&rt, alloc, &outbox, &mut inbox, number);
-        assert_eq!(rt; arrival, answer, "at {number}");
+        assert!(rt; arrival == answer, "at {number}");
     }
     for (number, count) in [(1, 3), (2, 5), (3, 9)] {
-        assert_eq!(rt; inbox.next(), number);
-        assert_eq!(rt; inbox.head().map(|note| note.count), Some(count));
+        assert!(rt; inbox.next() == number);
+        assert!(rt; inbox.head().map(|note| note.count) == Some(count));
         if !inbox.head().is_some() {
             panic!(rt; "no head");
         }
@@ -117,9 +116,9 @@ fn what_arrived(rt: HostRuntime) -> Result<(), Fail> {
             panic!(rt; "another number");
         }
         inbox.advance();
-        assert_eq!(rt; inbox.last(), Some(make_note(count).stamp()));
+        assert!(rt; inbox.last() == Some(make_note(count).stamp()));
         let again = deliver(&rt, alloc, &outbox, &mut inbox, number);
-        assert_eq!(rt; again, Some(Arrival::Repeat));
+        assert!(rt; again == Some(Arrival::Repeat));
     }
     assert!(rt; inbox.head().is_none());
     Ok(())
@@ -130,12 +129,12 @@ fn what_arrived(rt: HostRuntime) -> Result<(), Fail> {
 fn sends_with_room_and_without(rt: HostRuntime) -> Result<(), Fail> {
     let alloc = rt.alloc();
     let mut outbox = Outbox::new(alloc);
-    assert_eq!(rt; outbox.push(alloc, Note { count: 3 }).ok(), Some(1));
-    assert_eq!(rt; outbox.push(alloc, Note { count: 4 }).ok(), Some(2));
+    assert!(rt; outbox.push(alloc, Note { count: 3 }).ok() == Some(1));
+    assert!(rt; outbox.push(alloc, Note { count: 4 }).ok() == Some(2));
     outbox.reserve(alloc)?;
     outbox.reserve(alloc)?;
-    assert_eq!(rt; outbox.push(alloc, Note { count: 9 }).ok(), Some(3));
-    assert_eq!(rt; outbox.get(3).map(|note| note.count), Some(9));
+    assert!(rt; outbox.push(alloc, Note { count: 9 }).ok() == Some(3));
+    assert!(rt; outbox.get(3).map(|note| note.count) == Some(9));
     Ok(())
 }
 
@@ -152,5 +151,5 @@ fn many_wait(rt: HostRuntime) {
         let arrived = inbox.arrive(alloc, 40 - before, make_note(before));
         assert!(rt; arrived == Ok(Arrival::Repeat));
     }
-    assert_eq!(rt; inbox.head().map(|note| note.count), Some(39));
+    assert!(rt; inbox.head().map(|note| note.count) == Some(39));
 }

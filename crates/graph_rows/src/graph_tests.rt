@@ -31,7 +31,7 @@ fn expect(
             Err(OpFault::Refused(reason)) => Some(reason),
             Err(OpFault::Memory) => return Err(Fail::from("no memory")),
         };
-        assert_eq!(rt; refused, *want, "at {i}");
+        assert!(rt; refused == *want, "at {i}");
     }
     Ok(())
 }
@@ -370,12 +370,12 @@ fn refused_in_the_middle(rt: HostRuntime) -> Result<(), Fail> {
             &[create, unlink, Op::Get { v }, Op::Delete { v }, set],
         )
         .err();
-    assert_eq!(rt;
-        fault,
-        Some(TxFault::Refused {
-            op: 5,
-            reason: Reason::Missing
-        })
+    assert!(rt;
+        fault
+            == Some(TxFault::Refused {
+                op: 5,
+                reason: Reason::Missing
+            })
     );
     assert!(rt; graph.find(w).is_none());
     assert!(rt; graph.find(v).is_some_and(|record| record.edges.len() == 1));
@@ -454,7 +454,7 @@ fn values_read_back(rt: HostRuntime) -> Result<(), Fail> {
     let (v, w, edge) = names()?;
     let graph = one_vertex(alloc)?;
     let record = graph.find(v).ok_or("absent")?;
-    assert_eq!(rt; (record.props.len(), record.edges.len()), (1, 1));
+    assert!(rt; (record.props.len(), record.edges.len()) == (1, 1));
     assert!(rt; record.props.get(name("p")?) == Some(&w));
     let link = record.edges.get(edge).ok_or("no edge")?;
     assert!(rt; link.target == w && link.tags.len() == 1);
@@ -522,7 +522,7 @@ fn a_refused_transaction_that_could_be_taken_back(rt: HostRuntime) -> Result<(),
         op: 3,
         reason: Reason::Exists,
     };
-    assert_eq!(rt; fault, Some(refused));
+    assert!(rt; fault == Some(refused));
     assert!(rt; graph.find(v) == before.find(v) && graph.find(w).is_none());
     Ok(())
 }
@@ -599,7 +599,7 @@ fn copies_of_operations(rt: HostRuntime) -> Result<(), Fail> {
         };
         let copied = part.copy(alloc)?;
         assert!(rt; copied.vertex == part.vertex && copied.before == 3);
-        assert_eq!(rt; copied.ops.as_slice().len(), count);
+        assert!(rt; copied.ops.as_slice().len() == count);
     }
     Ok(())
 }
@@ -678,7 +678,7 @@ fn transactions_without_operations(rt: HostRuntime) -> Result<(), Fail> {
     let alloc = rt.alloc();
     let v = name("v")?;
     let mut graph = one_vertex(alloc)?;
-    assert_eq!(rt; pass(&rt, alloc, &mut graph, &[]), 0);
+    assert!(rt; pass(&rt, alloc, &mut graph, &[]) == 0);
     let (gots, pending) = graph.apply(alloc, &[]).map_err(|_| "refused")?;
     graph = pending.keep();
     assert!(rt; gots.is_empty() && graph.find(v).is_some());

@@ -4,6 +4,8 @@
 #[cfg(test)]
 mod graph_tests;
 #[cfg(test)]
+mod graphs;
+#[cfg(test)]
 mod limit_tests;
 #[cfg(test)]
 mod path_tests;

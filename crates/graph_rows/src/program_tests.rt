@@ -1,5 +1,4 @@
-ghost use Rattle.std.specs.Prelude.{◌<◌, ◌^◌, length};
-
+use crate::graphs::{delete, diamond, link, named, numbered, programs, run, star, tag};
 use graph_ops::{Graph, Op, Record};
 use program_defs::{Answer, Filter, Program, Request, Script, Step, Work, ask, ask_with_visits};
 use std::alloc::Global;
@@ -83,46 +82,10 @@ fn scripts_can_be_copied(rt: HostRuntime) -> Result<(), Fail> {
     let request = transaction(alloc, name("join")?)?;
     let script = script(alloc, request)?;
     let copied = script.copy(alloc)?;
-    assert_eq!(rt; (copied.gates, copied.shards), (2, 3));
+    assert!(rt; (copied.gates, copied.shards) == (2, 3));
     assert!(rt; first_request(&copied) == Some((5, 1)));
     assert!(rt; copied.steps.is_some());
     Ok(())
-}
-
-fn named(rt: &impl Abort, text: &[u8]) -> Name {
-    Name::parse(text).expect(rt, "a name")
-}
-
-fn run(rt: &impl Abort, alloc: Global, graph: &mut Graph, ops: &[Op])
-    requires { length ops.now < 2 ^ 32 }
-{
-    let outcome = graph.run_tx(alloc, ops);
-    assert!(rt; outcome.is_ok());
-}
-
-fn link(rt: &impl Abort, alloc: Global, graph: &mut Graph, ends: &[u8; 4]) {
-    let v = named(rt, &ends[..1]);
-    let edge = named(rt, &ends[1..3]);
-    let target = named(rt, &ends[3..]);
-    run(rt, alloc, graph, &[Op::Link { v, edge, target }]);
-}
-
-fn delete(rt: &impl Abort, alloc: Global, graph: &mut Graph, v: &[u8]) {
-    let v = named(rt, v);
-    run(rt, alloc, graph, &[Op::Delete { v }]);
-}
-
-// Vertices a, b, c, d; edges a e1 c, a e2 b, a e3 b, b e1 d, c e1 d.
-fn diamond(rt: &impl Abort, alloc: Global) -> Graph {
-    let mut graph = Graph::new(alloc);
-    for text in [b"a", b"b", b"c", b"d"] {
-        let v = named(rt, text);
-        run(rt, alloc, &mut graph, &[Op::Create { v }]);
-    }
-    for ends in [b"ae1c", b"ae2b", b"ae3b", b"be1d", b"ce1d"] {
-        link(rt, alloc, &mut graph, ends);
-    }
-    graph
 }
 
 // The first letters of the answer's names; `+` and `-` for yes and no, `.` for no walk.
@@ -214,7 +177,7 @@ fn plain_answers(rt: HostRuntime) {
     ];
     let want = [b"abd".as_slice(), b".", b".", b".", b"a", b"abc", b"+"];
     for (found, wanted) in answers.iter().zip(want) {
-        assert_eq!(rt; found.as_slice(), wanted);
+        assert!(rt; found.as_slice() == wanted);
     }
 }
 
@@ -236,7 +199,7 @@ fn answers_after_deletions(rt: HostRuntime) {
     ];
     let want = [b"acd".as_slice(), b"-", b"+", b"-"];
     for (found, wanted) in answers.iter().zip(want) {
-        assert_eq!(rt; found.as_slice(), wanted);
+        assert!(rt; found.as_slice() == wanted);
     }
 }
 
@@ -254,7 +217,7 @@ fn rings_and_a_cycle(rt: HostRuntime) {
     ];
     let want = [b"a".as_slice(), b"", b"abcd", b"dac", b"+"];
     for (found, wanted) in rings.iter().zip(want) {
-        assert_eq!(rt; found.as_slice(), wanted);
+        assert!(rt; found.as_slice() == wanted);
     }
 }
 
@@ -270,24 +233,6 @@ fn tagged_path(rt: &impl Abort, alloc: Global, graph: &Graph) -> Vec<u8> {
         }),
     };
     letters(rt, alloc, graph, &program)
-}
-
-fn tag(rt: &impl Abort, alloc: Global, graph: &mut Graph, edge: &[u8; 3], value: &[u8]) {
-    let v = named(rt, &edge[..1]);
-    let edge = named(rt, &edge[1..]);
-    let key = named(rt, b"k");
-    let value = named(rt, value);
-    run(
-        rt,
-        alloc,
-        graph,
-        &[Op::Tag {
-            v,
-            edge,
-            key,
-            value,
-        }],
-    );
 }
 
 // Of the state of a that `show` answers, the values of the property k and of the tag k of the edge e2.
@@ -319,13 +264,10 @@ fn edges_that_pass(rt: HostRuntime) {
     let alloc = rt.alloc();
     let mut graph = diamond(&rt, alloc);
     for (edge, value) in [(b"be1", b"x"), (b"ae2", b"y"), (b"ae3", b"x")] {
-        assert_eq!(rt; tagged_path(&rt, alloc, &graph).as_slice(), b".".as_slice());
+        assert!(rt; tagged_path(&rt, alloc, &graph).as_slice() == b".".as_slice());
         tag(&rt, alloc, &mut graph, edge, value);
     }
-    assert_eq!(rt;
-        tagged_path(&rt, alloc, &graph).as_slice(),
-        b"abd".as_slice()
-    );
+    assert!(rt; tagged_path(&rt, alloc, &graph).as_slice() == b"abd".as_slice());
 }
 
 // The least walk goes over the vertex whose walk is least, and not over the one of the least name.
@@ -340,10 +282,7 @@ fn the_least_walk(rt: HostRuntime) {
     for ends in [b"se1x", b"se2y", b"ye1p", b"xe1q", b"pe1t", b"qe1t"] {
         link(&rt, alloc, &mut graph, ends);
     }
-    assert_eq!(rt;
-        path(&rt, alloc, &graph, b"s", b"t", 3).as_slice(),
-        b"sxqt".as_slice()
-    );
+    assert!(rt; path(&rt, alloc, &graph, b"s", b"t", 3).as_slice() == b"sxqt".as_slice());
 }
 
 // The letters of the names in the text, one name a letter.
@@ -379,7 +318,7 @@ fn each_answer_can_be_copied(rt: HostRuntime) {
     ];
     for (answer, wanted) in rows {
         let copied = answer.copy(alloc).expect(&rt, "memory");
-        assert_eq!(rt; letters_of(&rt, alloc, &copied).as_slice(), wanted);
+        assert!(rt; letters_of(&rt, alloc, &copied).as_slice() == wanted);
     }
 }
 
@@ -431,41 +370,6 @@ fn words(program: &Program) -> (&'static str, Name, Option<Name>, u32, Option<Na
     }
 }
 
-// No filter, or one that lets the edges pass that have the tag `k=x`.
-fn filter(rt: &impl Abort, filtered: bool) -> Option<Filter> {
-    if !filtered {
-        return None;
-    }
-    Some(Filter {
-        key: named(rt, b"k"),
-        value: named(rt, b"x"),
-    })
-}
-
-// A program of each form, from a to another vertex within a bound.
-fn programs(rt: &impl Abort, to: &[u8], bound: u32, filtered: bool) -> [Program; 4] {
-    let (from, to) = (named(rt, b"a"), named(rt, to));
-    [
-        Program::Show { v: to },
-        Program::Reach {
-            from,
-            to,
-            pass: filter(rt, filtered),
-        },
-        Program::Around {
-            from,
-            bound,
-            pass: filter(rt, filtered),
-        },
-        Program::Path {
-            from,
-            to,
-            bound,
-            pass: filter(rt, filtered),
-        },
-    ]
-}
-
 fn request(rt: &impl Abort, work: Work) -> Request {
     Request {
         name: named(rt, b"p"),
@@ -497,7 +401,7 @@ fn each_transaction_can_be_copied(rt: HostRuntime) {
         let Work::Change(ops) = &copied.work else {
             panic!(rt; "a program");
         };
-        assert_eq!(rt; ops.as_slice().len(), count);
+        assert!(rt; ops.as_slice().len() == count);
     }
 }
 
@@ -537,7 +441,7 @@ fn scripts_of_several_requests_can_be_copied(rt: HostRuntime) {
     for count in 0..4 {
         let script = script_of(&rt, alloc, count);
         let copied = script.copy(alloc).expect(&rt, "memory");
-        assert_eq!(rt; copied.requests.as_slice().len(), count as usize);
+        assert!(rt; copied.requests.as_slice().len() == count as usize);
         assert!(rt; copied.phases.as_slice() == script.phases.as_slice());
         let steps = copied.steps.as_ref().map(|steps| steps.as_slice().len());
         let wanted = if count == 1 {
@@ -545,7 +449,7 @@ fn scripts_of_several_requests_can_be_copied(rt: HostRuntime) {
         } else {
             Some(count as usize)
         };
-        assert_eq!(rt; steps, wanted);
+        assert!(rt; steps == wanted);
     }
 }
 
@@ -588,7 +492,7 @@ fn answers_of_each_program(rt: HostRuntime) {
     ];
     for (to, bound, filtered, wanted) in rows {
         let asked = programs(&rt, to, bound, filtered);
-        assert_eq!(rt; all_letters(&rt, alloc, &graph, &asked).as_slice(), wanted);
+        assert!(rt; all_letters(&rt, alloc, &graph, &asked).as_slice() == wanted);
     }
 }
 
@@ -606,20 +510,8 @@ fn walks_of_three_edges(rt: HostRuntime) {
         }],
     );
     link(&rt, alloc, &mut graph, b"de1e");
-    assert_eq!(rt;
-        path(&rt, alloc, &graph, b"a", b"e", 3).as_slice(),
-        b"abde".as_slice()
-    );
-    assert_eq!(rt;
-        path(&rt, alloc, &graph, b"c", b"e", 9).as_slice(),
-        b"cde".as_slice()
-    );
-}
-
-// A name for each number below 456,976.
-fn numbered(rt: &impl Abort, n: usize) -> Name {
-    let letters = [n / 17576, n / 676, n / 26, n].map(|digit| b'a' + (digit % 26) as u8);
-    named(rt, &letters)
+    assert!(rt; path(&rt, alloc, &graph, b"a", b"e", 3).as_slice() == b"abde".as_slice());
+    assert!(rt; path(&rt, alloc, &graph, b"c", b"e", 9).as_slice() == b"cde".as_slice());
 }
 
 // A chain of that many vertices; an edge leads from the last one to a vertex that is absent.
@@ -662,28 +554,8 @@ fn a_long_chain(rt: HostRuntime) {
     let alloc = rt.alloc();
     let graph = chain(&rt, alloc, 10_000);
     let (from, to) = (numbered(&rt, 0), numbered(&rt, 9_999));
-    assert_eq!(rt; count(&rt, alloc, &graph, &any_path(from, to, 9_998)), 0);
-    assert_eq!(rt;
-        count(&rt, alloc, &graph, &any_path(from, to, 9_999)),
-        10_000
-    );
-}
-
-// A vertex with edges to 1,000 others.
-fn star(rt: &impl Abort, alloc: Global, v: Name) -> Graph {
-    let mut graph = Graph::new(alloc);
-    run(rt, alloc, &mut graph, &[Op::Create { v }]);
-    for n in 0..1_000 {
-        let target = numbered(rt, n);
-        let edge = target;
-        run(
-            rt,
-            alloc,
-            &mut graph,
-            &[Op::Create { v: target }, Op::Link { v, edge, target }],
-        );
-    }
-    graph
+    assert!(rt; count(&rt, alloc, &graph, &any_path(from, to, 9_998)) == 0);
+    assert!(rt; count(&rt, alloc, &graph, &any_path(from, to, 9_999)) == 10_000);
 }
 
 #[test]
@@ -696,9 +568,9 @@ fn a_star(rt: HostRuntime) {
         bound: 1,
         pass: None,
     };
-    assert_eq!(rt; count(&rt, alloc, &graph, &around), 1_001);
+    assert!(rt; count(&rt, alloc, &graph, &around) == 1_001);
     let to = numbered(&rt, 999);
-    assert_eq!(rt; count(&rt, alloc, &graph, &any_path(v, to, 1)), 2);
+    assert!(rt; count(&rt, alloc, &graph, &any_path(v, to, 1)) == 2);
 }
 
 // The letters of the vertices visited, of a to e and x.
@@ -735,7 +607,7 @@ fn visits_of_paths(rt: HostRuntime) {
         (b"x", 5, b"x"),
     ] {
         let found = visited(&rt, alloc, &graph, &path_to_d(&rt, from, bound));
-        assert_eq!(rt; found.as_slice(), want);
+        assert!(rt; found.as_slice() == want);
     }
 }
 
@@ -755,17 +627,10 @@ fn visits_of_other_programs(rt: HostRuntime) {
         bound: 1,
         pass: None,
     };
-    assert_eq!(rt;
-        visited(&rt, alloc, &graph, &reach).as_slice(),
-        b"ab".as_slice()
-    );
-    assert_eq!(rt;
-        visited(&rt, alloc, &graph, &Program::Show { v: to }).as_slice(),
-        b"b".as_slice()
+    assert!(rt; visited(&rt, alloc, &graph, &reach).as_slice() == b"ab".as_slice());
+    assert!(rt;
+        visited(&rt, alloc, &graph, &Program::Show { v: to }).as_slice() == b"b".as_slice()
     );
     delete(&rt, alloc, &mut graph, b"b");
-    assert_eq!(rt;
-        visited(&rt, alloc, &graph, &around).as_slice(),
-        b"abc".as_slice()
-    );
+    assert!(rt; visited(&rt, alloc, &graph, &around).as_slice() == b"abc".as_slice());
 }

@@ -1,46 +1,10 @@
-ghost use Rattle.std.specs.Prelude.{◌<◌, ◌^◌, length};
-
-use graph_ops::{Graph, MOST_EDGES, Op};
+use crate::graphs::{diamond, feed, link, named, numbered, run, tag};
+use graph_ops::{Graph, Op};
 use node_program::{NodeProgram, ShowProgram};
 use program_defs::{Answer, Filter};
 use reach_program::ReachProgram;
 use std::alloc::Global;
 use std::process::Abort;
-use weave_data::{Copied, Name};
-
-fn name(rt: &impl Abort, text: &[u8]) -> Name {
-    Name::parse(text).expect(rt, "a name")
-}
-
-// A name for each number below 456,976.
-fn numbered(rt: &impl Abort, n: usize) -> Name {
-    let letters = [n / 17576, n / 676, n / 26, n].map(|digit| b'a' + (digit % 26) as u8);
-    name(rt, &letters)
-}
-
-fn run(rt: &impl Abort, alloc: Global, graph: &mut Graph, ops: &[Op])
-    requires { length ops.now < 2 ^ 32 }
-{
-    let outcome = graph.run_tx(alloc, ops);
-    assert!(rt; outcome.is_ok());
-}
-
-// Feeds a program from a graph, and says how many vertices it read.
-fn feed<P: NodeProgram>(rt: &impl Abort, alloc: Global, walk: &mut P, graph: &Graph) -> u32 {
-    for count in 0..1_000_000 {
-        let Some(v) = walk.next_vertex() else {
-            return count;
-        };
-        walk.ready().expect(rt, "memory");
-        let mut state = None;
-        if let Some(found) = graph.find(v) {
-            assert!(rt; found.edges.len() <= MOST_EDGES);
-            state = Some(found.copy(alloc).expect(rt, "memory"));
-        }
-        walk.see(state);
-    }
-    0
-}
 
 fn reaches(
     rt: &impl Abort,
@@ -50,7 +14,7 @@ fn reaches(
     to: &[u8],
     pass: &Option<Filter>,
 ) -> bool {
-    let mut walk = ReachProgram::new(alloc, name(rt, from), name(rt, to), *pass).expect(
+    let mut walk = ReachProgram::new(alloc, named(rt, from), named(rt, to), *pass).expect(
         rt, "memory",
     );
     let _ = feed(rt, alloc, &mut walk, graph);
@@ -60,7 +24,7 @@ fn reaches(
 
 // The names found, one letter each.
 fn found(rt: &impl Abort, alloc: Global, graph: &Graph, from: &[u8], bound: u32) -> Vec<u8> {
-    let mut walk = ReachProgram::around(alloc, name(rt, from), bound, None).expect(rt, "memory");
+    let mut walk = ReachProgram::around(alloc, named(rt, from), bound, None).expect(rt, "memory");
     let _ = feed(rt, alloc, &mut walk, graph);
     let answer = walk.outcome(alloc).expect(rt, "memory");
     let mut letters = Vec::new(alloc);
@@ -74,43 +38,14 @@ fn found(rt: &impl Abort, alloc: Global, graph: &Graph, from: &[u8], bound: u32)
     letters
 }
 
-fn link(rt: &impl Abort, alloc: Global, graph: &mut Graph, ends: &[u8; 4]) {
-    let v = name(rt, &ends[..1]);
-    let edge = name(rt, &ends[1..3]);
-    let target = name(rt, &ends[3..]);
-    run(rt, alloc, graph, &[Op::Link { v, edge, target }]);
-}
-
-// Vertices a, b, c, d; edges a e1 c, a e2 b, a e3 b, b e1 d, c e1 d.
-fn diamond(rt: &impl Abort, alloc: Global) -> Graph {
-    let mut graph = Graph::new(alloc);
-    for text in [b"a", b"b", b"c", b"d"] {
-        let v = name(rt, text);
-        run(rt, alloc, &mut graph, &[Op::Create { v }]);
-    }
-    for ends in [b"ae1c", b"ae2b", b"ae3b", b"be1d", b"ce1d"] {
-        link(rt, alloc, &mut graph, ends);
-    }
-    graph
-}
-
 #[test]
 fn walks_of_a_small_graph(rt: HostRuntime) {
     let alloc = rt.alloc();
     let mut graph = diamond(&rt, alloc);
-    let [b, c] = [b"b", b"c"].map(|text| name(&rt, text));
-    assert_eq!(rt;
-        found(&rt, alloc, &graph, b"a", 1).as_slice(),
-        b"abc".as_slice()
-    );
-    assert_eq!(rt;
-        found(&rt, alloc, &graph, b"a", 0).as_slice(),
-        b"a".as_slice()
-    );
-    assert_eq!(rt;
-        found(&rt, alloc, &graph, b"x", 0).as_slice(),
-        b"".as_slice()
-    );
+    let [b, c] = [b"b", b"c"].map(|text| named(&rt, text));
+    assert!(rt; found(&rt, alloc, &graph, b"a", 1).as_slice() == b"abc".as_slice());
+    assert!(rt; found(&rt, alloc, &graph, b"a", 0).as_slice() == b"a".as_slice());
+    assert!(rt; found(&rt, alloc, &graph, b"x", 0).as_slice() == b"".as_slice());
     assert!(rt; reaches(&rt, alloc, &graph, b"a", b"d", &None));
     run(&rt, alloc, &mut graph, &[Op::Delete { v: b }]);
     assert!(rt; reaches(&rt, alloc, &graph, b"a", b"d", &None));
@@ -123,30 +58,11 @@ fn walks_of_a_small_graph(rt: HostRuntime) {
     assert!(rt; !reaches(&rt, alloc, &graph, b"x", b"x", &None));
 }
 
-// Gives a value to the tag k of an edge, named by its vertex and then its name.
-fn tag(rt: &impl Abort, alloc: Global, graph: &mut Graph, edge: &[u8; 3], value: &[u8]) {
-    let v = name(rt, &edge[..1]);
-    let edge = name(rt, &edge[1..]);
-    let key = name(rt, b"k");
-    let value = name(rt, value);
-    run(
-        rt,
-        alloc,
-        graph,
-        &[Op::Tag {
-            v,
-            edge,
-            key,
-            value,
-        }],
-    );
-}
-
 #[test]
 fn filters_and_a_cycle(rt: HostRuntime) {
     let alloc = rt.alloc();
     let mut graph = diamond(&rt, alloc);
-    let (key, value) = (name(&rt, b"k"), name(&rt, b"x"));
+    let (key, value) = (named(&rt, b"k"), named(&rt, b"x"));
     let pass = Some(Filter { key, value });
     assert!(rt; !reaches(&rt, alloc, &graph, b"a", b"b", &pass));
     tag(&rt, alloc, &mut graph, b"ae2", b"k");
@@ -156,16 +72,13 @@ fn filters_and_a_cycle(rt: HostRuntime) {
     assert!(rt; !reaches(&rt, alloc, &graph, b"a", b"d", &pass));
     link(&rt, alloc, &mut graph, b"de1a");
     assert!(rt; reaches(&rt, alloc, &graph, b"d", b"c", &None));
-    assert_eq!(rt;
-        found(&rt, alloc, &graph, b"d", 1000).as_slice(),
-        b"abcd".as_slice()
-    );
+    assert!(rt; found(&rt, alloc, &graph, b"d", 1000).as_slice() == b"abcd".as_slice());
 }
 
 #[test]
 fn a_long_chain(rt: HostRuntime) {
     let alloc = rt.alloc();
-    let edge = name(&rt, b"e");
+    let edge = named(&rt, b"e");
     let mut graph = Graph::new(alloc);
     for n in 0..10_000 {
         let (v, target) = (numbered(&rt, n), numbered(&rt, n + 1));
@@ -179,7 +92,7 @@ fn a_long_chain(rt: HostRuntime) {
     let mut walk = ReachProgram::new(alloc, numbered(&rt, 0), numbered(&rt, 9_999), None).expect(
         &rt, "memory",
     );
-    assert_eq!(rt; feed(&rt, alloc, &mut walk, &graph), 10_000);
+    assert!(rt; feed(&rt, alloc, &mut walk, &graph) == 10_000);
     let answer = walk.outcome(alloc).expect(&rt, "memory");
     assert!(rt; matches!(answer, Answer::Reached(true)));
 }
@@ -187,7 +100,7 @@ fn a_long_chain(rt: HostRuntime) {
 #[test]
 fn a_star(rt: HostRuntime) {
     let alloc = rt.alloc();
-    let v = name(&rt, b"v");
+    let v = named(&rt, b"v");
     let mut graph = Graph::new(alloc);
     let mut ops = Vec::new(alloc);
     ops.push(Op::Create { v }).expect(&rt, "memory");
@@ -204,13 +117,13 @@ fn a_star(rt: HostRuntime) {
     assert!(rt; ops.len() < 10_000);
     run(&rt, alloc, &mut graph, &ops);
     let mut walk = ReachProgram::around(alloc, v, 1, None).expect(&rt, "memory");
-    assert_eq!(rt; feed(&rt, alloc, &mut walk, &graph), 1_001);
+    assert!(rt; feed(&rt, alloc, &mut walk, &graph) == 1_001);
     let answer = walk.outcome(alloc).expect(&rt, "memory");
     let count = match &answer {
         Answer::Found(vertices) => vertices.as_slice().len(),
         _ => 0,
     };
-    assert_eq!(rt; count, 1_001);
+    assert!(rt; count == 1_001);
 }
 
 #[test]
@@ -218,10 +131,10 @@ fn show(rt: HostRuntime) {
     let alloc = rt.alloc();
     let graph = diamond(&rt, alloc);
     for (text, want) in [(b"a", true), (b"x", false)] {
-        let mut walk = ShowProgram::new(name(&rt, text));
-        assert_eq!(rt; feed(&rt, alloc, &mut walk, &graph), 1);
+        let mut walk = ShowProgram::new(named(&rt, text));
+        assert!(rt; feed(&rt, alloc, &mut walk, &graph) == 1);
         let answer = walk.outcome(alloc).expect(&rt, "memory");
-        assert_eq!(rt; matches!(answer, Answer::Shown(Some(_))), want);
+        assert!(rt; matches!(answer, Answer::Shown(Some(_))) == want);
     }
 }
 
@@ -245,8 +158,8 @@ fn found_so_far(rt: &impl Abort, alloc: Global, walk: &ReachProgram) -> Vec<u8> 
 fn outcomes_before_reads_and_by_a_filter(rt: HostRuntime) {
     let alloc = rt.alloc();
     let mut graph = diamond(&rt, alloc);
-    let (v, edge) = (name(&rt, b"a"), name(&rt, b"e2"));
-    let (key, value) = (name(&rt, b"k"), name(&rt, b"x"));
+    let (v, edge) = (named(&rt, b"a"), named(&rt, b"e2"));
+    let (key, value) = (named(&rt, b"k"), named(&rt, b"x"));
     let tag = Op::Tag {
         v,
         edge,
@@ -259,10 +172,7 @@ fn outcomes_before_reads_and_by_a_filter(rt: HostRuntime) {
     assert!(rt; matches!(answer, Answer::Reached(false)));
     let pass = Some(Filter { key, value });
     let mut walk = ReachProgram::around(alloc, v, 5, pass).expect(&rt, "memory");
-    assert_eq!(rt; found_so_far(&rt, alloc, &walk).len(), 0);
-    assert_eq!(rt; feed(&rt, alloc, &mut walk, &graph), 2);
-    assert_eq!(rt;
-        found_so_far(&rt, alloc, &walk).as_slice(),
-        b"ab".as_slice()
-    );
+    assert!(rt; found_so_far(&rt, alloc, &walk).len() == 0);
+    assert!(rt; feed(&rt, alloc, &mut walk, &graph) == 2);
+    assert!(rt; found_so_far(&rt, alloc, &walk).as_slice() == b"ab".as_slice());
 }

@@ -1,5 +1,4 @@
-ghost use Rattle.std.specs.Prelude.{◌<◌, ◌^◌, length};
-
+use crate::graphs::{named, run};
 use graph_ops::{Graph, MOST_EDGES, Op};
 use node_program::{NodeProgram, ShowProgram};
 use program_defs::Answer;
@@ -7,19 +6,8 @@ use std::alloc::Global;
 use std::process::Abort;
 use weave_data::{Copied, Name};
 
-fn name(rt: &impl Abort, text: &[u8]) -> Name {
-    Name::parse(text).expect(rt, "a name")
-}
-
-fn run(rt: &impl Abort, alloc: Global, graph: &mut Graph, ops: &[Op])
-    requires { length ops.now < 2 ^ 32 }
-{
-    let outcome = graph.run_tx(alloc, ops);
-    assert!(rt; outcome.is_ok());
-}
-
 // Feeds a program its next vertex from a graph, and reports whether it has one.
-fn feed<P: NodeProgram>(rt: &impl Abort, alloc: Global, walk: &mut P, graph: &Graph) -> bool {
+fn feed_next<P: NodeProgram>(rt: &impl Abort, alloc: Global, walk: &mut P, graph: &Graph) -> bool {
     let Some(v) = walk.next_vertex() else {
         return false;
     };
@@ -53,9 +41,9 @@ fn assert_shows(
 ) {
     let mut walk = ShowProgram::new(v);
     assert!(rt; shown(rt, alloc, &walk).is_none());
-    assert!(rt; feed(rt, alloc, &mut walk, graph));
-    assert_eq!(rt; shown(rt, alloc, &walk), wanted);
-    assert!(rt; !feed(rt, alloc, &mut walk, graph));
+    assert!(rt; feed_next(rt, alloc, &mut walk, graph));
+    assert!(rt; shown(rt, alloc, &walk) == wanted);
+    assert!(rt; !feed_next(rt, alloc, &mut walk, graph));
     assert!(rt; walk.ready() == Ok(()));
 }
 
@@ -63,8 +51,8 @@ fn assert_shows(
 #[test]
 fn shows_each_state(rt: HostRuntime) {
     let alloc = rt.alloc();
-    let (v, edge) = (name(&rt, b"v"), name(&rt, b"e"));
-    let (key, value) = (name(&rt, b"k"), name(&rt, b"x"));
+    let (v, edge) = (named(&rt, b"v"), named(&rt, b"e"));
+    let (key, value) = (named(&rt, b"k"), named(&rt, b"x"));
     let target = v;
     let rows = [
         (Op::Create { v }, Some((0, 0))),

@@ -3,6 +3,7 @@ ghost use Rattle.graph_ops.specs.Mentions.{named_by};
 ghost use Rattle.weave_entries.specs.declared.verdict.Counted.{Counted};
 ghost use Rattle.weave_entries.specs.Sending.{IsCountsOf};
 
+use crate::messages::{clock, name, same_message, stamp};
 use gatekeeper::{Gate, GateFault};
 use graph_ops::{Op, Part, Reason, named};
 use std::alloc::Global;
@@ -11,24 +12,6 @@ use std::test::Fail;
 use vector_stamp::{Clock, Stamp};
 use weave_data::{Items, Name};
 use weave_entries::{Addressed, Counted, GateDeed, Message, Verdict};
-
-fn clock(epoch: u64, first: u64, second: u64) -> Clock {
-    Clock {
-        epoch,
-        counts: [first, second, 0, 0, 0, 0, 0, 0],
-    }
-}
-
-fn stamp(first: u64, second: u64) -> Stamp {
-    Stamp {
-        home: 0,
-        clock: clock(0, first, second),
-    }
-}
-
-fn name(text: &str) -> Result<Name, Fail> {
-    Ok(Name::parse(text.as_bytes()).ok_or("no name")?)
-}
 
 // A transaction is begun and aborted, and meanwhile there is no other one and no empty message.
 fn one_flight(rt: &impl Abort, alloc: Global, gate: &mut Gate) -> Result<(), Fail>
@@ -42,21 +25,21 @@ fn one_flight(rt: &impl Abort, alloc: Global, gate: &mut Gate) -> Result<(), Fai
         reason: Reason::Missing,
         at: 0,
     };
-    assert_eq!(rt; gate.begin_tx(alloc, 0, 0, None)?, stamp(1, 0));
+    assert!(rt; gate.begin_tx(alloc, 0, 0, None)? == stamp(1, 0));
     let Err(fault) = gate.begin_tx(alloc, 0, 1, None) else {
         return Err(Fail::from("begun"));
     };
-    assert_eq!(rt; fault, GateFault::Busy);
+    assert!(rt; fault == GateFault::Busy);
     let Err(fault) = gate.nop(alloc, 0, 0) else {
         return Err(Fail::from("sent"));
     };
-    assert_eq!(rt; fault, GateFault::Busy);
+    assert!(rt; fault == GateFault::Busy);
     gate.send(alloc, 0, &[], &aborted)?;
     assert!(rt; gate.fetch(0, 1).is_none());
     let Err(fault) = gate.send(alloc, 0, &[], &aborted) else {
         return Err(Fail::from("sent again"));
     };
-    assert_eq!(rt; fault, GateFault::Idle);
+    assert!(rt; fault == GateFault::Idle);
     Ok(())
 }
 
@@ -72,19 +55,19 @@ fn nops_and_a_program(rt: &impl Abort, alloc: Global, gate: &mut Gate) -> Result
     requires room { 8 ≤ gate.old.spare }
     ensures { OnOk result (3 ≤ gate.new.spare) }
 {
-    assert_eq!(rt; gate.nop(alloc, 0, 0)?, 1);
-    assert_eq!(rt; fetched(gate, 1), Some((stamp(2, 0), clock(0, 2, 0))));
-    assert_eq!(rt; fetched(gate, 2), None);
+    assert!(rt; gate.nop(alloc, 0, 0)? == 1);
+    assert!(rt; fetched(gate, 1) == Some((stamp(2, 0), clock(0, 2, 0))));
+    assert!(rt; fetched(gate, 2) == None);
     gate.hear(0, &clock(0, 0, 5));
-    assert_eq!(rt; gate.say(), clock(0, 2, 5));
-    assert_eq!(rt; gate.begin_program(alloc, 0, 2, None)?, stamp(3, 5));
-    assert_eq!(rt; gate.nop(alloc, 0, 0)?, 2);
-    assert_eq!(rt; fetched(gate, 2), Some((stamp(4, 5), clock(0, 3, 5))));
+    assert!(rt; gate.say() == clock(0, 2, 5));
+    assert!(rt; gate.begin_program(alloc, 0, 2, None)? == stamp(3, 5));
+    assert!(rt; gate.nop(alloc, 0, 0)? == 2);
+    assert!(rt; fetched(gate, 2) == Some((stamp(4, 5), clock(0, 3, 5))));
     gate.finish(alloc, 0, 2)?;
     let Err(fault) = gate.finish(alloc, 0, 2) else {
         return Err(Fail::from("finished again"));
     };
-    assert_eq!(rt; fault, GateFault::Idle);
+    assert!(rt; fault == GateFault::Idle);
     Ok(())
 }
 
@@ -95,13 +78,13 @@ fn epochs(rt: &impl Abort, gate: &mut Gate) -> Result<(), Fail>
     let Err(fault) = gate.epoch(0, 0) else {
         return Err(Fail::from("raised"));
     };
-    assert_eq!(rt; fault, GateFault::Old);
+    assert!(rt; fault == GateFault::Old);
     gate.epoch(0, 2)?;
-    assert_eq!(rt; gate.say(), clock(2, 0, 0));
+    assert!(rt; gate.say() == clock(2, 0, 0));
     gate.hear(0, &clock(1, 0, 9));
-    assert_eq!(rt; gate.say(), clock(2, 0, 0));
+    assert!(rt; gate.say() == clock(2, 0, 0));
     gate.hear(0, &clock(3, 0, 4));
-    assert_eq!(rt; gate.say(), clock(3, 0, 4));
+    assert!(rt; gate.say() == clock(3, 0, 4));
     Ok(())
 }
 
@@ -113,7 +96,7 @@ fn a_table_of_calls(rt: HostRuntime) -> Result<(), Fail> {
     one_flight(&rt, alloc, &mut gate)?;
     nops_and_a_program(&rt, alloc, &mut gate)?;
     epochs(&rt, &mut gate)?;
-    assert_eq!(rt; gate.log().len(), 10);
+    assert!(rt; gate.log().len() == 10);
     Ok(())
 }
 
@@ -133,15 +116,15 @@ fn begins_after_the_last_stamp(rt: HostRuntime) {
     let first = gate.begin_tx(alloc, 1, 0, Some(other_stamp(0, 0, 7)));
     assert!(rt; first == Ok(stamp(1, 7)));
     let flight = gate.flight().expect(&rt, "no transaction in flight");
-    assert_eq!(rt; (flight.author, flight.request), (1, 0));
-    assert_eq!(rt; flight.stamp, stamp(1, 7));
+    assert!(rt; (flight.author, flight.request) == (1, 0));
+    assert!(rt; flight.stamp == stamp(1, 7));
     let second = gate.begin_program(alloc, 2, 1, Some(other_stamp(0, 1, 9)));
     assert!(rt; second == Ok(stamp(2, 9)));
     let raised = gate
         .begin_program(alloc, 3, 2, Some(other_stamp(2, 5, 3)))
         .expect(&rt, "no stamp");
-    assert_eq!(rt; raised.clock, clock(2, 1, 3));
-    assert_eq!(rt; gate.log().len(), 3);
+    assert!(rt; raised.clock == clock(2, 1, 3));
+    assert!(rt; gate.log().len() == 3);
 }
 
 // The vertices that operations name, with the numbers of earlier commits.
@@ -178,35 +161,6 @@ fn commit(
     let stamp = gate.begin_tx(alloc, 3, request, None)?;
     gate.send(alloc, 3, ops, &verdict)?;
     Ok(stamp)
-}
-
-fn same_op(op: &Op, other: &Op) -> bool {
-    op.word() == other.word() && op.fields().as_slice() == other.fields().as_slice()
-}
-
-fn same_ops(ops: &[Op], wanted: &[Op]) -> bool {
-    ops.len() == wanted.len() && ops.iter().zip(wanted).all(|(op, other)| same_op(op, other))
-}
-
-fn same_part(part: &Part, wanted: &Part) -> bool {
-    part.vertex == wanted.vertex
-        && part.before == wanted.before
-        && same_ops(part.ops.as_slice(), wanted.ops.as_slice())
-}
-
-fn same_parts(parts: &[Part], wanted: &[Part]) -> bool {
-    parts.len() == wanted.len()
-        && parts
-            .iter()
-            .zip(wanted)
-            .all(|(part, other)| same_part(part, other))
-}
-
-fn same_message(message: &Message, wanted: &Message) -> bool {
-    message.request == wanted.request
-        && message.stamp == wanted.stamp
-        && message.low == wanted.low
-        && same_parts(message.parts.as_slice(), wanted.parts.as_slice())
 }
 
 // The part of a vertex: of the operations those in these places.
@@ -268,10 +222,10 @@ fn in_log(rt: &impl Abort, gate: &Gate, request: u32, wanted: &[Addressed]) -> R
     else {
         return Err(Fail::from("another entry"));
     };
-    assert_eq!(rt; (entry.author, *sent), (3, request));
-    assert_eq!(rt; messages.as_slice().len(), wanted.len());
+    assert!(rt; (entry.author, *sent) == (3, request));
+    assert!(rt; messages.as_slice().len() == wanted.len());
     for (one, other) in messages.as_slice().iter().zip(wanted) {
-        assert_eq!(rt; (one.shard, one.number), (other.shard, other.number));
+        assert!(rt; (one.shard, one.number) == (other.shard, other.number));
         assert!(rt; same_message(&one.message, &other.message));
     }
     Ok(())
@@ -332,18 +286,18 @@ fn commits_on_two_shards(rt: HostRuntime) -> Result<(), Fail> {
     let alloc = rt.alloc();
     let ops = ten_operations()?;
     let mut gate = Gate::new(alloc, 0, 2, 2)?;
-    assert_eq!(rt; gate.nop(alloc, 3, 1)?, 1);
-    assert_eq!(rt; gate.begin_program(alloc, 4, 8, None)?, stamp(2, 0));
+    assert!(rt; gate.nop(alloc, 3, 1)? == 1);
+    assert!(rt; gate.begin_program(alloc, 4, 8, None)? == stamp(2, 0));
 
     let wanted = first_messages(alloc, ops.as_slice())?;
     let begun = commit(alloc, &mut gate, 7, ops.as_slice(), &[12, u64::MAX, 305])?;
-    assert_eq!(rt; begun, stamp(3, 0));
+    assert!(rt; begun == stamp(3, 0));
     on_channels(&rt, &gate, wanted.as_slice())?;
     in_log(&rt, &gate, 7, wanted.as_slice())?;
 
     let wanted = second_messages(alloc, ops.as_slice())?;
     let begun = commit(alloc, &mut gate, 9, &ops[..2], &[13, 6])?;
-    assert_eq!(rt; begun, stamp(4, 0));
+    assert!(rt; begun == stamp(4, 0));
     on_channels(&rt, &gate, wanted.as_slice())?;
     in_log(&rt, &gate, 9, wanted.as_slice())
 }
@@ -358,12 +312,12 @@ fn fetched_from(gate: &Gate, shard: u32, number: u64) -> Option<(Option<u32>, u6
 // These messages are on a channel, numbered from 1, and no others.
 fn on_channel(rt: &impl Abort, gate: &Gate, shard: u32, wanted: &[(Option<u32>, u64, usize)]) {
     let mut number = 0;
-    assert_eq!(rt; fetched_from(gate, shard, number), None);
+    assert!(rt; fetched_from(gate, shard, number) == None);
     for one in wanted {
         number = number.wrapping_add(1);
-        assert_eq!(rt; fetched_from(gate, shard, number), Some(*one), "{number}");
+        assert!(rt; fetched_from(gate, shard, number) == Some(*one), "{number}");
     }
-    assert_eq!(rt; fetched_from(gate, shard, number.wrapping_add(1)), None);
+    assert!(rt; fetched_from(gate, shard, number.wrapping_add(1)) == None);
 }
 
 // Commits and empty messages in turns: each is fetched again under its number.
@@ -372,12 +326,12 @@ fn fetches_what_was_sent(rt: HostRuntime) -> Result<(), Fail> {
     let alloc = rt.alloc();
     let ops = ten_operations()?;
     let mut gate = Gate::new(alloc, 0, 2, 2)?;
-    assert_eq!(rt; gate.nop(alloc, 3, 1)?, 1);
+    assert!(rt; gate.nop(alloc, 3, 1)? == 1);
     commit(alloc, &mut gate, 7, ops.as_slice(), &[0, 0, 0])?;
-    assert_eq!(rt; gate.nop(alloc, 3, 0)?, 2);
-    assert_eq!(rt; gate.nop(alloc, 3, 1)?, 3);
+    assert!(rt; gate.nop(alloc, 3, 0)? == 2);
+    assert!(rt; gate.nop(alloc, 3, 1)? == 3);
     commit(alloc, &mut gate, 9, &ops[..1], &[1])?;
-    assert_eq!(rt; gate.nop(alloc, 3, 0)?, 3);
+    assert!(rt; gate.nop(alloc, 3, 0)? == 3);
     let here = [(Some(7), 2, 1), (None, 3, 0), (None, 6, 0)];
     let there = [(None, 1, 0), (Some(7), 2, 2), (None, 4, 0), (Some(9), 5, 1)];
     on_channel(&rt, &gate, 0, here.as_slice());
@@ -470,12 +424,12 @@ fn aborts_by_each_verdict(rt: HostRuntime) {
     };
     let mut gate = Gate::new(alloc, 3, 8, 2).expect(&rt, "no gatekeeper");
     let first = begin_and_abort(&rt, alloc, &mut gate, None, &conflict);
-    assert_eq!(rt; first, stamp_at(3, 0, 1, 0));
+    assert!(rt; first == stamp_at(3, 0, 1, 0));
     let second = begin_and_abort(&rt, alloc, &mut gate, Some(first), &refused);
-    assert_eq!(rt; second, stamp_at(3, 0, 2, 0));
+    assert!(rt; second == stamp_at(3, 0, 2, 0));
     let third = begin_and_abort(&rt, alloc, &mut gate, Some(first), &conflict);
-    assert_eq!(rt; third, stamp_at(3, 0, 3, 0));
-    assert_eq!(rt; gate.log().len(), 6);
+    assert!(rt; third == stamp_at(3, 0, 3, 0));
+    assert!(rt; gate.log().len() == 6);
 }
 
 // Twenty programs, the last number begun twice. All are finished, and none of them again.
@@ -507,7 +461,7 @@ fn two_nops(rt: &impl Abort, alloc: Global, shards: u32)
     let last = shards - 1;
     let first = gate.nop(alloc, 1, last).expect(rt, "not sent");
     let second = gate.nop(alloc, 1, last).expect(rt, "not sent");
-    assert_eq!(rt; (first, second), (1, 2));
+    assert!(rt; (first, second) == (1, 2));
     assert!(rt; gate.fetch(last, 2).is_some() && gate.fetch(shards, 1).is_none());
 }
 
@@ -528,11 +482,11 @@ fn commits_in_a_row(rt: HostRuntime) -> Result<(), Fail> {
     for request in 0..10 {
         let own = u64::from(request) + 1;
         let begun = commit(alloc, &mut gate, request, &[Op::Create { v }], &[own])?;
-        assert_eq!(rt; begun, stamp_at(7, 0, own, 0));
+        assert!(rt; begun == stamp_at(7, 0, own, 0));
         assert!(rt; gate.fetch(shard, own).is_some());
     }
     let begun = commit(alloc, &mut gate, 10, &[], &[])?;
-    assert_eq!(rt; begun, stamp_at(7, 0, 11, 0));
+    assert!(rt; begun == stamp_at(7, 0, 11, 0));
     assert!(rt; gate.fetch(shard, 11).is_none());
     Ok(())
 }
@@ -547,5 +501,5 @@ fn takes_room(rt: HostRuntime) {
     }
     assert!(rt; gate.begin_tx(alloc, 1, 0, None) == Ok(stamp(1, 0)));
     assert!(rt; gate.reserve(alloc, 2_000) == Ok(()));
-    assert_eq!(rt; gate.log().len(), 1);
+    assert!(rt; gate.log().len() == 1);
 }

@@ -7,6 +7,8 @@ mod entry_tests;
 #[cfg(test)]
 mod gate_tests;
 #[cfg(test)]
+mod messages;
+#[cfg(test)]
 mod order_tests;
 #[cfg(test)]
 mod part_tests;

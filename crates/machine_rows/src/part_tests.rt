@@ -129,13 +129,13 @@ fn parts_are_what_changed(rt: HostRuntime) {
             }],
         );
     }
-    assert_eq!(rt; (row.updates, row.parts.count()), (102, 165));
-    assert_eq!(rt; props_at(&rt, alloc, &row, 0), None);
-    assert_eq!(rt; props_at(&rt, alloc, &row, 1), Some(63));
-    assert_eq!(rt; props_at(&rt, alloc, &row, 102), Some(64));
+    assert!(rt; (row.updates, row.parts.count()) == (102, 165));
+    assert!(rt; props_at(&rt, alloc, &row, 0) == None);
+    assert!(rt; props_at(&rt, alloc, &row, 1) == Some(63));
+    assert!(rt; props_at(&rt, alloc, &row, 102) == Some(64));
     collect(&mut row, 101);
-    assert_eq!(rt; row.parts.count(), 66);
-    assert_eq!(rt; props_at(&rt, alloc, &row, 101), Some(64));
+    assert!(rt; row.parts.count() == 66);
+    assert!(rt; props_at(&rt, alloc, &row, 101) == Some(64));
 }
 
 // The operations of an update, of a table of updates.
@@ -273,14 +273,14 @@ fn states_are_those_of_the_operations(rt: HostRuntime) {
         add(&rt, alloc, &mut row, ops.as_slice());
         compare(&rt, alloc, &row, &table, 0);
     }
-    assert_eq!(rt; (row.updates, row.parts.count()), (7, 18));
+    assert!(rt; (row.updates, row.parts.count()) == (7, 18));
     take_back(&rt, &mut row);
-    assert_eq!(rt; (row.updates, row.parts.count()), (6, 17));
+    assert!(rt; (row.updates, row.parts.count()) == (6, 17));
     compare(&rt, alloc, &row, &table, 0);
     collect(&mut row, 4);
-    assert_eq!(rt; row.parts.count(), 7);
+    assert!(rt; row.parts.count() == 7);
     compare(&rt, alloc, &row, &table, 4);
     collect(&mut row, 5);
-    assert_eq!(rt; row.parts.count(), 3);
+    assert!(rt; row.parts.count() == 3);
     compare(&rt, alloc, &row, &table, 5);
 }

@@ -1,4 +1,4 @@
--- What was gained in some calls and then in others was gained in all.
+-- If a hand's entries and its sessions' entries match in two parts of its calls, they match in both together.
 -- Used by Leading, Served and Visits.
 use Rattle.std.proofs.Common.{◌≡◌, ◌≢◌, ◌⊎◌, inl, inr, ℕ, ◌<◌, ◌==◌, Bool, List, ◌++◌, length, AllPairs, Contains, IsTrue, Option, Some, sym, ap, ◌∙◌, subst, append_assoc, arith}
 use Rattle.std.proofs.lemmas.Bool.{cases_eq, eqb-true}

@@ -1,4 +1,5 @@
--- The clause on numbers. It rests on the clause on the store: a commit's number is its place among the commits.
+-- The last clause of a right report, of the report of an account: the commit numbers are 1 up to their count. It rests
+-- on the clause on the store: a commit's number is its place among the commits.
 -- Used by PhasesKept, RefusalsClause and RightReport.
 use Rattle.std.proofs.Common.{◌≡◌, ◌≢◌, ℕ, zero, suc, ◌+◌, ◌<◌, ◌≤◌, Bool, true, false, cond, ◌==◌, List, [], ◌∷◌, ◌++◌, length, Contains, AllPairs, IsTrue, Option, Some, None, ◌⊎◌, inl, inr, refl, sym, ap, subst, ◌∙◌, arith}
 use Rattle.std.specs.Prelude.{IsSomeAnd, slice_get}

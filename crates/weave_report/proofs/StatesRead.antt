@@ -1,4 +1,4 @@
--- States and answers that are read are written so, and those that are written are read again.
+-- Words that are read as a state are that state's words, and the words of a state are read as it.
 -- Used by AnswersRead, RepliesRead and ReportRead.
 use Rattle.std.proofs.Common.{◌≡◌, ℕ, Bool, true, false, ◌&&◌, ◌||◌, ◌==◌, not, cond, inl, inr, List, [], ◌∷◌, ◌++◌, map, refl, sym, ap, ◌∙◌, subst, append_assoc, append-nil}
 use Rattle.std.specs.Prelude.{Option, Some, None, Ok, codes}

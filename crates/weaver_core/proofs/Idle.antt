@@ -1,4 +1,4 @@
--- A request that does not wait for its reply is not visited.
+-- A step `visit` of a request that doesn't wait for its reply, or is a transaction, answers idle and changes nothing.
 -- Used by `visit_with`, BegunProgram and VisitWith.
 use Rattle.std.proofs.Common.{◌≡◌, ◌⊎◌, ℕ, Bool, true, false, not, [], Option, None, Some, inl, inr, refl, sym, ap, ◌∙◌, arith}
 use Rattle.std.specs.Prelude.{◌&&◌, ◌==◌}

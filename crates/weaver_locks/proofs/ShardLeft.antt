@@ -1,4 +1,4 @@
--- A hand that leaves the lock of a shard.
+-- After `leave_shard` a hand is one again: it has seen all that its new entries refer to, and made these alone.
 -- Used by `leave_shard`.
 use Rattle.std.proofs.Common.{◌≡◌, ◌≢◌, ℕ, ◌<◌, ◌≤◌, List, [], ◌∷◌, ◌++◌, length, map, get_or, set, inl, inr, refl, sym, ap, ◌∙◌, subst, arith}
 use Rattle.std.proofs.lemmas.List.{length-append, length-map}
